@@ -1,0 +1,10 @@
+pub mod Bytes
+pub mod Traces
+pub mod Formulas
+pub mod Verdicts
+pub mod Monitors
+pub mod Refusals
+pub mod RuleFiles
+pub mod TableFiles
+pub mod Runs
+pub mod Demands

@@ -1,0 +1,126 @@
+// The words of the product: the types of its answers. What they mean stands in specs/, which holds definitions only.
+ghost use mathlib.Core.Path.{_≡_};
+ghost use Rattle.meaning.specs.Refusals.{codeOf};
+
+// Document 01's verdicts.
+pub enum Verdict {
+    Undecided,
+    Satisfied,
+    Violated,
+    Moot,
+}
+
+// Document 01's refusals, in the order of their numbers, each with its place where that is not always 0.
+pub enum Refusal {
+    Truncated(usize),
+    WrongLength(usize),
+    WrongKind(usize),
+    WrongSignals,
+    WrongCount,
+    WrongOperand(usize),
+    OutOfRange(usize),
+    EighthTemporal(usize),
+    TrailingBytes(usize),
+    ShortOutput,
+    TooManyResiduals,
+    WrongEvent(usize),
+    WrongState,
+    WrongTable,
+}
+
+impl Refusal {
+    pub fn number(self) -> u8
+        ensures { λ r. ⌜ r ≡ codeOf self .0 ⌝ }
+    {
+        match self {
+            Refusal::Truncated(_) => 1,
+            Refusal::WrongLength(_) => 2,
+            Refusal::WrongKind(_) => 3,
+            Refusal::WrongSignals => 4,
+            Refusal::WrongCount => 5,
+            Refusal::WrongOperand(_) => 6,
+            Refusal::OutOfRange(_) => 7,
+            Refusal::EighthTemporal(_) => 8,
+            Refusal::TrailingBytes(_) => 9,
+            Refusal::ShortOutput => 10,
+            Refusal::TooManyResiduals => 11,
+            Refusal::WrongEvent(_) => 12,
+            Refusal::WrongState => 13,
+            Refusal::WrongTable => 14,
+        }
+    }
+
+    pub fn place(self) -> usize
+        ensures { λ r. ⌜ r ≡ codeOf self .1 ⌝ }
+    {
+        match self {
+            Refusal::Truncated(p) => p,
+            Refusal::WrongLength(p) => p,
+            Refusal::WrongKind(p) => p,
+            Refusal::WrongSignals => 0,
+            Refusal::WrongCount => 0,
+            Refusal::WrongOperand(p) => p,
+            Refusal::OutOfRange(p) => p,
+            Refusal::EighthTemporal(p) => p,
+            Refusal::TrailingBytes(p) => p,
+            Refusal::ShortOutput => 0,
+            Refusal::TooManyResiduals => 0,
+            Refusal::WrongEvent(p) => p,
+            Refusal::WrongState => 0,
+            Refusal::WrongTable => 0,
+        }
+    }
+}
+
+// A node of a rule file: its kind, and the bytes of its body, 0 where the body has none.
+pub struct Node {
+    pub kind: u8,
+    pub a: u8,
+    pub b: u8,
+}
+
+// What the first record of a rule file says.
+pub struct Header {
+    pub signals: u8,
+    pub nodes: u8,
+}
+
+// The reading of the first record.
+pub enum Opening {
+    Header(Header),
+    Refused(Refusal),
+}
+
+// The reading of one node's record.
+pub enum Reading {
+    Node(Node),
+    Refused(Refusal),
+}
+
+// What building a table returns: the table's length in bytes, or the refusal.
+pub enum Built {
+    Table(usize),
+    Refused(Refusal),
+}
+
+// What checking a table's bytes finds.
+pub enum Checked {
+    Table { signals: u8, states: u16 },
+    Refused(Refusal),
+}
+
+// After how many events a verdict other than undecided was first shown.
+pub enum Decided {
+    After(usize),
+    Never,
+}
+
+// What a run returns.
+pub enum Ran {
+    Ended {
+        state: u16,
+        verdict: Verdict,
+        decided: Decided,
+    },
+    Refused(Refusal),
+}

@@ -1,0 +1,5 @@
+pub mod Loops
+pub mod Pigeonhole
+pub mod Tests
+pub mod Joined
+pub mod Stores
