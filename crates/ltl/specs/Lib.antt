@@ -1,0 +1,7 @@
+pub mod Sets
+pub mod Nodes
+pub mod Valuation
+pub mod Closure
+pub mod Realizable
+pub mod Residuals
+pub mod Keys
