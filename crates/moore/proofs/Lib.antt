@@ -1,0 +1,12 @@
+pub mod Words
+pub mod Minimal
+pub mod Walks
+pub mod Canonical
+pub mod Tests
+pub mod Counting
+pub mod Grouping
+pub mod Quotient
+pub mod Ascending
+pub mod Ordered
+pub mod Order
+pub mod Reduction

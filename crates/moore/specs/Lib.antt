@@ -1,0 +1,4 @@
+pub mod Reduced
+pub mod Counting
+pub mod Grouping
+pub mod Quotient

@@ -1,0 +1,9 @@
+pub mod Accepted
+pub mod Judgements
+pub mod Agreement
+pub mod Classes
+pub mod Tables
+pub mod Reducing
+pub mod Smallest
+pub mod Canonical
+pub mod Demands

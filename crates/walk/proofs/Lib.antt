@@ -1,0 +1,10 @@
+pub mod Residual
+pub mod Snoc
+pub mod Steps
+pub mod Invariant
+pub mod Rows
+pub mod Meeting
+pub mod Order
+pub mod Closed
+pub mod Count
+pub mod Ends

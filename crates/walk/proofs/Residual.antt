@@ -1,0 +1,66 @@
+-- Laws of "leave the same remaining property": it is an equivalence, it is kept by further events, and it carries the verdicts over.
+use mathlib.Core.Path.{_≡_, refl}
+use mathlib.Core.Logic.{Iff·rfl, Iff·symm, Iff·trans}
+use mathlib.Core.List.{List, [], _∷_, _++_, append-assoc}
+use Prim.Native.Nat.{ℕ, zero, suc}
+use Rattle.meaning.specs.Traces.{Alphabet, Word, Lasso, prepend, Continuation}
+use Rattle.meaning.specs.Verdicts.{Property, NoneSatisfies, AllSatisfy, NeverDecided, Judged, SameResidual}
+use Rattle.meaning.specs.declared.Verdict.{Verdict}
+use Rattle.meaning.specs.declared.Verdict.the-variants.{Undecided, Satisfied, Violated, Moot}
+use Rattle.residuals.specs.System.{keyAfter}
+
+pub word-append : (Σ : Alphabet) (u v : List ℕ) → Word Σ u → Word Σ v → Word Σ (u ++ v)
+word-append Σ [] v a b = b
+word-append Σ (e ∷ u) v a b = (a .0, word-append Σ u v (a .1) b)
+
+pub key-append {ℓ} : {Key : Type ℓ} (step : Key → ℕ → Key) (k : Key) (u v : List ℕ) → keyAfter step k (u ++ v) ≡ keyAfter step (keyAfter step k u) v
+key-append step k [] v = refl
+key-append step k (e ∷ u) v = key-append step (step k e) u v
+
+-- a word put before a continuation is one
+prepended : (Σ : Alphabet) (z : List ℕ) (ρ : Lasso) → Word Σ z → Continuation Σ ρ → Continuation Σ (prepend z ρ)
+prepended Σ [] ρ a c i = c i
+prepended Σ (e ∷ z) ρ a c zero = a .0
+prepended Σ (e ∷ z) ρ a c (suc i) = prepended Σ z ρ (a .1) c i
+
+prepend-twice : (u z : List ℕ) (ρ : Lasso) → prepend (u ++ z) ρ ≡ prepend u (prepend z ρ)
+prepend-twice u z ρ = λ i. record { stem = append-assoc u z (ρ .stem) i; loop = ρ .loop; nonEmpty = ρ .nonEmpty }
+
+module _ (Σ : Alphabet) (L : Property) where
+  pub same-refl : (w : List ℕ) → SameResidual Σ L w w
+  unfolding SameResidual
+  same-refl w ρ c = Iff·rfl
+
+  pub same-sym : (u v : List ℕ) → SameResidual Σ L u v → SameResidual Σ L v u
+  unfolding SameResidual
+  same-sym u v h ρ c = Iff·symm (h ρ c)
+
+  pub same-trans : (u v w : List ℕ) → SameResidual Σ L u v → SameResidual Σ L v w → SameResidual Σ L u w
+  unfolding SameResidual
+  same-trans u v w h k ρ c = Iff·trans (h ρ c) (k ρ c)
+
+  pub same-append : (u v z : List ℕ) → Word Σ z → SameResidual Σ L u v → SameResidual Σ L (u ++ z) (v ++ z)
+  unfolding SameResidual
+  same-append u v z a h ρ c = rw (prepend-twice u z ρ, prepend-twice v z ρ) (h (prepend z ρ) (prepended Σ z ρ a c))
+
+  pub none-carries : (u v : List ℕ) → SameResidual Σ L u v → NoneSatisfies Σ L u → NoneSatisfies Σ L v
+  unfolding SameResidual NoneSatisfies
+  none-carries u v h n ρ c s = n ρ c (h ρ c .1 s)
+
+  pub all-carries : (u v : List ℕ) → SameResidual Σ L u v → AllSatisfy Σ L u → AllSatisfy Σ L v
+  unfolding SameResidual AllSatisfy
+  all-carries u v h a ρ c = h ρ c .0 (a ρ c)
+
+  pub never-carries : (u v : List ℕ) → SameResidual Σ L u v → NeverDecided Σ L u → NeverDecided Σ L v
+  unfolding NeverDecided
+  never-carries u v h n z a =
+      let k : SameResidual Σ L (v ++ z) (u ++ z) = same-append v u z a (same-sym u v h) in
+      (λ x. n z a .0 (none-carries (v ++ z) (u ++ z) k x), λ x. n z a .1 (all-carries (v ++ z) (u ++ z) k x))
+
+  pub judged-carries : (u v : List ℕ) → SameResidual Σ L u v → (x : Verdict) → Judged Σ L u x → Judged Σ L v x
+  judged-carries u v h Violated j = none-carries u v h j
+  judged-carries u v h Satisfied j = all-carries u v h j
+  judged-carries u v h Moot j = never-carries u v h j
+  judged-carries u v h Undecided j =
+      let k : SameResidual Σ L v u = same-sym u v h in
+      (λ x. j .0 (none-carries v u k x), λ x. j .1 (all-carries v u k x), λ x. j .2 (never-carries v u k x))
