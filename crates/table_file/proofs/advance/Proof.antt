@@ -1,0 +1,77 @@
+use native.Mathlib.Omega.{arith}
+use borrow.Author.Needs.{needs}
+use mathlib.Core.Path.{_≡_, refl, sym, _∙_, ap, ap₂}
+use borrow.Author.Tests.{lt-leb, le-leb, eq-eqb, ne-eqb, lt-ltb, le-ltb}
+use Rattle.sequences.proofs.Tests.{fails, last}
+use Prim.Native.Nat.{ℕ, _+_, _-_, _*_, _^_, _≤_, _<_}
+use mathlib.Core.List.{List}
+use mathlib.Core.Bool.{Bool, true, false, cond}
+use denote.Ref.{now}
+use Rattle.meaning.specs.Bytes.{u16At}
+use Rattle.sequences.proofs.Loops.{Passed, passed-none, passed-more, passed-all, all-not, Missed, missed-none, missed-more, missed-found, missed-end}
+use Rattle.table_file.proofs.Laws.{follow-step, follow-end, decided-step, decided-now, decided-end, end-any}
+use Rattle.meaning.specs.Monitors.{follow}
+use Rattle.meaning.specs.TableFiles.{rowAt, rowTests, headerTests, signalsIn, statesIn, verdictOf, verdictByte, successor, monitorIn, isTable}
+use Rattle.meaning.specs.Runs.{decides, decidedFrom, endOf, firstBad}
+use lib.Dec.{leb, ltb, eqb}
+use lib.ListN.{length, getD, drop}
+use Rattle.sequences.specs.Tabulate.{every, allBelow}
+use Rattle.table_file.proofs.advance.Statement.{statement}
+use Rattle.table_file.proofs.advance.Tie as tie
+use Rattle.table_file.proofs.advance.Reads as reads
+use Rattle.table_file.proofs.advance.Lts as lts
+use Rattle.table_file.proofs.decides_at.Reads as decides-at-reads
+use Rattle.table_file.proofs.successor_at.Reads as successor-at-reads
+
+abbrev Inv-loop : tie.InvT-loop
+Inv-loop t signals state events s₀ i₀ s i = (i ≤ length events) × (follow (monitorIn t signals 0) s (drop i events) ≡ follow (monitorIn t signals 0) state events) × (decidedFrom (monitorIn t signals 0) i s (drop i events) ≡ decidedFrom (monitorIn t signals 0) 0 state events)
+
+abbrev μ-loop : tie.MeasureT-loop
+μ-loop t signals state events s₀ i₀ s i = length events - i
+
+loop-holds : tie.Need-loop-holds Inv-loop μ-loop
+loop-holds c = (search needs, refl, refl)
+
+decides-at-requires : tie.Need-decides-at-requires Inv-loop μ-loop
+decides-at-requires c κs = search needs
+
+returns : tie.Need-returns Inv-loop μ-loop
+returns c = record { within = search needs; rest = c .before .before .before .loop .inv .1; count = sym (c .before .before .before .loop .inv .2) ∙ decided-now (monitorIn (now (c .before .before .before .before .before .before .args .t)) (c .before .before .before .before .before .before .args .signals) 0) (now (c .before .before .before .before .before .before .args .events)) (c .before .before .before .loop .s) (c .before .before .before .loop .i) (sym (c .before .decides-at .ensures) ∙ c .if1 .taken) }
+
+shared-slice-read-successor-at : tie.Need-shared-slice-read-successor-at Inv-loop μ-loop
+shared-slice-read-successor-at c = search needs
+
+successor-at-requires : tie.Need-successor-at-requires Inv-loop μ-loop
+successor-at-requires c κs = search needs
+
+add-i : tie.Need-add-i Inv-loop μ-loop
+add-i c = search needs
+
+loop-less : tie.Need-loop-less Inv-loop μ-loop
+loop-less c = search needs
+
+loop-again : tie.Need-loop-again Inv-loop μ-loop
+loop-again c = (search needs, follow-step (monitorIn (now (c .before .before .before .before .before .before .before .before .args .t)) (c .before .before .before .before .before .before .before .before .args .signals) 0) (now (c .before .before .before .before .before .before .before .before .args .events)) (c .before .before .before .before .before .loop .s) (c .before .before .before .before .before .loop .i) (c .successor-at .result) (omega arith) (c .successor-at .ensures) ∙ c .before .before .before .before .before .loop .inv .1, decided-step (monitorIn (now (c .before .before .before .before .before .before .before .before .args .t)) (c .before .before .before .before .before .before .before .before .args .signals) 0) (now (c .before .before .before .before .before .before .before .before .args .events)) (c .before .before .before .before .before .loop .s) (c .before .before .before .before .before .loop .i) (c .successor-at .result) (omega arith) (sym (c .before .before .before .decides-at .ensures) ∙ c .before .before .if1 .left) (c .successor-at .ensures) ∙ c .before .before .before .before .before .loop .inv .2)
+
+decides-at-requires-2 : tie.Need-decides-at-requires-2 Inv-loop μ-loop
+decides-at-requires-2 c κs = search needs
+
+returns-2 : tie.Need-returns-2 Inv-loop μ-loop
+returns-2 c = record { within = search needs; rest = c .before .before .loop .inv .1; count = sym (c .before .before .loop .inv .2) ∙ decided-end (monitorIn (now (c .before .before .before .before .before .args .t)) (c .before .before .before .before .before .args .signals) 0) (now (c .before .before .before .before .before .args .events)) (c .before .before .loop .s) (c .before .before .loop .i) (c .decides-at2 .result) (omega arith) (c .decides-at2 .ensures) }
+
+pub advance-spec : {M : Type 1} → statement M
+advance-spec =
+    tie.close
+    (tie.spec
+    Inv-loop
+    μ-loop
+    loop-holds
+    decides-at-requires
+    returns
+    shared-slice-read-successor-at
+    successor-at-requires
+    add-i
+    loop-less
+    loop-again
+    decides-at-requires-2
+    returns-2)

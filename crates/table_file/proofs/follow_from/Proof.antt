@@ -1,0 +1,64 @@
+use native.Mathlib.Omega.{arith}
+use borrow.Author.Needs.{needs}
+use mathlib.Core.Path.{_≡_, refl, sym, _∙_, ap, ap₂}
+use borrow.Author.Tests.{lt-leb, le-leb, eq-eqb, ne-eqb, lt-ltb, le-ltb}
+use Rattle.sequences.proofs.Tests.{fails, last}
+use Prim.Native.Nat.{ℕ, _+_, _-_, _*_, _^_, _≤_, _<_}
+use mathlib.Core.List.{List}
+use mathlib.Core.Bool.{Bool, true, false, cond}
+use denote.Ref.{now}
+use Rattle.meaning.specs.Bytes.{u16At}
+use Rattle.sequences.proofs.Loops.{Passed, passed-none, passed-more, passed-all, all-not, Missed, missed-none, missed-more, missed-found, missed-end}
+use Rattle.table_file.proofs.Laws.{follow-step, follow-end, decided-step, decided-now, decided-end, end-any}
+use Rattle.meaning.specs.Monitors.{follow}
+use Rattle.meaning.specs.TableFiles.{rowAt, rowTests, headerTests, signalsIn, statesIn, verdictOf, verdictByte, successor, monitorIn, isTable}
+use Rattle.meaning.specs.Runs.{decides, decidedFrom, endOf, firstBad}
+use lib.Dec.{leb, ltb, eqb}
+use lib.ListN.{length, getD, drop}
+use Rattle.sequences.specs.Tabulate.{every, allBelow}
+use Rattle.table_file.proofs.follow_from.Statement.{statement}
+use Rattle.table_file.proofs.follow_from.Tie as tie
+use Rattle.table_file.proofs.follow_from.Reads as reads
+use Rattle.table_file.proofs.follow_from.Lts as lts
+use Rattle.table_file.proofs.successor_at.Reads as successor-at-reads
+
+abbrev Inv-loop : tie.InvT-loop
+Inv-loop t signals state events from s₀ i₀ s i = (i ≤ length events) × (follow (monitorIn t signals 0) s (drop i events) ≡ follow (monitorIn t signals 0) state (drop «from» events))
+
+abbrev μ-loop : tie.MeasureT-loop
+μ-loop t signals state events from s₀ i₀ s i = length events - i
+
+loop-holds : tie.Need-loop-holds Inv-loop μ-loop
+loop-holds c = (search needs, refl)
+
+shared-slice-read-successor-at : tie.Need-shared-slice-read-successor-at Inv-loop μ-loop
+shared-slice-read-successor-at c = search needs
+
+successor-at-requires : tie.Need-successor-at-requires Inv-loop μ-loop
+successor-at-requires c κs = search needs
+
+add-i : tie.Need-add-i Inv-loop μ-loop
+add-i c = search needs
+
+loop-less : tie.Need-loop-less Inv-loop μ-loop
+loop-less c = search needs
+
+loop-again : tie.Need-loop-again Inv-loop μ-loop
+loop-again c = (search needs, follow-step (monitorIn (now (c .before .before .before .before .before .before .args .t)) (c .before .before .before .before .before .before .args .signals) 0) (now (c .before .before .before .before .before .before .args .events)) (c .before .before .before .loop .s) (c .before .before .before .loop .i) (c .successor-at .result) (omega arith) (c .successor-at .ensures) ∙ c .before .before .before .loop .inv .1)
+
+returns : tie.Need-returns Inv-loop μ-loop
+returns c = follow-end (monitorIn (now (c .before .before .before .before .args .t)) (c .before .before .before .before .args .signals) 0) (now (c .before .before .before .before .args .events)) (c .before .loop .s) (c .before .loop .i) (omega arith) ∙ c .before .loop .inv .1
+
+pub follow-from-spec : {M : Type 1} → statement M
+follow-from-spec =
+    tie.close
+    (tie.spec
+    Inv-loop
+    μ-loop
+    loop-holds
+    shared-slice-read-successor-at
+    successor-at-requires
+    add-i
+    loop-less
+    loop-again
+    returns)

@@ -1,0 +1,44 @@
+use native.Mathlib.Omega.{arith}
+use mathlib.Core.Path.{_≡_, sym, _∙_, ap, ap₂}
+use Prim.Native.Nat.{ℕ, _+_, _*_, _≤_}
+use native.Mathlib.Nat.{mul-le-mul}
+use borrow.Author.Needs.{needs}
+use Rattle.table_file.proofs.row_at.Statement.{statement}
+use Rattle.table_file.proofs.row_at.Tie as tie
+use Rattle.table_file.proofs.row_at.Reads as reads
+use Rattle.table_file.proofs.row_at.Lts as lts
+use Rattle.table_file.proofs.width.Reads as width-reads
+use Rattle.wire.proofs.wide16.Reads as wide16-reads
+
+wide16-requires : tie.Need-wide16-requires
+wide16-requires c κs = search needs
+
+width-requires : tie.Need-width-requires
+width-requires c κs = search needs
+
+mul-result : tie.Need-mul-result
+mul-result c = omega (arith, c .width .ensures)
+
+add-result : tie.Need-add-result
+add-result c = omega (arith, c .width .ensures)
+
+mul-result-2 : tie.Need-mul-result-2
+mul-result-2 c = omega (arith, mul-le-mul {n₁ = c .before .wide16 .result} {m₁ = 5 + 2 * c .width .result} {n₂ = 65535} {m₂ = 37} (omega (arith, c .before .wide16 .ensures)) (omega (arith, c .width .ensures)))
+
+add-result-2 : tie.Need-add-result-2
+add-result-2 c = omega (arith, mul-le-mul {n₁ = c .before .wide16 .result} {m₁ = 5 + 2 * c .width .result} {n₂ = 65535} {m₂ = 37} (omega (arith, c .before .wide16 .ensures)) (omega (arith, c .width .ensures)))
+
+returns : tie.Need-returns
+returns c = (ap₂ (λ (s w : ℕ). 7 + s * (5 + 2 * w)) (c .before .wide16 .ensures .0) (c .width .ensures .0), omega (arith, mul-le-mul {n₁ = c .before .wide16 .result} {m₁ = 5 + 2 * c .width .result} {n₂ = 65535} {m₂ = 37} (omega (arith, c .before .wide16 .ensures)) (omega (arith, c .width .ensures))))
+
+pub row-at-spec : {M : Type 1} → statement M
+row-at-spec =
+    tie.close
+    (tie.spec
+    wide16-requires
+    width-requires
+    mul-result
+    add-result
+    mul-result-2
+    add-result-2
+    returns)

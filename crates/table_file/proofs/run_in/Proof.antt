@@ -1,0 +1,49 @@
+use native.Mathlib.Omega.{arith}
+use mathlib.Core.Path.{_≡_, refl, sym, _∙_, ap, ap₂}
+use borrow.Author.Tests.{lt-leb, le-leb, eq-eqb, ne-eqb, lt-ltb, le-ltb}
+use Rattle.sequences.proofs.Tests.{fails, last}
+use Prim.Native.Nat.{ℕ, _+_, _-_, _*_, _^_, _≤_, _<_}
+use mathlib.Core.List.{List}
+use mathlib.Core.Bool.{Bool, true, false, cond}
+use denote.Ref.{now}
+use Rattle.meaning.specs.Bytes.{u16At}
+use Rattle.sequences.proofs.Loops.{Passed, passed-none, passed-more, passed-all, all-not, Missed, missed-none, missed-more, missed-found, missed-end}
+use Rattle.meaning.specs.Monitors.{follow}
+use Rattle.meaning.specs.TableFiles.{rowAt, rowTests, headerTests, signalsIn, statesIn, verdictOf, verdictByte, successor, monitorIn, isTable}
+use Rattle.meaning.specs.Runs.{decides, decidedFrom, endOf, firstBad}
+use lib.Dec.{leb, ltb, eqb}
+use lib.ListN.{length, getD, drop}
+use Rattle.sequences.specs.Tabulate.{every, allBelow}
+use Rattle.table_file.proofs.Laws.{follow-step, follow-end, decided-step, decided-now, decided-end, end-any, end-is}
+use Rattle.table_file.proofs.Form.{verdict-else, signals-few, checked-table, checked-rows, checked-header, run-refused, run-table}
+use Rattle.meaning.specs.declared.Decided.{Decided}
+use Rattle.meaning.specs.declared.Decided.the-variants.{After, Never}
+use borrow.Author.Needs.{needs}
+use Rattle.table_file.proofs.run_in.Statement.{statement}
+use Rattle.table_file.proofs.run_in.Tie as tie
+use Rattle.table_file.proofs.run_in.Reads as reads
+use Rattle.table_file.proofs.run_in.Lts as lts
+use Rattle.table_file.proofs.ended.Reads as ended-reads
+use Rattle.table_file.proofs.first_bad.Reads as first-bad-reads
+
+returns : tie.Need-returns
+returns c = let l = now (c .before .before .before .args .t) in let P = c .before .before .before .args .signals in let S = c .before .before .before .args .states in let s = c .before .before .before .args .state in let es = now (c .before .before .before .args .events) in rw (lt-leb P 4 (c .if1 .taken))
+
+returns-2 : tie.Need-returns-2
+returns-2 c = let l = now (c .before .before .before .before .args .t) in let P = c .before .before .before .before .args .signals in let S = c .before .before .before .before .args .states in let s = c .before .before .before .before .args .state in let es = now (c .before .before .before .before .args .events) in rw (le-leb P 4 (c .before .if1 .left), le-ltb s S (c .if2 .taken))
+
+first-bad-requires : tie.Need-first-bad-requires
+first-bad-requires c κs = search needs
+
+returns-3 : tie.Need-returns-3
+returns-3 c = let l = now (c .before .before .before .before .before .before .args .t) in let P = c .before .before .before .before .before .before .args .signals in let S = c .before .before .before .before .before .before .args .states in let s = c .before .before .before .before .before .before .args .state in let es = now (c .before .before .before .before .before .before .args .events) in let e : c .before .first-bad .result ≡ firstBad P es = c .before .first-bad .ensures .0 in rw (le-leb P 4 (c .before .before .before .if1 .left), lt-ltb s S (c .before .before .if2 .left), e, lt-ltb (firstBad P es) (length es) (omega (arith, c .if3 .taken)))
+
+ended-requires : tie.Need-ended-requires
+ended-requires c κs = search needs
+
+returns-4 : tie.Need-returns-4
+returns-4 c = let l = now (c .before .before .before .before .before .before .before .args .t) in let P = c .before .before .before .before .before .before .before .args .signals in let S = c .before .before .before .before .before .before .before .args .states in let s = c .before .before .before .before .before .before .before .args .state in let es = now (c .before .before .before .before .before .before .before .args .events) in rw (le-leb P 4 (c .before .before .before .before .if1 .left), lt-ltb s S (c .before .before .before .if2 .left), le-ltb (firstBad P es) (length es) (omega (arith, c .before .if3 .left, c .before .before .first-bad .ensures .0))) (c .ended .ensures ∙ end-any l P 0 S s es)
+
+pub run-in-spec : {M : Type 1} → statement M
+run-in-spec =
+    tie.close (tie.spec returns returns-2 first-bad-requires returns-3 ended-requires returns-4)

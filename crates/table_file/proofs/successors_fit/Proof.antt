@@ -1,0 +1,68 @@
+use native.Mathlib.Omega.{arith}
+use borrow.Author.Needs.{needs}
+use mathlib.Core.Path.{_≡_, sym, _∙_, ap, ap₂}
+use borrow.Author.Tests.{lt-leb, le-leb, eq-eqb, ne-eqb, lt-ltb, le-ltb}
+use mathlib.Core.List.{List}
+use mathlib.Core.Bool.{Bool}
+use Prim.Native.Nat.{ℕ, _+_, _-_, _*_, _≤_, _<_}
+use lib.Dec.{ltb}
+use denote.Ref.{now}
+use Rattle.meaning.specs.Bytes.{u16At}
+use Rattle.sequences.proofs.Loops.{Passed, passed-none, passed-more, passed-all, all-not}
+use Rattle.table_file.proofs.successors_fit.Statement.{statement}
+use Rattle.table_file.proofs.successors_fit.Tie as tie
+use Rattle.table_file.proofs.successors_fit.Reads as reads
+use Rattle.table_file.proofs.successors_fit.Lts as lts
+use Rattle.wire.proofs.u16_at.Reads as u16-at-reads
+
+abbrev test : List ℕ → ℕ → ℕ → ℕ → Bool
+test t at states e = ltb (u16At t (at + 2 * e)) states
+
+abbrev Inv-loop : tie.InvT-loop
+Inv-loop t at events states e₀ e = (e ≤ events) × Passed e (test t at states)
+
+abbrev μ-loop : tie.MeasureT-loop
+μ-loop t at events states e₀ e = events - e
+
+loop-holds : tie.Need-loop-holds Inv-loop μ-loop
+loop-holds c = (omega arith, passed-none)
+
+mul-u16-at : tie.Need-mul-u16-at Inv-loop μ-loop
+mul-u16-at c = search needs
+
+add-u16-at : tie.Need-add-u16-at Inv-loop μ-loop
+add-u16-at c = search needs
+
+u16-at-requires : tie.Need-u16-at-requires Inv-loop μ-loop
+u16-at-requires c κs = search needs
+
+returns : tie.Need-returns Inv-loop μ-loop
+returns c = sym (all-not (c .before .before .before .before .before .args .events) (test (now (c .before .before .before .before .before .args .t)) (c .before .before .before .before .before .args .at) (c .before .before .before .before .before .args .states)) (c .before .before .before .loop .e) (c .before .before .loop-test .taken) (le-ltb (u16At (now (c .before .before .before .before .before .args .t)) (c .before .before .before .before .before .args .at + 2 * c .before .before .before .loop .e)) (c .before .before .before .before .before .args .states) (omega (arith, c .if1 .taken, c .before .u16-at .ensures))))
+
+add-e : tie.Need-add-e Inv-loop μ-loop
+add-e c = search needs
+
+loop-less : tie.Need-loop-less Inv-loop μ-loop
+loop-less c = search needs
+
+loop-again : tie.Need-loop-again Inv-loop μ-loop
+loop-again c = (omega arith, passed-more (c .before .before .before .loop .inv .1) (lt-ltb (u16At (now (c .before .before .before .before .before .args .t)) (c .before .before .before .before .before .args .at + 2 * c .before .before .before .loop .e)) (c .before .before .before .before .before .args .states) (omega (arith, c .if1 .left, c .before .u16-at .ensures))))
+
+returns-2 : tie.Need-returns-2 Inv-loop μ-loop
+returns-2 c = sym (passed-all (c .before .loop .inv .1) (c .before .before .before .args .events) (omega arith))
+
+pub successors-fit-spec : {M : Type 1} → statement M
+successors-fit-spec =
+    tie.close
+    (tie.spec
+    Inv-loop
+    μ-loop
+    loop-holds
+    mul-u16-at
+    add-u16-at
+    u16-at-requires
+    returns
+    add-e
+    loop-less
+    loop-again
+    returns-2)

@@ -1,0 +1,78 @@
+use native.Mathlib.Omega.{arith}
+use mathlib.Core.Path.{_≡_, refl, sym, _∙_, ap, ap₂}
+use borrow.Author.Tests.{lt-leb, le-leb}
+use Prim.Native.Nat.{ℕ, _+_, _-_, _*_, _^_, _≤_, _<_}
+use mathlib.Core.List.{List, []}
+use denote.Ref.{now}
+use lib.ListN.{length, getD, length-set}
+use Rattle.sequences.proofs.Stores.{Stored, stored-none, stored-length}
+use Rattle.table_writer.proofs.Laws.{successors-more, row-stored, rows-more, table-stored, row-within}
+use Rattle.table_bytes.specs.Written.{headerBytes, successorBytes, rowBytes, rowsBytes, tableBytes}
+use Rattle.meaning.specs.TableFiles.{rowLength, rowAt, tableLength}
+use Rattle.wire.specs.Wire.{u16Bytes}
+use lib.Seq.{sets, length-sets}
+use borrow.Author.Needs.{needs}
+use Rattle.table_writer.proofs.put_row.Statement.{statement}
+use Rattle.table_writer.proofs.put_row.Tie as tie
+use Rattle.table_writer.proofs.put_row.Reads as reads
+use Rattle.table_writer.proofs.put_row.Lts as lts
+use Rattle.table_file.proofs.width.Reads as width-reads
+use Rattle.table_writer.proofs.put_successors.Reads as put-successors-reads
+use Rattle.wire.proofs.put_u16.Reads as put-u16-reads
+
+width-requires : tie.Need-width-requires
+width-requires c κs = search needs
+
+mul-put-u16 : tie.Need-mul-put-u16
+mul-put-u16 c = search needs
+
+add-put-u16 : tie.Need-add-put-u16
+add-put-u16 c = search needs
+
+cast-put-u16 : tie.Need-cast-put-u16
+cast-put-u16 c = search needs
+
+put-u16-requires : tie.Need-put-u16-requires
+put-u16-requires c κs = search needs
+
+add-put-u16-2 : tie.Need-add-put-u16-2
+add-put-u16-2 c = search needs
+
+put-u16-requires-2 : tie.Need-put-u16-requires-2
+put-u16-requires-2 c κs = search needs
+
+add-out : tie.Need-add-out
+add-out c = search needs
+
+slice-write-out : tie.Need-slice-write-out
+slice-write-out c = search needs
+
+add-put-successors : tie.Need-add-put-successors
+add-put-successors c = search needs
+
+put-successors-requires : tie.Need-put-successors-requires
+put-successors-requires c κs = (c .before .before .before .before .before .before .before .before .before .width .ensures .1, simp length-set (omega (arith, c .before .before .before .put-u162 .kept .0, c .before .before .before .before .before .before .before .put-u16 .kept .0, c .before .before .before .before .before .before .before .before .before .width .ensures .0)))
+
+same-length : tie.Need-same-length
+same-length c = c .before .before .put-successors .kept .0 ∙ simp length-set (c .before .before .before .before .before .before .put-u162 .kept .0 ∙ c .before .before .before .before .before .before .before .before .before .before .put-u16 .kept .0)
+
+returns : tie.Need-returns
+returns c = row-stored (now (c .before .before .before .before .before .before .before .before .before .before .before .before .before .before .args .out)) (c .before .before .before .before .before .before .before .before .before .before .put-u16 .last .0) (c .before .before .before .before .before .before .put-u162 .last .0) _ (c .before .before .before .before .before .before .before .before .before .before .before .before .before .before .args .row) (c .before .before .before .before .before .before .before .before .before .before .before .before .before .before .args .at) (c .before .before .before .before .before .before .before .before .before .before .before .before .before .before .args .signals) (c .before .before .before .before .before .before .before .before .before .before .before .before .before .before .args .verdict) (c .before .before .before .before .before .before .before .before .before .before .before .before .width .result) _ (c .before .before .before .before .before .before .before .before .before .before .before .before .width .ensures .0) refl (c .before .before .before .before .before .before .before .before .before .before .put-u16 .ensures) (c .before .before .before .before .before .before .put-u162 .ensures) (c .before .before .put-successors .ensures)
+
+pub put-row-spec : {M : Type 1} → statement M
+put-row-spec =
+    tie.close
+    (tie.spec
+    width-requires
+    mul-put-u16
+    add-put-u16
+    cast-put-u16
+    put-u16-requires
+    add-put-u16-2
+    put-u16-requires-2
+    add-out
+    slice-write-out
+    add-put-successors
+    put-successors-requires
+    same-length
+    returns)

@@ -1,0 +1,82 @@
+use native.Mathlib.Omega.{arith}
+use borrow.Author.Needs.{needs}
+use mathlib.Core.Path.{_≡_, refl, sym, _∙_, ap, ap₂}
+use borrow.Author.Tests.{lt-leb, le-leb}
+use Prim.Native.Nat.{ℕ, _+_, _-_, _*_, _^_, _≤_, _<_}
+use mathlib.Core.List.{List, []}
+use denote.Ref.{now}
+use lib.ListN.{length, getD, length-set}
+use Rattle.sequences.proofs.Stores.{Stored, stored-none, stored-length}
+use Rattle.table_writer.proofs.Laws.{successors-more, row-stored, rows-more, table-stored, row-within}
+use Rattle.table_bytes.specs.Written.{headerBytes, successorBytes, rowBytes, rowsBytes, tableBytes}
+use Rattle.meaning.specs.TableFiles.{rowLength, rowAt, tableLength}
+use Rattle.wire.specs.Wire.{u16Bytes}
+use lib.Seq.{sets, length-sets}
+use Rattle.table_writer.proofs.put_rows.Statement.{statement}
+use Rattle.table_writer.proofs.put_rows.Tie as tie
+use Rattle.table_writer.proofs.put_rows.Reads as reads
+use Rattle.table_writer.proofs.put_rows.Lts as lts
+use Rattle.table_file.proofs.row_at.Reads as row-at-reads
+use Rattle.table_writer.proofs.put_row.Reads as put-row-reads
+use Rattle.wire.proofs.wide16.Reads as wide16-reads
+
+abbrev Inv-loop : tie.InvT-loop
+Inv-loop out₀ signals states verdicts rows s₀ out s = (s ≤ states) × (length out ≡ length out₀) × Stored out₀ 7 (rowsBytes signals s verdicts rows) out
+
+abbrev μ-loop : tie.MeasureT-loop
+μ-loop out₀ signals states verdicts rows s₀ out s = states - s
+
+loop-holds : tie.Need-loop-holds Inv-loop μ-loop
+loop-holds c = (omega arith, refl, stored-none)
+
+wide16-requires : tie.Need-wide16-requires Inv-loop μ-loop
+wide16-requires c κs = search needs
+
+mul-row : tie.Need-mul-row Inv-loop μ-loop
+mul-row c = search needs
+
+element-copy-out-row : tie.Need-element-copy-out-row Inv-loop μ-loop
+element-copy-out-row c = omega (arith, c .wide16 .ensures)
+
+row-at-requires : tie.Need-row-at-requires Inv-loop μ-loop
+row-at-requires c κs = search needs
+
+element-copy-out-put-row : tie.Need-element-copy-out-put-row Inv-loop μ-loop
+element-copy-out-put-row c = omega (arith, c .before .before .before .wide16 .ensures)
+
+put-row-requires : tie.Need-put-row-requires Inv-loop μ-loop
+put-row-requires c κs = (omega arith, omega (arith, c .before .row-at .ensures .0, row-within (c .before .before .before .before .before .before .before .before .args .signals) (c .before .before .before .before .before .before .before .before .args .states) (c .before .before .before .before .before .before .loop .s) (c .before .before .before .before .before .loop-test .taken), c .before .before .before .before .before .before .loop .inv .1))
+
+add-s : tie.Need-add-s Inv-loop μ-loop
+add-s c = search needs
+
+loop-less : tie.Need-loop-less Inv-loop μ-loop
+loop-less c = search needs
+
+loop-again : tie.Need-loop-again Inv-loop μ-loop
+loop-again c = let w : c .before .before .before .before .before .before .before .wide16 .result ≡ c .before .before .before .before .before .before .before .before .before .loop .s = c .before .before .before .before .before .before .before .wide16 .ensures .0 in let h = rows-more (c .before .before .before .before .before .before .before .before .before .before .before .args .signals) (now (c .before .before .before .before .before .before .before .before .before .before .before .args .verdicts)) (now (c .before .before .before .before .before .before .before .before .before .before .before .args .rows)) (c .before .before .before .before .before .before .before .before .before .loop .s) _ (c .before .before .before .before .row-at .result) (c .before .before .before .before .before .before .before .before .before .loop .inv .2) (c .before .before .before .before .row-at .ensures .0) (c .before .before .put-row .ensures ∙ ap (λ (n : ℕ). sets (c .before .before .before .before .before .before .before .before .before .loop .out) (c .before .before .before .before .row-at .result) (rowBytes (c .before .before .before .before .before .before .before .before .before .before .before .args .signals) (getD (now (c .before .before .before .before .before .before .before .before .before .before .before .args .verdicts)) n 0) (getD (now (c .before .before .before .before .before .before .before .before .before .before .before .args .rows)) n []))) w) in (omega arith, stored-length h ∙ refl, h)
+
+same-length : tie.Need-same-length Inv-loop μ-loop
+same-length c = c .before .loop .inv .1
+
+returns : tie.Need-returns Inv-loop μ-loop
+returns c = let z : c .before .loop .s ≡ c .before .before .before .args .states = omega arith in c .before .loop .inv .2 .is ∙ ap (λ (n : ℕ). sets (now (c .before .before .before .args .out)) 7 (rowsBytes (c .before .before .before .args .signals) n (now (c .before .before .before .args .verdicts)) (now (c .before .before .before .args .rows)))) z
+
+pub put-rows-spec : {M : Type 1} → statement M
+put-rows-spec =
+    tie.close
+    (tie.spec
+    Inv-loop
+    μ-loop
+    loop-holds
+    wide16-requires
+    mul-row
+    element-copy-out-row
+    row-at-requires
+    element-copy-out-put-row
+    put-row-requires
+    add-s
+    loop-less
+    loop-again
+    same-length
+    returns)

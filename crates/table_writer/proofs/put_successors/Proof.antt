@@ -1,0 +1,76 @@
+use native.Mathlib.Omega.{arith}
+use borrow.Author.Needs.{needs}
+use mathlib.Core.Path.{_≡_, refl, sym, _∙_, ap, ap₂}
+use borrow.Author.Tests.{lt-leb, le-leb}
+use Prim.Native.Nat.{ℕ, _+_, _-_, _*_, _^_, _≤_, _<_}
+use mathlib.Core.List.{List, []}
+use denote.Ref.{now}
+use lib.ListN.{length, getD, length-set}
+use Rattle.sequences.proofs.Stores.{Stored, stored-none, stored-length}
+use Rattle.table_writer.proofs.Laws.{successors-more, row-stored, rows-more, table-stored, row-within}
+use Rattle.table_bytes.specs.Written.{headerBytes, successorBytes, rowBytes, rowsBytes, tableBytes}
+use Rattle.meaning.specs.TableFiles.{rowLength, rowAt, tableLength}
+use Rattle.wire.specs.Wire.{u16Bytes}
+use lib.Seq.{sets, length-sets}
+use Rattle.table_writer.proofs.put_successors.Statement.{statement}
+use Rattle.table_writer.proofs.put_successors.Tie as tie
+use Rattle.table_writer.proofs.put_successors.Reads as reads
+use Rattle.table_writer.proofs.put_successors.Lts as lts
+use Rattle.wire.proofs.put_u16.Reads as put-u16-reads
+
+abbrev Inv-loop : tie.InvT-loop
+Inv-loop out₀ at events row e₀ out e = (e ≤ events) × (length out ≡ length out₀) × Stored out₀ at (successorBytes e row) out
+
+abbrev μ-loop : tie.MeasureT-loop
+μ-loop out₀ at events row e₀ out e = events - e
+
+loop-holds : tie.Need-loop-holds Inv-loop μ-loop
+loop-holds c = (omega arith, refl, stored-none)
+
+mul-put-u16 : tie.Need-mul-put-u16 Inv-loop μ-loop
+mul-put-u16 c = search needs
+
+add-put-u16 : tie.Need-add-put-u16 Inv-loop μ-loop
+add-put-u16 c = search needs
+
+mul-put-u16-2 : tie.Need-mul-put-u16-2 Inv-loop μ-loop
+mul-put-u16-2 c = search needs
+
+array-read-put-u16 : tie.Need-array-read-put-u16 Inv-loop μ-loop
+array-read-put-u16 c = search needs
+
+put-u16-requires : tie.Need-put-u16-requires Inv-loop μ-loop
+put-u16-requires c κs = omega (arith, c .before .before .loop .inv .1)
+
+add-e : tie.Need-add-e Inv-loop μ-loop
+add-e c = search needs
+
+loop-less : tie.Need-loop-less Inv-loop μ-loop
+loop-less c = search needs
+
+loop-again : tie.Need-loop-again Inv-loop μ-loop
+loop-again c = let h = successors-more (c .before .before .before .before .before .before .before .args .t4) (c .before .before .before .before .before .loop .e) _ (c .before .before .before .before .before .loop .inv .2) (c .before .before .put-u16 .ensures) in (omega arith, stored-length h, h)
+
+same-length : tie.Need-same-length Inv-loop μ-loop
+same-length c = c .before .loop .inv .1
+
+returns : tie.Need-returns Inv-loop μ-loop
+returns c = let z : c .before .loop .e ≡ c .before .before .before .args .events = omega arith in c .before .loop .inv .2 .is ∙ ap (λ (n : ℕ). sets (now (c .before .before .before .args .out)) (c .before .before .before .args .at) (successorBytes n (c .before .before .before .args .t4))) z
+
+pub put-successors-spec : {M : Type 1} → statement M
+put-successors-spec =
+    tie.close
+    (tie.spec
+    Inv-loop
+    μ-loop
+    loop-holds
+    mul-put-u16
+    add-put-u16
+    mul-put-u16-2
+    array-read-put-u16
+    put-u16-requires
+    add-e
+    loop-less
+    loop-again
+    same-length
+    returns)

@@ -1,0 +1,44 @@
+use native.Mathlib.Omega.{arith}
+use mathlib.Core.Path.{_≡_, refl, sym, _∙_, ap, ap₂}
+use borrow.Author.Tests.{lt-leb, le-leb}
+use Prim.Native.Nat.{ℕ, _+_, _-_, _*_, _^_, _≤_, _<_}
+use mathlib.Core.List.{List, []}
+use denote.Ref.{now}
+use lib.ListN.{length, getD, length-set}
+use Rattle.sequences.proofs.Stores.{Stored, stored-none, stored-length}
+use Rattle.table_writer.proofs.Laws.{successors-more, row-stored, rows-more, table-stored, row-within}
+use Rattle.table_bytes.specs.Written.{headerBytes, successorBytes, rowBytes, rowsBytes, tableBytes}
+use Rattle.meaning.specs.TableFiles.{rowLength, rowAt, tableLength}
+use Rattle.wire.specs.Wire.{u16Bytes}
+use lib.Seq.{sets, length-sets}
+use borrow.Author.Needs.{needs}
+use Rattle.table_writer.proofs.write.Statement.{statement}
+use Rattle.table_writer.proofs.write.Tie as tie
+use Rattle.table_writer.proofs.write.Reads as reads
+use Rattle.table_writer.proofs.write.Lts as lts
+use Rattle.table_file.proofs.row_at.Reads as row-at-reads
+use Rattle.table_writer.proofs.put_header.Reads as put-header-reads
+use Rattle.table_writer.proofs.put_rows.Reads as put-rows-reads
+
+row-at-requires : tie.Need-row-at-requires
+row-at-requires c κs = search needs
+
+returns : tie.Need-returns
+returns c = let h = lt-leb (tableLength (c .before .before .before .args .signals) (c .before .before .before .args .states)) (length (now (c .before .before .before .args .out))) (omega (arith, c .if1 .taken, c .before .row-at .ensures .0)) in (rw h, rw h)
+
+put-header-requires : tie.Need-put-header-requires
+put-header-requires c κs = omega (arith, c .before .if1 .left, c .before .before .row-at .ensures .0)
+
+put-rows-requires : tie.Need-put-rows-requires
+put-rows-requires c κs = ((search needs, search needs, omega (arith, c .before .before .before .before .before .if1 .left, c .before .before .before .before .before .before .row-at .ensures .0, c .before .before .before .put-header .kept .0)), search needs)
+
+same-length : tie.Need-same-length
+same-length c = c .before .before .put-rows .kept .0 ∙ c .before .before .before .before .before .before .put-header .kept .0
+
+returns-2 : tie.Need-returns-2
+returns-2 c = let l : tableLength (c .before .before .before .before .before .before .before .before .before .before .before .args .signals) (c .before .before .before .before .before .before .before .before .before .before .before .args .states) ≤ length (now (c .before .before .before .before .before .before .before .before .before .before .before .args .out)) = omega (arith, c .before .before .before .before .before .before .before .before .if1 .left, c .before .before .before .before .before .before .before .before .before .row-at .ensures .0) in let h = le-leb (tableLength (c .before .before .before .before .before .before .before .before .before .before .before .args .signals) (c .before .before .before .before .before .before .before .before .before .before .before .args .states)) (length (now (c .before .before .before .before .before .before .before .before .before .before .before .args .out))) l in (rw (h, c .before .before .before .before .before .before .before .before .before .row-at .ensures .0), rw h (table-stored (c .before .before .before .before .before .before .before .before .before .before .before .args .signals) (now (c .before .before .before .before .before .before .before .before .before .before .before .args .verdicts)) (now (c .before .before .before .before .before .before .before .before .before .before .before .args .rows)) (c .before .before .before .before .before .before .before .before .before .before .before .args .states) (now (c .before .before .before .before .before .before .before .before .before .before .before .args .out)) _ _ (c .before .before .before .before .before .before .put-header .ensures) (c .before .before .put-rows .ensures) l))
+
+pub write-spec : {M : Type 1} → statement M
+write-spec =
+    tie.close
+    (tie.spec row-at-requires returns put-header-requires put-rows-requires same-length returns-2)
