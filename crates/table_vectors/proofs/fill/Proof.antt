@@ -1,0 +1,41 @@
+use native.Mathlib.Omega.{arith}
+use Prim.Native.Nat.{_≤_, _<_, _-_}
+use lib.ListN.{length, length-set}
+use mathlib.Core.Path.{_≡_, refl, sym, _∙_}
+use lib.Seq.{length-take-le}
+use denote.Ref.{now}
+use borrow.Author.Needs.{needs}
+use Rattle.table_vectors.proofs.fill.Statement.{statement}
+use Rattle.table_vectors.proofs.fill.Tie as tie
+use Rattle.table_vectors.proofs.fill.Reads as reads
+use Rattle.table_vectors.proofs.fill.Lts as lts
+use Rattle.io.proofs.read_full.Reads as read-full-reads
+
+returns : tie.Need-returns
+returns c = search needs
+
+slice-relend-prefix-read-full : tie.Need-slice-relend-prefix-read-full
+slice-relend-prefix-read-full c = search needs
+
+slice-aggregate-read-full : tie.Need-slice-aggregate-read-full
+slice-aggregate-read-full c = sym (length-take-le (c .before .before .before .args .n) (now (c .before .before .before .args .buffer)) (c .before .if1 .left))
+
+read-full-requires : tie.Need-read-full-requires
+read-full-requires c κs = search needs
+
+same-length : tie.Need-same-length
+same-length c = search needs
+
+returns-2 : tie.Need-returns-2
+returns-2 c = search needs
+
+pub fill-spec : {M : Type 1} → statement M
+fill-spec =
+    tie.close
+    (tie.spec
+    returns
+    slice-relend-prefix-read-full
+    slice-aggregate-read-full
+    read-full-requires
+    same-length
+    returns-2)

@@ -1,0 +1,23 @@
+use native.Mathlib.Omega.{arith}
+use Prim.Native.Nat.{_≤_, _<_, _-_}
+use lib.ListN.{length, length-set}
+use mathlib.Core.Path.{_≡_, refl, sym, _∙_}
+use lib.Seq.{length-take-le}
+use denote.Ref.{now}
+use borrow.Author.Needs.{needs}
+use Rattle.table_vectors.proofs.front.Statement.{statement}
+use Rattle.table_vectors.proofs.front.Tie as tie
+use Rattle.table_vectors.proofs.front.Reads as reads
+use Rattle.table_vectors.proofs.front.Lts as lts
+
+slice-aggregate-result : tie.Need-slice-aggregate-result
+slice-aggregate-result c = sym (length-take-le (c .before .before .args .n) (now (c .before .before .args .buffer)) (c .before .if1 .taken))
+
+returns : tie.Need-returns
+returns c = search needs
+
+returns-2 : tie.Need-returns-2
+returns-2 c = search needs
+
+pub front-spec : {M : Type 1} → statement M
+front-spec = tie.close (tie.spec slice-aggregate-result returns returns-2)

@@ -1,0 +1,117 @@
+use native.Mathlib.Omega.{arith}
+use borrow.Author.Needs.{needs}
+use Prim.Native.Nat.{_≤_, _<_, _-_}
+use lib.ListN.{length, length-set}
+use mathlib.Core.Path.{_≡_, refl, _∙_}
+use Rattle.table_vectors.proofs.rewritten.Statement.{statement}
+use Rattle.table_vectors.proofs.rewritten.Tie as tie
+use Rattle.table_vectors.proofs.rewritten.Reads as reads
+use Rattle.table_vectors.proofs.rewritten.Lts as lts
+use Rattle.table_file.proofs.row_at.Reads as row-at-reads
+use Rattle.table_vectors.proofs.kept.Reads as kept-reads
+use Rattle.table_vectors.proofs.room.Reads as room-reads
+use Rattle.table_vectors.proofs.row_of.Reads as row-of-reads
+use Rattle.table_writer.proofs.write.Reads as write-reads
+use Rattle.wire.proofs.byte_at.Reads as byte-at-reads
+use Rattle.wire.proofs.wide16.Reads as wide16-reads
+
+abbrev Inv-loop : tie.InvT-loop
+Inv-loop t signals states rows₀ verdicts₀ s₀ rows verdicts s = (s ≤ states) × (length rows ≡ 256) × (length verdicts ≡ 256)
+
+abbrev μ-loop : tie.MeasureT-loop
+μ-loop t signals states rows₀ verdicts₀ s₀ rows verdicts s = states - s
+
+loop-holds : tie.Need-loop-holds Inv-loop μ-loop
+loop-holds c = search needs
+
+wide16-requires : tie.Need-wide16-requires Inv-loop μ-loop
+wide16-requires c κs = search needs
+
+row-at-requires : tie.Need-row-at-requires Inv-loop μ-loop
+row-at-requires c κs = search needs
+
+add-byte-at : tie.Need-add-byte-at Inv-loop μ-loop
+add-byte-at c = search needs
+
+byte-at-requires : tie.Need-byte-at-requires Inv-loop μ-loop
+byte-at-requires c κs = search needs
+
+array-write-verdicts : tie.Need-array-write-verdicts Inv-loop μ-loop
+array-write-verdicts c = search needs
+
+row-of-requires : tie.Need-row-of-requires Inv-loop μ-loop
+row-of-requires c κs = search needs
+
+mul-rows : tie.Need-mul-rows Inv-loop μ-loop
+mul-rows c = search needs
+
+array-set-from-rows : tie.Need-array-set-from-rows Inv-loop μ-loop
+array-set-from-rows c = search needs
+
+add-s : tie.Need-add-s Inv-loop μ-loop
+add-s c = search needs
+
+loop-less : tie.Need-loop-less Inv-loop μ-loop
+loop-less c = search needs
+
+loop-again : tie.Need-loop-again Inv-loop μ-loop
+loop-again c = search needs
+
+room-requires : tie.Need-room-requires Inv-loop μ-loop
+room-requires c κs = search needs
+
+slice-aggregate-write : tie.Need-slice-aggregate-write Inv-loop μ-loop
+slice-aggregate-write c = search needs
+
+write-requires : tie.Need-write-requires Inv-loop μ-loop
+write-requires c κs = search needs
+
+enum-known-built : tie.Need-enum-known-built Inv-loop μ-loop
+enum-known-built c = search needs
+
+slice-aggregate-kept : tie.Need-slice-aggregate-kept Inv-loop μ-loop
+slice-aggregate-kept c = search needs
+
+kept-requires : tie.Need-kept-requires Inv-loop μ-loop
+kept-requires c κs = search needs
+
+enum-told : tie.Need-enum-told Inv-loop μ-loop
+enum-told c = search needs
+
+returns : tie.Need-returns Inv-loop μ-loop
+returns c = search needs
+
+returns-2 : tie.Need-returns-2 Inv-loop μ-loop
+returns-2 c = search needs
+
+returns-3 : tie.Need-returns-3 Inv-loop μ-loop
+returns-3 c = search needs
+
+pub rewritten-spec : {M : Type 1} → statement M
+rewritten-spec =
+    tie.close
+    (tie.spec
+    Inv-loop
+    μ-loop
+    loop-holds
+    wide16-requires
+    row-at-requires
+    add-byte-at
+    byte-at-requires
+    array-write-verdicts
+    row-of-requires
+    mul-rows
+    array-set-from-rows
+    add-s
+    loop-less
+    loop-again
+    room-requires
+    slice-aggregate-write
+    write-requires
+    enum-known-built
+    slice-aggregate-kept
+    kept-requires
+    enum-told
+    returns
+    returns-2
+    returns-3)

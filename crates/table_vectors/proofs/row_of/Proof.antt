@@ -1,0 +1,60 @@
+use native.Mathlib.Omega.{arith}
+use borrow.Author.Needs.{needs}
+use Prim.Native.Nat.{_≤_, _<_, _-_}
+use lib.ListN.{length, length-set}
+use mathlib.Core.Path.{_≡_, refl, _∙_}
+use Rattle.table_vectors.proofs.row_of.Statement.{statement}
+use Rattle.table_vectors.proofs.row_of.Tie as tie
+use Rattle.table_vectors.proofs.row_of.Reads as reads
+use Rattle.table_vectors.proofs.row_of.Lts as lts
+use Rattle.table_file.proofs.successor_at.Reads as successor-at-reads
+use Rattle.wire.proofs.wide.Reads as wide-reads
+
+abbrev Inv-loop : tie.InvT-loop
+Inv-loop t signals state row₀ e₀ row e = (e ≤ 16) × (length row ≡ 16)
+
+abbrev μ-loop : tie.MeasureT-loop
+μ-loop t signals state row₀ e₀ row e = 16 - e
+
+loop-holds : tie.Need-loop-holds Inv-loop μ-loop
+loop-holds c = search needs
+
+successor-at-requires : tie.Need-successor-at-requires Inv-loop μ-loop
+successor-at-requires c κs = search needs
+
+wide-requires : tie.Need-wide-requires Inv-loop μ-loop
+wide-requires c κs = search needs
+
+mul-row : tie.Need-mul-row Inv-loop μ-loop
+mul-row c = search needs
+
+array-write-row : tie.Need-array-write-row Inv-loop μ-loop
+array-write-row c = search needs
+
+add-e : tie.Need-add-e Inv-loop μ-loop
+add-e c = search needs
+
+loop-less : tie.Need-loop-less Inv-loop μ-loop
+loop-less c = search needs
+
+loop-again : tie.Need-loop-again Inv-loop μ-loop
+loop-again c = search needs
+
+returns : tie.Need-returns Inv-loop μ-loop
+returns c = search needs
+
+pub row-of-spec : {M : Type 1} → statement M
+row-of-spec =
+    tie.close
+    (tie.spec
+    Inv-loop
+    μ-loop
+    loop-holds
+    successor-at-requires
+    wide-requires
+    mul-row
+    array-write-row
+    add-e
+    loop-less
+    loop-again
+    returns)

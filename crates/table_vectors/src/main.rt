@@ -1,0 +1,185 @@
+// Checks, runs and rewrites the tables of a stream of cases on standard input: a two-byte length and the table, a two-byte state, a two-byte
+// count and the events. Writes a line for each case.
+ghost use mathlib.Core.Path.{_≡_};
+ghost use Prim.Native.Nat.{_≤_, _<_};
+ghost use lib.ListN.{length};
+use meaning::{Built, Checked, Decided, Ran, Refusal, Verdict};
+
+// The next two bytes as a number, or 65,536 where the input has ended.
+fn number() -> usize
+    ensures { λ r. ⌜ r ≤ 65536 ⌝ }
+{
+    let mut two = [0u8; 2];
+    let got = io::read_full(0, &mut two);
+    if got < 2 {
+        return 65536;
+    }
+    wire::wide(two[0]) + 256 * wire::wide(two[1])
+}
+
+fn say(text: &[u8]) {
+    io::write_all(1, text);
+}
+
+fn say_number(n: usize) {
+    io::print_decimal(1, n as u64);
+}
+
+fn say_refusal(r: Refusal) {
+    say(b"refused ");
+    say_number(wire::wide(r.number()));
+    say(b" at ");
+    say_number(r.place());
+}
+
+fn say_verdict(v: Verdict) {
+    match v {
+        Verdict::Undecided => say(b"undecided "),
+        Verdict::Satisfied => say(b"satisfied "),
+        Verdict::Violated => say(b"violated "),
+        Verdict::Moot => say(b"moot "),
+    }
+}
+
+fn say_run(r: Ran) {
+    match r {
+        Ran::Refused(why) => say_refusal(why),
+        Ran::Ended {
+            state,
+            verdict,
+            decided,
+        } => {
+            say(b"state ");
+            say_number(wire::wide16(state));
+            say(b" ");
+            say_verdict(verdict);
+            match decided {
+                Decided::After(n) => say_number(n),
+                Decided::Never => say(b"none"),
+            }
+        }
+    }
+}
+
+// A state's row, read from the table.
+fn row_of(t: &[u8], signals: u8, state: u16) -> [u16; 16]
+    requires { ⌜ signals ≤ 4 ⌝ }
+{
+    let mut row = [0u16; 16];
+    let mut e: u8 = 0;
+    while e < 16 {
+        row[wire::wide(e)] = table_file::successor_at(t, signals, state, e);
+        e += 1;
+    }
+    row
+}
+
+// Whether the bytes of a are those of b from a place on, and zeros past them.
+fn kept(a: &[u8], b: &[u8]) -> bool {
+    let mut i: usize = 0;
+    while i < a.len() {
+        if a[i] != wire::byte_at(b, i) {
+            return false;
+        }
+        i += 1;
+    }
+    true
+}
+
+// Whether the table comes out the same when it is written from its rows and verdicts, with the bytes past it kept.
+fn rewritten(t: &[u8], signals: u8, states: u16) -> bool
+    requires { ⌜ (signals ≤ 4) × (states ≤ 256) ⌝ }
+{
+    let mut rows = [[0u16; 16]; 256];
+    let mut verdicts = [0u8; 256];
+    let mut s: u16 = 0;
+    while s < states {
+        let i = wire::wide16(s);
+        verdicts[i] = wire::byte_at(t, table_file::row_at(signals, s) + 4);
+        let row = row_of(t, signals, s);
+        rows[i] = row;
+        s += 1;
+    }
+    let mut out = room();
+    let built = table_writer::write(&mut out, signals, states, &verdicts, &rows);
+    match built {
+        Built::Table(n) => n == t.len() && kept(&out, t),
+        Built::Refused(_) => false,
+    }
+}
+
+fn say_case(t: &[u8], state: u16, events: &[u8]) {
+    let checked = table_file::check(t);
+    match checked {
+        Checked::Refused(why) => say_refusal(why),
+        Checked::Table { signals, states } => {
+            say(b"table ");
+            say_number(wire::wide(signals));
+            say(b" ");
+            say_number(wire::wide16(states));
+            say(b": ");
+            say_run(table_file::run(t, state, events));
+            if signals <= 4 {
+                if states <= 256 {
+                    if rewritten(t, signals, states) {
+                        say(b" rewritten");
+                    }
+                }
+            }
+        }
+    }
+    say(b"\n");
+}
+
+// Fills the first n bytes from the input.
+fn fill(buffer: &mut [u8], n: usize) -> bool {
+    if buffer.len() < n {
+        return false;
+    }
+    let got = io::read_full(0, &mut buffer[..n]);
+    got == n
+}
+
+fn front(buffer: &[u8], n: usize) -> &[u8] {
+    if n <= buffer.len() {
+        return &buffer[..n];
+    }
+    buffer
+}
+
+// Reads and answers one case; false at the end of the input.
+fn case(table: &mut [u8], events: &mut [u8]) -> bool {
+    let n = number();
+    if !fill(table, n) {
+        return false;
+    }
+    let state = number();
+    if 65535 < state {
+        return false;
+    }
+    let m = number();
+    if !fill(events, m) {
+        return false;
+    }
+    say_case(front(table, n), state as u16, front(events, m));
+    true
+}
+
+// Room for any table.
+fn room() -> [u8; 9600]
+    ensures { λ r. ⌜ 9600 ≡ length r ⌝ }
+{
+    [0; 9600]
+}
+
+fn main() {
+    let mut table = room();
+    let mut events = io::buffer();
+    let mut left: u32 = 100000;
+    while 0 < left {
+        if !case(&mut table, &mut events) {
+            return;
+        }
+        left -= 1;
+    }
+}

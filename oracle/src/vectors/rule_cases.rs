@@ -1,0 +1,301 @@
+//! The cases of the rule file stream.
+
+use super::rule_faults::{self, Fault, RuleStart};
+use super::rule_samples as samples;
+use super::{append_counted, Case};
+use crate::record::{well_sized, Record};
+use crate::refusal::Refusal;
+use crate::rng::Rng;
+use crate::rule::{header_record, BodyShape, Rule};
+
+const SEED: u64 = 0x5eed_0000_0000_0001;
+const LONGEST_FILE: usize = 4096;
+
+pub struct RuleCase {
+    pub file: Vec<u8>,
+}
+
+impl Case for RuleCase {
+    fn append_to(&self, stream: &mut Vec<u8>) {
+        append_counted(stream, &self.file);
+    }
+
+    fn expected_line(&self) -> String {
+        match Rule::read(&self.file) {
+            Ok(rule) => rule.to_string(),
+            Err(refusal) => refusal.to_string(),
+        }
+    }
+}
+
+/// Gathers cases. A case made for one answer is held against the reader.
+struct RuleCases {
+    rng: Rng,
+    cases: Vec<RuleCase>,
+}
+
+/// Every case, always the same ones.
+pub fn all() -> Vec<RuleCase> {
+    let mut gathered = RuleCases { rng: Rng::new(SEED), cases: Vec::new() };
+    gathered.add_good_rules();
+    gathered.add_header_faults();
+    gathered.add_node_faults();
+    gathered.add_double_faults();
+    gathered.add_faults_in_two_records();
+    gathered.add_trailing_bytes();
+    gathered.add_missing_nodes();
+    gathered.add_truncations();
+    gathered.add_random_bytes();
+    gathered.add_random_records();
+    gathered.add_changed_files();
+    gathered.cases
+}
+
+impl RuleCases {
+    fn add(&mut self, file: Vec<u8>) {
+        assert!(file.len() <= LONGEST_FILE);
+        self.cases.push(RuleCase { file });
+    }
+
+    fn add_good(&mut self, rule: Rule) {
+        let file = rule.to_bytes();
+        assert_eq!(Rule::read(&file), Ok(rule));
+        self.add(file);
+    }
+
+    fn add_refused(&mut self, file: Vec<u8>, number: u8, place: usize) {
+        assert_eq!(Rule::read(&file), Err(Refusal::new(number, place)), "{file:02x?}");
+        self.add(file);
+    }
+
+    /// Adds a file in which `record` follows `beginning`. What comes after it
+    /// must not matter, unless the refusal is that the file ends too early.
+    fn add_fault(&mut self, beginning: &[u8], fault: &Fault, after: &[u8]) {
+        let after = if fault.number == 1 { &[] } else { after };
+        let file = [beginning, &fault.record, after].concat();
+        self.add_refused(file, fault.number, beginning.len());
+    }
+
+    /// Nothing, good records, or any bytes.
+    fn random_rest(&mut self) -> Vec<u8> {
+        match self.rng.below(3) {
+            0 => Vec::new(),
+            1 => well_sized(1, &[]).repeat(self.rng.between(1, 4)),
+            _ => self.random_bytes_up_to(12),
+        }
+    }
+
+    fn random_bytes_up_to(&mut self, limit: usize) -> Vec<u8> {
+        let count = self.rng.between(1, limit);
+        self.rng.bytes(count)
+    }
+
+    fn add_good_rules(&mut self) {
+        for rule in [samples::document_rules(), samples::limit_rules()].concat() {
+            self.add_good(rule);
+        }
+        let place_of_the_eighth = samples::nexts(7).to_bytes().len();
+        self.add_refused(samples::nexts(8).to_bytes(), 8, place_of_the_eighth);
+        for _ in 0..250 {
+            let rule = samples::random_short_rule(&mut self.rng, 16);
+            self.add_good(rule);
+        }
+        for _ in 0..250 {
+            let rule = samples::random_rule(&mut self.rng);
+            self.add_good(rule);
+        }
+    }
+
+    fn add_header_faults(&mut self) {
+        for fault in rule_faults::header_faults() {
+            self.add_fault(&[], &fault, &[]);
+            if fault.number > 1 {
+                let rest = samples::random_short_rule(&mut self.rng, 3).nodes;
+                let after: Vec<u8> = rest.iter().flat_map(|node| node.to_record()).collect();
+                self.add_fault(&[], &fault, &after);
+            }
+        }
+    }
+
+    fn add_node_faults(&mut self) {
+        for start in rule_faults::starts(&mut self.rng) {
+            for fault in rule_faults::node_faults(&start) {
+                let after = self.random_rest();
+                self.add_fault(&start.to_bytes(), &fault, &after);
+            }
+        }
+    }
+
+    /// Doubly faulty records both with and without bytes after them. Where
+    /// the record is the last one due, bytes after it are one fault more.
+    fn add_double_faults(&mut self) {
+        for start in rule_faults::starts(&mut self.rng) {
+            let late = rule_faults::late_operands(&start);
+            let eighth = rule_faults::eighth_temporal(&start);
+            let doubles = rule_faults::double_faults(&start);
+            let some_late = late.into_iter().step_by(7);
+            for fault in some_late.chain(eighth).chain(doubles) {
+                self.add_fault(&start.to_bytes(), &fault, &[]);
+                self.add_fault(&start.to_bytes(), &fault, &[0]);
+            }
+        }
+    }
+
+    /// The first faulty record decides, whatever the second one has.
+    fn add_faults_in_two_records(&mut self) {
+        let starts = rule_faults::starts(&mut self.rng);
+        for _ in 0..150 {
+            let start = self.rng.pick(&starts);
+            let (first, second) = self.pick_two_faults(start);
+            self.add_fault(&start.to_bytes(), &first, &second.record);
+        }
+        let header_faults: Vec<Fault> = rule_faults::header_faults();
+        for fault in header_faults.iter().filter(|fault| fault.number != 1) {
+            let second = self.pick_two_faults(&starts[0]).1;
+            self.add_fault(&[], fault, &second.record);
+        }
+    }
+
+    /// Two faults, of which the first does not end the file.
+    fn pick_two_faults(&mut self, start: &RuleStart) -> (Fault, Fault) {
+        let faults = rule_faults::node_faults(start);
+        let has = |number: &u8| faults.iter().any(|fault| fault.number == *number);
+        let numbers: Vec<u8> = (2..=8).filter(has).collect();
+        let wanted = *self.rng.pick(&numbers);
+        let firsts: Vec<&Fault> = faults.iter().filter(|fault| fault.number == wanted).collect();
+        let first = (*self.rng.pick(&firsts)).clone();
+        (first, self.rng.pick(&faults).clone())
+    }
+
+    /// Refusal 9: one byte or many after the last node.
+    fn add_trailing_bytes(&mut self) {
+        for _ in 0..30 {
+            let file = samples::random_short_rule(&mut self.rng, 20).to_bytes();
+            let rest = self.random_bytes_up_to(40);
+            for after in
+                [vec![0], vec![2], vec![255], well_sized(0, &[]), well_sized(14, &[0]), rest]
+            {
+                self.add_refused([&file[..], &after].concat(), 9, file.len());
+            }
+        }
+        for fill in [0, 2, 255] {
+            let mut file = samples::p12().to_bytes();
+            let place = file.len();
+            file.resize(LONGEST_FILE, fill);
+            self.add_refused(file, 9, place);
+        }
+    }
+
+    /// Refusal 1: whole records, but fewer than N.
+    fn add_missing_nodes(&mut self) {
+        for _ in 0..30 {
+            let rule = samples::random_short_rule(&mut self.rng, 12);
+            let given = rule.nodes.len();
+            let any_more = self.rng.between(given + 1, 64);
+            for node_count in [given + 1, any_more, 64] {
+                let mut file = rule.to_bytes();
+                file[5] = node_count as u8;
+                let place = file.len();
+                self.add_refused(file, 1, place);
+            }
+        }
+        self.add_refused(header_record(4, 64), 1, 6);
+    }
+
+    /// Every proper beginning of five files.
+    fn add_truncations(&mut self) {
+        let largest = samples::largest(&mut self.rng);
+        let rules = [samples::p3(), samples::p9(), samples::p12(), samples::all_kinds(), largest];
+        for file in rules.map(|rule| rule.to_bytes()) {
+            let starts = record_starts(&file);
+            for length in 0..file.len() {
+                let begun = starts.iter().rfind(|&&start| start <= length);
+                let place = *begun.expect("the first record starts at 0");
+                self.add_refused(file[..length].to_vec(), 1, place);
+            }
+            self.add(file);
+        }
+    }
+
+    fn add_random_bytes(&mut self) {
+        for limit in [4, 8, 16, 64, 256] {
+            for _ in 0..50 {
+                let file = self.random_bytes_up_to(limit);
+                self.add(file);
+            }
+        }
+        for limit in [4, 8, 16, 64] {
+            for _ in 0..40 {
+                let mut file =
+                    header_record(1 + self.rng.byte_below(4), 1 + self.rng.byte_below(64));
+                file.extend(self.random_bytes_up_to(limit));
+                self.add(file);
+            }
+        }
+    }
+
+    /// Records that are mostly right, with small numbers in their bodies.
+    fn add_random_records(&mut self) {
+        for _ in 0..300 {
+            let node_count = self.rng.between(1, 12);
+            let mut file = header_record(self.rng.byte_below(6), node_count as u8);
+            for number in 0..node_count {
+                file.extend(self.random_record(number));
+            }
+            self.add(file);
+        }
+    }
+
+    fn random_record(&mut self, number: usize) -> Vec<u8> {
+        let limit = if number < 2 { 5 } else { 15 };
+        let kind = self.rng.between(0, limit) as u16;
+        let right = BodyShape::of(kind).map_or(1, BodyShape::length);
+        let length = if self.rng.chance(97) { right } else { self.rng.between(0, 3) };
+        let body: Vec<u8> = (0..length).map(|_| self.rng.byte_below(number.max(2))).collect();
+        well_sized(kind, &body)
+    }
+
+    /// Good files with one byte changed, added or taken away.
+    fn add_changed_files(&mut self) {
+        for round in 0..900 {
+            let limit = if round % 10 == 0 { 64 } else { 14 };
+            let mut file = samples::random_short_rule(&mut self.rng, limit).to_bytes();
+            let place = self.rng.below(file.len());
+            let small = self.rng.chance(60);
+            let value = self.rng.byte_below(if small { 16 } else { 256 });
+            match round % 6 {
+                0 => file.insert(place, value),
+                1 => drop(file.remove(place)),
+                _ => file[place] = value,
+            }
+            self.add(file);
+        }
+    }
+}
+
+/// The places at which the records of a good file start.
+fn record_starts(file: &[u8]) -> Vec<usize> {
+    let mut starts = Vec::new();
+    let mut place = 0;
+    while place < file.len() {
+        starts.push(place);
+        place = Record::read(file, place).expect("a good file has whole records").end();
+    }
+    starts
+}
+
+#[cfg(test)]
+mod tests {
+    use super::*;
+
+    #[test]
+    fn p3_has_its_line() {
+        let case = RuleCase { file: samples::p3().to_bytes() };
+        assert_eq!(case.expected_line(), "rule 1 1: 2.0.0");
+    }
+
+    #[test]
+    fn records_of_p3_start_at_0_and_6() {
+        assert_eq!(record_starts(&samples::p3().to_bytes()), [0, 6]);
+    }
+}

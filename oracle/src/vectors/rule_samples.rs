@@ -1,0 +1,208 @@
+//! Good rules: those of document 01, those at the limits, and random ones.
+
+use crate::rng::Rng;
+use crate::rule::{kind, temporal_count, FormulaNode, Rule, NODE_LIMIT, TEMPORAL_LIMIT};
+
+const TEMPORAL_KINDS: [u8; 4] = [kind::NEXT, kind::UNTIL, kind::EVENTUALLY, kind::ALWAYS];
+
+/// A node as kind, first and second body byte.
+type NodeBytes = (u8, u8, u8);
+
+const P: NodeBytes = (kind::SIGNAL, 0, 0);
+const Q: NodeBytes = (kind::SIGNAL, 1, 0);
+
+fn rule(signals: u8, nodes: &[NodeBytes]) -> Rule {
+    let nodes =
+        nodes.iter().map(|&(kind, first, second)| FormulaNode::new(kind, first, second)).collect();
+    Rule { signals, nodes }
+}
+
+pub fn p3() -> Rule {
+    rule(1, &[P])
+}
+
+pub fn p9() -> Rule {
+    rule(2, &[P, Q, (kind::UNTIL, 0, 1)])
+}
+
+/// always (p implies next (not p until q))
+pub fn p12() -> Rule {
+    let until = [P, Q, (kind::NOT, 0, 0), (kind::UNTIL, 2, 1)];
+    let always = [(kind::NEXT, 3, 0), (kind::IMPLIES, 0, 4), (kind::ALWAYS, 5, 0)];
+    rule(2, &[until.as_slice(), &always].concat())
+}
+
+/// The other rules with a name in document 01.
+fn named_rules() -> Vec<Rule> {
+    vec![
+        rule(1, &[(kind::TRUE, 0, 0)]),
+        rule(1, &[(kind::FALSE, 0, 0)]),
+        rule(1, &[P, (kind::ALWAYS, 0, 0)]),
+        rule(1, &[P, (kind::EVENTUALLY, 0, 0)]),
+        rule(1, &[P, (kind::EVENTUALLY, 0, 0), (kind::ALWAYS, 1, 0)]),
+        rule(1, &[P, (kind::ALWAYS, 0, 0), (kind::EVENTUALLY, 1, 0)]),
+        rule(1, &[P, (kind::NOT, 0, 0), (kind::NEXT, 0, 0), (kind::NEXT, 1, 0), (kind::OR, 2, 3)]),
+        rule(2, &[P, Q, (kind::OR, 0, 1), (kind::ALWAYS, 2, 0)]),
+        rule(2, &[P, Q, (kind::UNTIL, 0, 1), (kind::ALWAYS, 2, 0)]),
+        rule(2, &[P, Q, (kind::EVENTUALLY, 0, 0), (kind::ALWAYS, 2, 0), (kind::AND, 1, 3)]),
+    ]
+}
+
+/// `count` nexts, one over the other, over signal 0.
+pub fn nexts(count: u8) -> Rule {
+    let mut nodes = vec![P];
+    nodes.extend((0..count).map(|below| (kind::NEXT, below, 0)));
+    rule(1, &nodes)
+}
+
+/// always ((p implies M) and (q implies not M)), M being nexts over signal 2
+fn shared_nexts(count: u8) -> Rule {
+    let mut nodes = vec![P, Q, (kind::SIGNAL, 2, 0)];
+    nodes.extend((0..count).map(|below| (kind::NEXT, below + 2, 0)));
+    let inner = count + 2;
+    nodes.extend([
+        (kind::NOT, inner, 0),
+        (kind::IMPLIES, 0, inner),
+        (kind::IMPLIES, 1, inner + 1),
+        (kind::AND, inner + 2, inner + 3),
+        (kind::ALWAYS, inner + 4, 0),
+    ]);
+    rule(3, &nodes)
+}
+
+pub fn document_rules() -> Vec<Rule> {
+    let mut rules = vec![p3(), p9(), p12(), nexts(7), shared_nexts(5), shared_nexts(6)];
+    rules.extend(named_rules());
+    rules
+}
+
+/// Each of the fourteen kinds once, each operand the node just before.
+pub fn all_kinds() -> Rule {
+    let nodes: Vec<NodeBytes> = (kind::FALSE..=kind::ALWAYS)
+        .map(|kind| match kind {
+            kind::FALSE | kind::TRUE => (kind, 0, 0),
+            kind::SIGNAL => (kind, 2, 0),
+            kind::AT_LEAST => (kind, 7, 2),
+            kind::AND..=kind::EXCLUSIVE_OR | kind::UNTIL => (kind, kind - 2, kind - 1),
+            _ => (kind, kind - 1, 0),
+        })
+        .collect();
+    rule(3, &nodes)
+}
+
+/// A rule with the most nodes and the most temporal nodes.
+pub fn largest(rng: &mut Rng) -> Rule {
+    random_rule_of(rng, 4, NODE_LIMIT.into(), TEMPORAL_LIMIT)
+}
+
+/// Rules whose body bytes are just within their bounds.
+pub fn limit_rules() -> Vec<Rule> {
+    let mut rules = vec![nexts(6), nexts(7), all_kinds()];
+    for signals in 1..=4 {
+        let full_mask = (1 << signals) - 1;
+        rules.push(rule(signals, &[(kind::SIGNAL, signals - 1, 0)]));
+        for count in 0..=4 {
+            rules.push(rule(signals, &[(kind::AT_LEAST, full_mask, count)]));
+            rules.push(rule(signals, &[(kind::AT_LEAST, 0, count)]));
+        }
+        rules.push(rule(signals, &[P; NODE_LIMIT as usize]));
+    }
+    for kind in kind::NOT..=kind::ALWAYS {
+        let shape = FormulaNode::new(kind, 0, 0).shape();
+        let second = u8::from(shape.length() == 2);
+        rules.push(rule(1, &[P, P, (kind, 1, second)]));
+    }
+    for kind in TEMPORAL_KINDS {
+        let second = if kind == kind::UNTIL { 6 } else { 0 };
+        let mut nodes = vec![P; 7];
+        nodes.extend([(kind, 6, second); TEMPORAL_LIMIT]);
+        rules.push(rule(1, &nodes));
+    }
+    rules
+}
+
+/// A good rule of any size.
+pub fn random_rule(rng: &mut Rng) -> Rule {
+    let signals = 1 + rng.byte_below(4);
+    let node_count = rng.between(1, NODE_LIMIT.into());
+    let temporal = rng.between(0, TEMPORAL_LIMIT);
+    random_rule_of(rng, signals, node_count, temporal)
+}
+
+/// A good rule of at most `limit` nodes.
+pub fn random_short_rule(rng: &mut Rng, limit: usize) -> Rule {
+    let signals = 1 + rng.byte_below(4);
+    let node_count = rng.between(1, limit);
+    let temporal = rng.between(0, TEMPORAL_LIMIT);
+    random_rule_of(rng, signals, node_count, temporal)
+}
+
+fn random_rule_of(rng: &mut Rng, signals: u8, node_count: usize, temporal: usize) -> Rule {
+    Rule { signals, nodes: random_nodes(rng, signals, node_count, temporal) }
+}
+
+/// Good nodes, of which `temporal` are temporal, or all but the first if
+/// there are fewer.
+pub fn random_nodes(rng: &mut Rng, signals: u8, count: usize, temporal: usize) -> Vec<FormulaNode> {
+    let mut nodes = Vec::new();
+    for number in 0..count {
+        let still_due = temporal - temporal_count(&nodes);
+        let takes_temporal = number > 0 && rng.below(count - number) < still_due;
+        nodes.push(random_node(rng, signals, number, takes_temporal));
+    }
+    nodes
+}
+
+fn random_node(rng: &mut Rng, signals: u8, number: usize, temporal: bool) -> FormulaNode {
+    let kind = match (temporal, number) {
+        (true, _) => *rng.pick(&TEMPORAL_KINDS),
+        (false, 0) => rng.byte_below(usize::from(kind::NOT)),
+        (false, _) => rng.byte_below(usize::from(kind::NEXT)),
+    };
+    let (first, second) = match kind {
+        kind::FALSE | kind::TRUE => (0, 0),
+        kind::SIGNAL => (rng.byte_below(signals.into()), 0),
+        kind::AT_LEAST => (rng.byte_below(1 << signals), rng.byte_below(5)),
+        kind::NOT | kind::NEXT | kind::EVENTUALLY | kind::ALWAYS => {
+            (random_operand(rng, number), 0)
+        }
+        _ => (random_operand(rng, number), random_operand(rng, number)),
+    };
+    FormulaNode::new(kind, first, second)
+}
+
+/// An earlier node, often the one just before.
+fn random_operand(rng: &mut Rng, number: usize) -> u8 {
+    let nearest = if rng.chance(40) { number - 1 } else { 0 };
+    rng.byte_below(number).max(nearest as u8)
+}
+
+#[cfg(test)]
+mod tests {
+    use super::*;
+
+    #[test]
+    fn every_good_rule_is_read_back() {
+        let mut rng = Rng::new(11);
+        let mut rules = [document_rules(), limit_rules(), vec![largest(&mut rng)]].concat();
+        rules.extend((0..200).map(|_| random_rule(&mut rng)));
+        for rule in rules {
+            assert_eq!(Rule::read(&rule.to_bytes()), Ok(rule));
+        }
+    }
+
+    #[test]
+    fn random_nodes_hold_the_asked_number_of_temporal_ones() {
+        let mut rng = Rng::new(12);
+        for count in 8..40 {
+            let nodes = random_nodes(&mut rng, 2, count, TEMPORAL_LIMIT);
+            assert_eq!(temporal_count(&nodes), TEMPORAL_LIMIT);
+        }
+    }
+
+    #[test]
+    fn all_kinds_come_once() {
+        let kinds: Vec<u8> = all_kinds().nodes.iter().map(|node| node.kind).collect();
+        assert_eq!(kinds, (0..14).collect::<Vec<u8>>());
+    }
+}
