@@ -1,18 +1,18 @@
--- A rule that is read from a file has 1 to 4 signals.
+-- A rule that is read from a file has 1 to 4 signals and 1 to 64 nodes, at most 7 of them temporal.
 use mathlib.Core.Path.{_≡_, refl, sym, ap, subst}
 use mathlib.Core.List.{List, [], _∷_, _++_}
 use mathlib.Core.Bool.{Bool, true, false, cond, not, _&&_}
-use Prim.Native.Nat.{ℕ, zero, suc, _+_, _≤_}
+use Prim.Native.Nat.{ℕ, zero, suc, _+_, _≤_, _<_}
 use native.Mathlib.Omega.{arith}
-use lib.ListN.{length, getD}
+use lib.ListN.{length, getD, length-append}
 use lib.Dec.{ltb, leb, eqb}
-use borrow.Author.Tests.{leb-true, not-false}
+use borrow.Author.Tests.{leb-true, leb-false, not-false}
 use Rattle.meaning.specs.Bytes.{u16At}
-use Rattle.meaning.specs.RuleFiles.{Rule, firstOf, frameChecks, headerOf, readingOf, Judgement, Accepted, Refused, bodyLength, temporals, nodesFrom, judge}
+use Rattle.meaning.specs.RuleFiles.{Rule, firstOf, frameChecks, headerOf, readingOf, Judgement, Accepted, Refused, bodyLength, temporal, temporals, nodeAt, operandsFit, rangesFit, nodesFrom, judge}
 use Rattle.meaning.specs.declared.Node.{Node}
 use Rattle.meaning.specs.declared.Header.{Header}
 use Rattle.meaning.specs.declared.Refusal.{Refusal}
-use Rattle.meaning.specs.declared.Refusal.the-variants.{WrongSignals, WrongCount, TrailingBytes}
+use Rattle.meaning.specs.declared.Refusal.the-variants.{WrongSignals, WrongCount, WrongOperand, OutOfRange, EighthTemporal, TrailingBytes}
 use Rattle.meaning.specs.declared.Opening.{Opening}
 use Rattle.meaning.specs.declared.Opening.the-variants as Opening
 use Rattle.meaning.specs.declared.Reading.{Reading}
@@ -27,14 +27,14 @@ abbrev Clear : List (Bool × Refusal) → Type 0
 Clear [] = Unit {0}
 Clear (c ∷ cs) = (c .0 ≡ false) × Clear cs
 
-passes : (cs : List (Bool × Refusal)) (x : Opening) (h : Header) → firstOf Opening.Refused cs x ≡ Opening.Header h → (x ≡ Opening.Header h) × Clear cs
-passes [] x h e = (e, tt)
-passes (c ∷ cs) x h e = go (c .0) refl (passes cs x h) e
-  where
-    go : (t : Bool) → c .0 ≡ t → (firstOf Opening.Refused cs x ≡ Opening.Header h → (x ≡ Opening.Header h) × Clear cs)
-        → cond t (Opening.Refused (c .1)) (firstOf Opening.Refused cs x) ≡ Opening.Header h → (x ≡ Opening.Header h) × Clear (c ∷ cs)
-    go true q r e = let z : _≡_ {A = ℕ} 0 1 = cc in absurd (omega arith)
-    go false q r e = let y = r e in (y .0, (q, y .1))
+module _ {A : Type 0} (refuse : Refusal → A) (y : A) (never : (r : Refusal) → refuse r ≡ y → ⊥) where
+  passes : (cs : List (Bool × Refusal)) (x : A) → firstOf refuse cs x ≡ y → (x ≡ y) × Clear cs
+  passes [] x e = (e, tt)
+  passes (c ∷ cs) x e = go (c .0) refl (passes cs x) e
+    where
+      go : (t : Bool) → c .0 ≡ t → (firstOf refuse cs x ≡ y → (x ≡ y) × Clear cs) → cond t (refuse (c .1)) (firstOf refuse cs x) ≡ y → (x ≡ y) × Clear (c ∷ cs)
+      go true q r e = absurd (never (c .1) e)
+      go false q r e = let z = r e in (z .0, (q, z .1))
 
 and-true : (a b : Bool) → a && b ≡ true → (a ≡ true) × (b ≡ true)
 and-true true true e = (refl, refl)
@@ -49,37 +49,107 @@ headerChecks b =
     ∷ (not (leb 1 (getD b 5 0) && leb (getD b 5 0) 64), WrongCount)
     ∷ [])
 
-header-signals : (b : List ℕ) (h : Header) → headerOf b ≡ Opening.Header h → Signals (h .signals)
+-- what an accepted first record says
+pub record Counts (h : Header) : Type 0 where
+  pub signals : Signals (h .signals)
+  pub some : 1 ≤ h .nodes
+  pub few : h .nodes ≤ 64
+
+header-counts : (b : List ℕ) (h : Header) → headerOf b ≡ Opening.Header h → Counts h
 unfolding headerOf
-header-signals b h e = record { low = rw q (leb-true 1 (getD b 4 0) (t .0)); high = rw q (leb-true (getD b 4 0) 4 (t .1)) }
+header-counts b h e =
+    subst Counts same
+    (record {
+      signals = record { low = leb-true 1 (getD b 4 0) (t .0); high = leb-true (getD b 4 0) 4 (t .1) };
+      some = leb-true 1 (getD b 5 0) (u .0);
+      few = leb-true (getD b 5 0) 64 (u .1);
+    })
   where
     checked : (Opening.Header (record { signals = getD b 4 0; nodes = getD b 5 0 }) ≡ Opening.Header h) × Clear (headerChecks b)
-    checked = passes (headerChecks b) (Opening.Header (record { signals = getD b 4 0; nodes = getD b 5 0 })) h e
+    checked = passes Opening.Refused (Opening.Header h) (λ r q. let z : _≡_ {A = ℕ} 0 1 = cc in omega arith) (headerChecks b) (Opening.Header (record { signals = getD b 4 0; nodes = getD b 5 0 })) e
 
-    q : h .signals ≡ getD b 4 0
-    q = let x : record { signals = getD b 4 0; nodes = getD b 5 0 } ≡ h = cc (checked .0) in ap (λ (x : Header). x .signals) (sym x)
+    same : record { signals = getD b 4 0; nodes = getD b 5 0 } ≡ h
+    same = cc (checked .0)
 
     t : (leb 1 (getD b 4 0) ≡ true) × (leb (getD b 4 0) 4 ≡ true)
     t = and-true (leb 1 (getD b 4 0)) (leb (getD b 4 0) 4) (not-false (leb 1 (getD b 4 0) && leb (getD b 4 0) 4) (checked .1 .1 .1 .1 .1 .1 .0))
 
-signals-from : (k : ℕ) (b : List ℕ) (P p : ℕ) (earlier : List Node) (r : Rule) → nodesFrom k b P p earlier ≡ Accepted r → r .signals ≡ P
+    u : (leb 1 (getD b 5 0) ≡ true) × (leb (getD b 5 0) 64 ≡ true)
+    u = and-true (leb 1 (getD b 5 0)) (leb (getD b 5 0) 64) (not-false (leb 1 (getD b 5 0) && leb (getD b 5 0) 64) (checked .1 .1 .1 .1 .1 .1 .1 .0))
+
+-- a node that is read is no eighth temporal one
+node-checks : (b : List ℕ) (P p number seen : ℕ) → List (Bool × Refusal)
+node-checks b P p number seen =
+    let n = nodeAt b p in
+    frameChecks b p (leb (n .kind) 13) (bodyLength (n .kind))
+    ++ ((not (operandsFit number n), WrongOperand p)
+    ∷ (not (rangesFit P n), OutOfRange p)
+    ∷ (temporal (n .kind) && leb 7 seen, EighthTemporal p)
+    ∷ [])
+
+node-temporal : (b : List ℕ) (P p number seen : ℕ) (n : Node) → readingOf b P p number seen ≡ Reading.Node n → seen ≤ 7 → cond (temporal (n .kind)) 1 0 + seen ≤ 7
+unfolding readingOf node-checks
+node-temporal b P p number seen n e l = go (temporal (n .kind)) refl
+  where
+    checked : (Reading.Node (nodeAt b p) ≡ Reading.Node n) × Clear (node-checks b P p number seen)
+    checked = passes Reading.Refused (Reading.Node n) (λ r q. let z : _≡_ {A = ℕ} 0 1 = cc in omega arith) (node-checks b P p number seen) (Reading.Node (nodeAt b p)) e
+
+    same : nodeAt b p ≡ n
+    same = cc (checked .0)
+
+    last : temporal (n .kind) && leb 7 seen ≡ false
+    last = subst (λ (m : Node). temporal (m .kind) && leb 7 seen ≡ false) same (checked .1 .1 .1 .1 .1 .1 .1 .1 .0)
+
+    go : (t : Bool) → temporal (n .kind) ≡ t → cond t 1 0 + seen ≤ 7
+    go true q = let f : leb 7 seen ≡ false = rw q at last in let h : seen < 7 = leb-false 7 seen f in omega arith
+    go false q = omega arith
+
+temporals-snoc : (ns : List Node) (n : Node) → temporals (ns ++ (n ∷ [])) ≡ cond (temporal (n .kind)) 1 0 + temporals ns
+temporals-snoc [] n = refl
+temporals-snoc (m ∷ ns) n = let h = temporals-snoc ns n in omega arith
+
+-- what an accepted rule has, where k nodes were still to be read after the earlier ones
+pub record Has (P k : ℕ) (r : Rule) : Type 0 where
+  pub signals : r .signals ≡ P
+  pub nodes : length (r .nodes) ≡ k
+  pub temporal : temporals (r .nodes) ≤ 7
+
+has-from : (k : ℕ) (b : List ℕ) (P p : ℕ) (earlier : List Node) (r : Rule) → nodesFrom k b P p earlier ≡ Accepted r → temporals earlier ≤ 7 → Has P (k + length earlier) r
 unfolding nodesFrom
-signals-from zero b P p earlier r e = go (ltb p (length b)) e
+has-from zero b P p earlier r e l = go (ltb p (length b)) e
   where
-    go : (t : Bool) → cond t (Refused (TrailingBytes p)) (Accepted (record { signals = P; nodes = earlier })) ≡ Accepted r → r .signals ≡ P
+    go : (t : Bool) → cond t (Refused (TrailingBytes p)) (Accepted (record { signals = P; nodes = earlier })) ≡ Accepted r → Has P (0 + length earlier) r
     go true e = let z : _≡_ {A = ℕ} 0 1 = cc in absurd (omega arith)
-    go false e = cc
-signals-from (suc k) b P p earlier r e = go (readingOf b P p (length earlier) (temporals earlier)) (λ n. signals-from k b P (p + 4 + bodyLength (n .kind)) (earlier ++ (n ∷ [])) r) e
+    go false e =
+        let q : record { signals = P; nodes = earlier } ≡ r = cc in
+        subst (Has P (0 + length earlier)) q (record { signals = refl; nodes = omega arith; temporal = l })
+has-from (suc k) b P p earlier r e l = go (readingOf b P p (length earlier) (temporals earlier)) refl (λ n. has-from k b P (p + 4 + bodyLength (n .kind)) (earlier ++ (n ∷ [])) r) e
   where
-    go : (x : Reading) → ((n : Node) → nodesFrom k b P (p + 4 + bodyLength (n .kind)) (earlier ++ (n ∷ [])) ≡ Accepted r → r .signals ≡ P)
-        → elim x as (λ _. Judgement) [ Reading.Node n ↦ nodesFrom k b P (p + 4 + bodyLength (n .kind)) (earlier ++ (n ∷ [])) | Reading.Refused r ↦ Refused r ] ≡ Accepted r → r .signals ≡ P
-    go (Reading.Node n) ih e = ih n e
-    go (Reading.Refused q) ih e = let z : _≡_ {A = ℕ} 0 1 = cc in absurd (omega arith)
+    go : (x : Reading) → readingOf b P p (length earlier) (temporals earlier) ≡ x
+        → ((n : Node) → nodesFrom k b P (p + 4 + bodyLength (n .kind)) (earlier ++ (n ∷ [])) ≡ Accepted r → temporals (earlier ++ (n ∷ [])) ≤ 7 → Has P (k + length (earlier ++ (n ∷ []))) r)
+        → elim x as (λ _. Judgement) [ Reading.Node n ↦ nodesFrom k b P (p + 4 + bodyLength (n .kind)) (earlier ++ (n ∷ [])) | Reading.Refused r ↦ Refused r ] ≡ Accepted r → Has P (suc k + length earlier) r
+    go (Reading.Node n) q ih e =
+        let h = ih n e (rw (temporals-snoc earlier n) (node-temporal b P p (length earlier) (temporals earlier) n q l)) in
+        let c : k + length (earlier ++ (n ∷ [])) ≡ suc k + length earlier = (let d = length-append earlier (n ∷ []) in omega arith) in
+        subst (λ (m : ℕ). Has P m r) c h
+    go (Reading.Refused y) q ih e = let z : _≡_ {A = ℕ} 0 1 = cc in absurd (omega arith)
+
+pub record Formed (r : Rule) : Type 0 where
+  pub signals : Signals (r .signals)
+  pub some : 1 ≤ length (r .nodes)
+  pub few : length (r .nodes) ≤ 64
+  pub temporal : temporals (r .nodes) ≤ 7
+
+pub accepted-formed : (b : List ℕ) (r : Rule) → judge b ≡ Accepted r → Formed r
+unfolding judge
+accepted-formed b r e = go (headerOf b) refl e
+  where
+    go : (x : Opening) → headerOf b ≡ x → elim x as (λ _. Judgement) [ Opening.Header h ↦ nodesFrom (h .nodes) b (h .signals) 6 [] | Opening.Refused r ↦ Refused r ] ≡ Accepted r → Formed r
+    go (Opening.Header h) q e =
+        let c = header-counts b h q in
+        let f = has-from (h .nodes) b (h .signals) 6 [] r e (omega arith) in
+        record { signals = subst Signals (sym (f .signals)) (c .signals); some = omega (arith, f .nodes, c .some); few = omega (arith, f .nodes, c .few); temporal = f .temporal }
+    go (Opening.Refused y) q e = let z : _≡_ {A = ℕ} 0 1 = cc in absurd (omega arith)
 
 pub accepted-signals : (b : List ℕ) (r : Rule) → judge b ≡ Accepted r → Signals (r .signals)
-unfolding judge
-accepted-signals b r e = go (headerOf b) refl e
-  where
-    go : (x : Opening) → headerOf b ≡ x → elim x as (λ _. Judgement) [ Opening.Header h ↦ nodesFrom (h .nodes) b (h .signals) 6 [] | Opening.Refused r ↦ Refused r ] ≡ Accepted r → Signals (r .signals)
-    go (Opening.Header h) q e = subst Signals (sym (signals-from (h .nodes) b (h .signals) 6 [] r e)) (header-signals b h q)
-    go (Opening.Refused q) ih e = let z : _≡_ {A = ℕ} 0 1 = cc in absurd (omega arith)
+accepted-signals b r e = accepted-formed b r e .signals

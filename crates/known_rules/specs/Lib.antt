@@ -1,0 +1,4 @@
+pub mod Files
+pub mod Rules
+pub mod Further
+pub mod Lines

@@ -1,0 +1,67 @@
+-- The answer and the output of building meet the demands.
+use mathlib.Core.Path.{_≡_, refl, sym, subst, ap}
+use mathlib.Core.Logic.{inl, inr}
+use mathlib.Core.List.{List, _++_}
+use mathlib.Core.Bool.{Bool, true, false, cond}
+use Prim.Native.Nat.{ℕ}
+use native.Mathlib.Omega.{arith}
+use lib.ListN.{length, take, drop}
+use lib.Seq.{take-append-seam}
+use lib.Dec.{leb}
+use Rattle.meaning.specs.Verdicts.{MoreThan}
+use Rattle.meaning.specs.Refusals.{codeOf}
+use Rattle.meaning.specs.RuleFiles.{Rule, alphabetOf, propertyOf, Judgement, judge}
+use Rattle.meaning.specs.Demands.{Reads}
+use Rattle.meaning.specs.declared.Refusal.{Refusal}
+use Rattle.meaning.specs.declared.Built.{Built}
+use Rattle.meaning.specs.declared.Built.the-variants as Built
+use Rattle.meaning.specs.declared.Refusal.the-variants.{ShortOutput}
+use Rattle.ltl.proofs.Instance.{ltlSystem}
+use Rattle.smallest.specs.Table.{Outcome, Table, TooMany, tableOf}
+use Rattle.smallest.specs.Builder.{Built as BuiltBy}
+use Rattle.smallest.proofs.Accepted.{accepted-signals}
+use Rattle.smallest.proofs.Tables.{over-signals}
+use Rattle.smallest.proofs.Smallest.{too-many}
+use Rattle.smallest.proofs.Demands.{demands}
+use Rattle.monitor.specs.Build.{outcomeOf, answerTo, outputOf, answerOf, outputAfter, BuiltRight, RefusedRight, Right}
+
+same-rule : (file : List ℕ) (r r′ : Rule) → Reads file r → Reads file r′ → r ≡ r′
+same-rule file r r′ p q = cc
+
+module _ (file : List ℕ) (r : Rule) (reads : Reads file r) where
+  built-by : (t : List ℕ) → outcomeOf r ≡ Table t → BuiltBy ltlSystem file t
+  unfolding outcomeOf
+  built-by t q = record { rule = r; reads = reads; is = q }
+
+  built-right : (t : List ℕ) → outcomeOf r ≡ Table t → BuiltRight file t
+  built-right t q = record {
+    rule = r;
+    reads = reads;
+    built = built-by t q;
+    demand-2 = demands ltlSystem .demand-2 file r reads;
+    demand-3 = demands ltlSystem .demand-3 file r t reads (built-by t q);
+  }
+
+  short-right : (t : List ℕ) → outcomeOf r ≡ Table t → RefusedRight file 10
+  short-right t q r′ reads′ = inr (refl, demands ltlSystem .demand-2 file r′ reads′ .not-both t (built-by t q))
+
+  many-right : outcomeOf r ≡ TooMany → RefusedRight file 11
+  unfolding outcomeOf
+  many-right q r′ reads′ =
+      inl (refl, subst (λ (x : Rule). MoreThan (alphabetOf x) (propertyOf x) 256) (same-rule file r r′ reads reads′) (too-many (over-signals (accepted-signals file r reads)) (ltlSystem r) q))
+
+  accepted-right : (out : List ℕ) (x : Outcome) → outcomeOf r ≡ x → Right file (outputOf x out) (answerTo x out)
+  accepted-right out (Table t) q = go (leb (length t) (length out))
+    where
+      go : (b : Bool) → Right file (cond b (t ++ drop (length t) out) out) (cond b (Built.Table (length t)) (Built.Refused ShortOutput))
+      go true = rw (take-append-seam t (drop (length t) out)) (built-right t q)
+      go false = short-right t q
+  accepted-right out TooMany q = many-right q
+
+-- whatever the file says
+pub right : (file out : List ℕ) → Right file (outputAfter (judge file) out) (answerOf (judge file) out)
+right file out = go (judge file) refl
+  where
+    go : (j : Judgement) → judge file ≡ j → Right file (outputAfter j out) (answerOf j out)
+    go (Judgement.Accepted r) q = accepted-right file r q out (outcomeOf r) refl
+    go (Judgement.Refused x) q = λ r reads. let z : _≡_ {A = ℕ} 0 1 = cc in absurd (omega arith)

@@ -1,0 +1,128 @@
+-- After building, a run from state 0 over any events shows demand 2's verdict and counts right.
+use mathlib.Core.Path.{_≡_, refl, sym, ap, _∙_, subst}
+use mathlib.Core.Logic.{_↔_}
+use mathlib.Core.List.{List, [], _∷_}
+use mathlib.Core.Bool.{Bool, true, false, cond, _&&_}
+use Prim.Native.Nat.{ℕ, zero, suc, _+_, _^_, _≤_, _<_}
+use native.Mathlib.Omega.{arith}
+use lib.ListN.{length, take, getD}
+use lib.Seq.{take-length}
+use lib.Dec.{ltb, leb}
+use borrow.Author.Tests.{lt-ltb, le-ltb, lt-leb, leb-true}
+use Rattle.sequences.specs.Tabulate.{leastBelow, every, allBelow}
+use Rattle.sequences.proofs.Loops.{least-is}
+use Rattle.sequences.proofs.Tests.{holds}
+use Rattle.meaning.specs.Traces.{over, Word}
+use Rattle.meaning.specs.Verdicts.{Property, Judged}
+use Rattle.meaning.specs.Monitors.{Monitor, Over, follow, shows}
+use Rattle.meaning.specs.RuleFiles.{Rule, alphabetOf, propertyOf}
+use Rattle.meaning.specs.TableFiles.{headerTests, rowTests, isTable, signalsIn, statesIn, monitorOf}
+use Rattle.meaning.specs.Runs.{decides, decidedFrom, endOf, firstBad, ranOf, runOf}
+use Rattle.meaning.specs.Demands.{Reads}
+use Rattle.meaning.specs.declared.Verdict.{Verdict}
+use Rattle.meaning.specs.declared.Verdict.the-variants.{Undecided, Satisfied, Violated, Moot}
+use Rattle.meaning.specs.declared.Decided.{Decided}
+use Rattle.meaning.specs.declared.Decided.the-variants.{After, Never}
+use Rattle.monitor.specs.Build.{BuiltRight}
+use Rattle.monitor.specs.Running.{CountRight, RunRight}
+
+-- ---- the count of a run of any monitor
+
+abbrev verdictAfter : Monitor → ℕ → List ℕ → Bool
+verdictAfter m s w = decides (m .verdict (follow m s w))
+
+abbrev Counted : Monitor → ℕ → ℕ → List ℕ → Decided → Type 0
+Counted m n s es (After j) = (i : ℕ) × (j ≡ n + i) × (i ≤ length es) × (verdictAfter m s (take i es) ≡ true) × ((k : ℕ) → k < i → verdictAfter m s (take k es) ≡ false)
+Counted m n s es Never = (k : ℕ) → k ≤ length es → verdictAfter m s (take k es) ≡ false
+
+counted-next : (m : Monitor) (n s e : ℕ) (es : List ℕ) (d : Decided) → decides (m .verdict s) ≡ false → Counted m (suc n) (m .next s e) es d → Counted m n s (e ∷ es) d
+counted-next m n s e es (After j) f (i, p, l, t, b) = (suc i, omega arith, omega arith, t, below)
+  where
+    below : (k : ℕ) → k < suc i → verdictAfter m s (take k (e ∷ es)) ≡ false
+    below zero h = f
+    below (suc k) h = b k (omega arith)
+counted-next m n s e es Never f b = below
+  where
+    below : (k : ℕ) → k ≤ suc (length es) → verdictAfter m s (take k (e ∷ es)) ≡ false
+    below zero h = f
+    below (suc k) h = b k (omega arith)
+
+counted : (m : Monitor) (n s : ℕ) (es : List ℕ) → Counted m n s es (decidedFrom m n s es)
+unfolding decidedFrom
+counted m n s [] = go (decides (m .verdict s)) refl
+  where
+    go : (b : Bool) → decides (m .verdict s) ≡ b → Counted m n s [] (cond b (After n) Never)
+    go true q = (0, omega arith, omega arith, q, λ k h. absurd (omega arith))
+    go false q = below
+      where
+        below : (k : ℕ) → k ≤ 0 → verdictAfter m s (take k []) ≡ false
+        below zero h = q
+        below (suc k) h = absurd (omega arith)
+counted m n s (e ∷ es) = go (decides (m .verdict s)) refl (counted m (suc n) (m .next s e) es)
+  where
+    go : (b : Bool) → decides (m .verdict s) ≡ b → Counted m (suc n) (m .next s e) es (decidedFrom m (suc n) (m .next s e) es)
+        → Counted m n s (e ∷ es) (cond b (After n) (decidedFrom m (suc n) (m .next s e) es))
+    go true q c = (0, omega arith, omega arith, q, λ k h. absurd (omega arith))
+    go false q c = counted-next m n s e es (decidedFrom m (suc n) (m .next s e) es) q c
+
+-- ---- words
+
+all-good : (P : ℕ) (es : List ℕ) → Word (over P) es → (k : ℕ) → k < length es → leb (2 ^ P) (getD es k 0) ≡ false
+all-good P [] a k h = absurd (omega arith)
+all-good P (e ∷ es) a zero h = lt-leb (2 ^ P) e (a .0 .0)
+all-good P (e ∷ es) a (suc k) h = all-good P es (a .1) k (omega arith)
+
+none-bad : (P : ℕ) (es : List ℕ) → Word (over P) es → firstBad P es ≡ length es
+none-bad P es a = least-is (length es) (λ i. leb (2 ^ P) (getD es i 0)) (length es) (omega arith) (all-good P es a) (λ h. absurd (omega arith))
+
+word-take : (P k : ℕ) (es : List ℕ) → Word (over P) es → Word (over P) (take k es)
+word-take P zero es a = tt
+word-take P (suc k) [] a = tt
+word-take P (suc k) (e ∷ es) a = (a .0, word-take P k es (a .1))
+
+undecided : (v : Verdict) → decides v ≡ false → v ≡ Undecided
+undecided Undecided q = refl
+undecided Satisfied q = let z : _≡_ {A = ℕ} 0 1 = cc in absurd (omega arith)
+undecided Violated q = let z : _≡_ {A = ℕ} 0 1 = cc in absurd (omega arith)
+undecided Moot q = let z : _≡_ {A = ℕ} 0 1 = cc in absurd (omega arith)
+
+-- ---- the run
+
+module _ (P : ℕ) (L : Property) (m : Monitor) (start : m .start ≡ 0) (says : (w : List ℕ) → Word (over P) w → (v : Verdict) → (shows m w ≡ v) ↔ Judged (over P) L w v) (es : List ℕ) (a : Word (over P) es) where
+  from-start : (k : ℕ) → verdictAfter m 0 (take k es) ≡ decides (shows m (take k es))
+  from-start k = ap (λ (s : ℕ). decides (m .verdict (follow m s (take k es)))) (sym start)
+
+  not-yet : (k : ℕ) → verdictAfter m 0 (take k es) ≡ false → Judged (over P) L (take k es) Undecided
+  not-yet k q = says (take k es) (word-take P k es a) Undecided .0 (undecided (shows m (take k es)) (sym (from-start k) ∙ q))
+
+  count-right : (d : Decided) → Counted m 0 0 es d → CountRight (over P) L es d
+  count-right (After j) (i, p, l, t, b) =
+      let e : j ≡ i = omega arith in
+      subst (λ (n : ℕ). CountRight (over P) L es (After n)) (sym e)
+      (l, λ u. (let q : shows m (take i es) ≡ Undecided = says (take i es) (word-take P i es a) Undecided .1 u in let f = sym t ∙ from-start i ∙ ap decides q in let z : _≡_ {A = ℕ} 0 1 = cc in omega arith), λ k h. not-yet k (b k h))
+  count-right Never b = λ k h. not-yet k (b k h)
+
+  end-right : RunRight (over P) L es (endOf m 0 es)
+  end-right = (says es a (m .verdict (follow m 0 es)) .0 (ap (λ (s : ℕ). m .verdict (follow m s es)) start), count-right (decidedFrom m 0 0 es) (counted m 0 0 es))
+
+  run-right : 0 < m .states → RunRight (over P) L es (ranOf m P 0 es)
+  run-right h = rw (lt-ltb 0 (m .states) h, none-bad P es a, le-ltb (length es) (length es) (omega arith)) end-right
+
+header-passed : (t : List ℕ) → isTable t ≡ true → every (headerTests t) ≡ true
+unfolding isTable
+header-passed t q = go (every (headerTests t)) q
+  where
+    go : (b : Bool) → (b && allBelow (statesIn t) (λ s. every (rowTests t (signalsIn t) (statesIn t) s))) ≡ true → b ≡ true
+    go true e = refl
+    go false e = e
+
+some-state : (t : List ℕ) → isTable t ≡ true → 0 < statesIn t
+some-state t q = leb-true 1 (statesIn t) (holds (headerTests t) (header-passed t q) 5)
+
+-- the second theorem: building and running together
+pub built-run : (file table : List ℕ) (b : BuiltRight file table) (es : List ℕ) → Word (alphabetOf (b .rule)) es
+    → RunRight (alphabetOf (b .rule)) (propertyOf (b .rule)) es (runOf table 0 es)
+built-run file table b es a =
+    rw (b .demand-3 .form)
+    (subst (λ (P : ℕ). RunRight (alphabetOf (b .rule)) (propertyOf (b .rule)) es (ranOf (monitorOf table) P 0 es)) (sym (b .demand-3 .signals))
+    (run-right (b .rule .signals) (propertyOf (b .rule)) (monitorOf table) refl (b .demand-2 .verdicts table (b .built)) es a (some-state table (b .demand-3 .form))))

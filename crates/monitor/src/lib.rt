@@ -1,0 +1,1 @@
+// Reads a rule file and builds its table.
