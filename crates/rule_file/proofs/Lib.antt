@@ -1,0 +1,5 @@
+pub mod Checks
+pub mod Shapes
+pub mod Fits
+pub mod Records
+pub mod Nodes

@@ -1,0 +1,136 @@
+-- `rule_file::read` meets its contract. The invariant is `Progress`: what is left to judge is what was to be judged. The measure is how many nodes are left.
+use native.Mathlib.Omega.{arith}
+use borrow.Author.Needs.{needs}
+use denote.Ref.{now}
+use mathlib.Core.Path.{sym, ap, _∙_}
+use mathlib.Core.Bool.{cond}
+use Prim.Native.Nat.{_-_}
+use Rattle.meaning.specs.declared.Opening.{Opening}
+use Rattle.meaning.specs.declared.Reading.{Reading}
+use Rattle.rule_file.specs.Reading.{readOf, handedOnOpening, handedOn}
+use Rattle.rule_file.specs.declared.Shape.{Shape}
+use Rattle.rule_file.proofs.Records.{header-few, node-kind}
+use Rattle.rule_file.proofs.Nodes.{Progress, judged, judged-refused, progress-none, progress-more, progress-refused, progress-over, progress-accepted}
+use Rattle.rule_file.proofs.read.Statement.{statement}
+use Rattle.rule_file.proofs.read.Tie as tie
+
+abbrev Inv-loop : tie.InvT-loop
+Inv-loop bytes signals count nodes₀ p₀ seen₀ i₀ nodes p seen i = Progress bytes signals count nodes p seen i
+
+abbrev μ-loop : tie.MeasureT-loop
+μ-loop bytes signals count nodes₀ p₀ seen₀ i₀ nodes p seen i = count - i
+
+read-header-requires : tie.Need-read-header-requires Inv-loop μ-loop
+read-header-requires c κs = search needs
+
+enum-known-opening : tie.Need-enum-known-opening Inv-loop μ-loop
+enum-known-opening c = search needs
+
+enum-told : tie.Need-enum-told Inv-loop μ-loop
+enum-told c = search needs
+
+handed-on-opening-requires : tie.Need-handed-on-opening-requires Inv-loop μ-loop
+handed-on-opening-requires c κs = search needs
+
+returns : tie.Need-returns Inv-loop μ-loop
+returns c = c .handed-on-opening .ensures ∙ ap (λ (o : Opening). readOf (handedOnOpening o)) (c .before .enum-told .given .1) ∙ sym (ap readOf (judged-refused (now (c .before .before .before .before .before .args .bytes)) _ (sym (c .before .before .before .read-header .ensures) ∙ c .before .enum-told .given .1)))
+
+blanks-requires : tie.Need-blanks-requires Inv-loop μ-loop
+blanks-requires c κs = search needs
+
+loop-holds : tie.Need-loop-holds Inv-loop μ-loop
+loop-holds c = let few = header-few (now (c .before .before .before .before .before .before .args .bytes)) _ (sym (c .before .before .before .before .read-header .ensures) ∙ c .before .before .opening .given .1) in progress-none (few .0) (few .1) (c .blanks .ensures)
+
+read-node-requires : tie.Need-read-node-requires Inv-loop μ-loop
+read-node-requires c κs = omega (arith, c .before .loop .inv .signals, c .before .loop .inv .near, c .before .loop .inv .within, c .before .loop .inv .room)
+
+enum-known-reading : tie.Need-enum-known-reading Inv-loop μ-loop
+enum-known-reading c = search needs
+
+enum-told-2 : tie.Need-enum-told-2 Inv-loop μ-loop
+enum-told-2 c = search needs
+
+handed-on-requires : tie.Need-handed-on-requires Inv-loop μ-loop
+handed-on-requires c κs = search needs
+
+returns-2 : tie.Need-returns-2 Inv-loop μ-loop
+returns-2 c = c .handed-on .ensures ∙ ap (λ (r : Reading). readOf (handedOn r)) (c .before .enum-told2 .given .1) ∙ sym (ap readOf (judged (now (c .before .before .before .before .before .before .before .before .before .before .before .before .args .bytes)) _ (sym (c .before .before .before .before .before .before .before .before .before .before .read-header .ensures) ∙ c .before .before .before .before .before .before .before .before .opening .given .1) ∙ progress-refused (c .before .before .before .before .before .loop .inv) _ (c .before .before .before .before .loop-test .taken) (sym (c .before .before .before .read-node .ensures) ∙ c .before .enum-told2 .given .1)))
+
+shape-of-requires : tie.Need-shape-of-requires Inv-loop μ-loop
+shape-of-requires c κs = node-kind (now (c .before .before .before .before .before .before .before .before .before .before .before .before .args .bytes)) _ (c .before .before .before .before .before .loop .p) (c .before .before .before .before .before .loop .i) (c .before .before .before .before .before .loop .seen) _ (sym (c .before .before .before .read-node .ensures) ∙ c .before .reading .given .1)
+
+wide-requires : tie.Need-wide-requires Inv-loop μ-loop
+wide-requires c κs = search needs
+
+mul-nodes : tie.Need-mul-nodes Inv-loop μ-loop
+mul-nodes c = omega (arith, c .wide .ensures .1)
+
+array-set-from-nodes : tie.Need-array-set-from-nodes Inv-loop μ-loop
+array-set-from-nodes c = omega (arith, c .wide .ensures .0, c .before .before .before .before .before .before .loop-test .taken, c .before .before .before .before .before .before .before .loop .inv .room)
+
+wide-requires-2 : tie.Need-wide-requires-2 Inv-loop μ-loop
+wide-requires-2 c κs = search needs
+
+add-p : tie.Need-add-p Inv-loop μ-loop
+add-p c = omega (arith, c .wide2 .ensures .1)
+
+add-p-2 : tie.Need-add-p-2 Inv-loop μ-loop
+add-p-2 c = omega (arith, c .wide2 .ensures .1, c .before .before .before .before .before .before .before .before .loop .inv .near, c .before .before .before .before .before .before .before .before .loop .inv .within, c .before .before .before .before .before .before .before .before .loop .inv .room)
+
+counted-requires : tie.Need-counted-requires Inv-loop μ-loop
+counted-requires c κs = search needs
+
+add-seen : tie.Need-add-seen Inv-loop μ-loop
+add-seen c = omega (arith, c .counted .ensures .1, c .before .before .before .before .before .before .before .before .before .loop .inv .few, c .before .before .before .before .before .before .before .before .before .loop .inv .within, c .before .before .before .before .before .before .before .before .before .loop .inv .room)
+
+add-i : tie.Need-add-i Inv-loop μ-loop
+add-i c = omega (arith, c .before .before .before .before .before .before .before .before .loop-test .taken, c .before .before .before .before .before .before .before .before .before .loop .inv .room)
+
+loop-less : tie.Need-loop-less Inv-loop μ-loop
+loop-less c = omega (arith, c .before .before .before .before .before .before .before .before .loop-test .taken)
+
+loop-again : tie.Need-loop-again Inv-loop μ-loop
+loop-again c = progress-more (c .before .before .before .before .before .before .before .before .before .loop .inv) (c .before .before .before .before .before .reading .given .0 .0) (c .before .before .wide .result) (c .before .wide2 .result) (c .counted .result) (c .before .before .before .before .before .before .before .before .loop-test .taken) (sym (c .before .before .before .before .before .before .before .read-node .ensures) ∙ c .before .before .before .before .before .reading .given .1) (c .before .before .wide .ensures .0) (c .before .wide2 .ensures .0 ∙ ap (λ (s : Shape). s .body) (c .before .before .before .shape-of .ensures)) (c .before .wide2 .ensures .1) (c .counted .ensures .0 ∙ ap (λ (s : Shape). cond (s .temporal) 1 0) (c .before .before .before .shape-of .ensures)) (c .counted .ensures .1)
+
+refused-requires : tie.Need-refused-requires Inv-loop μ-loop
+refused-requires c κs = search needs
+
+returns-3 : tie.Need-returns-3 Inv-loop μ-loop
+returns-3 c = c .refused .ensures ∙ sym (ap readOf (judged (now (c .before .before .before .before .before .before .before .before .before .before .args .bytes)) _ (sym (c .before .before .before .before .before .before .before .before .read-header .ensures) ∙ c .before .before .before .before .before .before .opening .given .1) ∙ progress-over (c .before .before .before .loop .inv) (c .before .before .loop-test .left) (c .before .if1 .taken)))
+
+returns-4 : tie.Need-returns-4 Inv-loop μ-loop
+returns-4 c = progress-accepted (c .before .before .loop .inv) (c .before .loop-test .left) (c .if1 .left) ∙ sym (ap readOf (judged (now (c .before .before .before .before .before .before .before .before .before .args .bytes)) _ (sym (c .before .before .before .before .before .before .before .read-header .ensures) ∙ c .before .before .before .before .before .opening .given .1)))
+
+pub read-spec : {M : Type 1} → statement M
+read-spec =
+    tie.close
+    (tie.spec
+    Inv-loop
+    μ-loop
+    read-header-requires
+    enum-known-opening
+    enum-told
+    handed-on-opening-requires
+    returns
+    blanks-requires
+    loop-holds
+    read-node-requires
+    enum-known-reading
+    enum-told-2
+    handed-on-requires
+    returns-2
+    shape-of-requires
+    wide-requires
+    mul-nodes
+    array-set-from-nodes
+    wide-requires-2
+    add-p
+    add-p-2
+    counted-requires
+    add-seen
+    add-i
+    loop-less
+    loop-again
+    refused-requires
+    returns-3
+    returns-4)
