@@ -1,5 +1,5 @@
 -- The answer and the output of building meet the demands.
-use mathlib.Core.Path.{_≡_, refl, sym, subst, ap}
+use mathlib.Core.Path.{_≡_, refl, sym, subst, subst₂, ap, _∙_}
 use mathlib.Core.Logic.{inl, inr}
 use mathlib.Core.List.{List, _++_}
 use mathlib.Core.Bool.{Bool, true, false, cond}
@@ -65,3 +65,11 @@ right file out = go (judge file) refl
     go : (j : Judgement) → judge file ≡ j → Right file (outputAfter j out) (answerOf j out)
     go (Judgement.Accepted r) q = accepted-right file r q out (outcomeOf r) refl
     go (Judgement.Refused x) q = λ r reads. let z : _≡_ {A = ℕ} 0 1 = cc in absurd (omega arith)
+
+-- the contract of building, from the answer and the output at the judgement j of the file
+pub all-right : (file before after : List ℕ) (b : Built) (j : Judgement) → judge file ≡ j → b ≡ answerOf j before → after ≡ outputAfter j before
+    → (b ≡ answerOf (judge file) before) × ((after ≡ outputAfter (judge file) before) × Right file after b)
+all-right file before after b j q p o =
+    let p′ : b ≡ answerOf (judge file) before = p ∙ ap (λ (x : Judgement). answerOf x before) (sym q) in
+    let o′ : after ≡ outputAfter (judge file) before = o ∙ ap (λ (x : Judgement). outputAfter x before) (sym q) in
+    (p′, (o′, subst₂ (λ (a : List ℕ) (x : Built). Right file a x) (sym o′) (sym p′) (right file before)))

@@ -1,1 +1,89 @@
-// Reads a rule file and builds its table.
+// Reads a rule file and builds its table: the smallest that shows the rule's verdicts.
+ghost use mathlib.Core.Path.{_≡_};
+ghost use mathlib.Core.List.{List};
+ghost use Prim.Native.Nat.{ℕ, _≤_};
+ghost use lib.ListN.{length};
+ghost use Rattle.meaning.specs.Traces.{over};
+ghost use Rattle.moore.specs.Grouping.{Machine};
+ghost use mathlib.Core.Bool.{Bool};
+ghost use Rattle.meaning.specs.RuleFiles.{Accepted, judge};
+ghost use Rattle.smallest.proofs.Accepted.{Formed};
+ghost use Rattle.monitor.specs.Build.{answerOf, outputAfter, Right};
+ghost use Rattle.monitor.specs.Parts.{Finished, ruleIn};
+use exploration::Walked;
+use meaning::{Built, Node, Refusal};
+use rule_file::Outcome;
+
+// 256 rows of zeros.
+fn no_rows() -> [[u16; 16]; 256]
+    ensures { λ r. ⌜ length {A = List ℕ} r ≡ 256 ⌝ }
+{
+    [[0; 16]; 256]
+}
+
+fn zeros() -> [u8; 256]
+    ensures { λ r. ⌜ length r ≡ 256 ⌝ }
+{
+    [0; 256]
+}
+
+// Groups the states that no word tells apart, and writes the table.
+fn finish(signals: u8, states: u16, classes: &[u8; 256], rows: [[u16; 16]; 256], table: &mut [u8]) -> Built
+    requires { ⌜ (signals ≤ 4) × (states ≤ 256) ⌝ }
+    requires { ⌜ Machine (over signals) states rows (now classes) ⌝ }
+    ensures { λ r. ⌜ Finished signals states rows (now (classes .entry)) (now (table .entry)) r (now (table .exit)) ⌝ }
+{
+    let mut verdicts = zeros();
+    let mut to = no_rows();
+    let groups = grouping::reduce(signals, states, classes, rows, &mut verdicts, &mut to);
+    table_writer::write(table, signals, groups, &verdicts, &to)
+}
+
+fn no_places() -> [[u8; 128]; 16]
+    ensures { λ r. ⌜ length {A = List ℕ} r ≡ 16 ⌝ }
+{
+    [[0; 128]; 16]
+}
+
+fn nowhere() -> [bool; 256]
+    ensures { λ r. ⌜ length {A = Bool} r ≡ 256 ⌝ }
+{
+    [false; 256]
+}
+
+// Builds the table of an accepted rule: the tables of its residuals, the walk over them, and what follows.
+fn construct(signals: u8, count: u8, nodes: [Node; 64], table: &mut [u8]) -> Built
+    requires { ⌜ Formed (ruleIn signals count nodes) × (count ≤ 64) ⌝ }
+    ensures { λ r. ⌜ r ≡ answerOf (Accepted (ruleIn signals count nodes)) (now (table .entry)) ⌝ }
+    ensures { λ _. ⌜ now (table .exit) ≡ outputAfter (Accepted (ruleIn signals count nodes)) (now (table .entry)) ⌝ }
+{
+    let mut places = no_places();
+    let mut whole = nowhere();
+    let m = labelling::tables(signals, count, nodes, &mut places, &mut whole);
+    let labels = labelling::power(m);
+    let mut rows = no_rows();
+    let mut classes = zeros();
+    let walked = exploration::explore(signals, labels, &places, &whole, &mut rows, &mut classes);
+    let Walked::Closed(states) = walked else {
+        return Built::Refused(Refusal::TooManyResiduals);
+    };
+    finish(signals, states, &classes, rows, table)
+}
+
+// Builds the table of a rule file at the front of `table`. The answer is the table's length, or the refusal: 1 to 9 by the file, then 11, then 10.
+// Bytes past the table, and on a refusal all bytes, keep their values.
+pub fn build(rule: &[u8], table: &mut [u8]) -> Built
+    ensures answer { λ r. ⌜ r ≡ answerOf (judge (now (rule .entry))) (now (table .entry)) ⌝ }
+    ensures output { λ _. ⌜ now (table .exit) ≡ outputAfter (judge (now (rule .entry))) (now (table .entry)) ⌝ }
+    ensures demands { λ r. ⌜ Right (now (rule .entry)) (now (table .exit)) r ⌝ }
+{
+    let read = rule_file::read(rule);
+    let outcome = read.outcome;
+    match outcome {
+        Outcome::Refused(why) => Built::Refused(why),
+        Outcome::Accepted => {
+            let nodes = read.nodes;
+            construct(read.signals, read.count, nodes, table)
+        }
+    }
+}

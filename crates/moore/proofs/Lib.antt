@@ -10,3 +10,4 @@ pub mod Ascending
 pub mod Ordered
 pub mod Order
 pub mod Reduction
+pub mod Extensional

@@ -3,7 +3,12 @@
 ghost use mathlib.Core.Path.{_≡_};
 ghost use Prim.Native.Nat.{_≤_, _<_};
 ghost use lib.ListN.{length};
-use meaning::{Built, Checked, Decided, Ran, Refusal, Verdict};
+use meaning::Built;
+use meaning::Checked;
+use meaning::Decided;
+use meaning::Ran;
+use meaning::Refusal;
+use meaning::Verdict;
 
 // The next two bytes as a number, or 65,536 where the input has ended.
 fn number() -> usize

@@ -1,0 +1,6 @@
+pub mod Words
+pub mod Tables
+pub mod Lists
+pub mod Steps
+pub mod SameSteps
+pub mod Explored

@@ -1,0 +1,98 @@
+-- What the answers of the walk's functions say of the model.
+use mathlib.Core.Path.{_≡_}
+use mathlib.Core.Bool.{cond}
+use mathlib.Core.List.{List, []}
+use Prim.Native.Nat.{ℕ, _^_, _<_}
+use lib.ListN.{length, getD}
+use lib.Dec.{eqb}
+use Rattle.meaning.specs.Traces.{over}
+use Rattle.ltl.specs.Keys.{Tables, startKey, stepKey, emptyKey, fullKey}
+use Rattle.walk.specs.Explore.{Explored, within, beyond, enter, expand, explore}
+use Rattle.exploration.specs.Arrays.{eventsBelow, keysIn, KeysFit, rowIn}
+use Rattle.exploration.specs.declared.Entered.{Entered}
+use Rattle.exploration.specs.declared.Entered.the-variants as Entered
+use Rattle.exploration.specs.declared.Grown.{Grown}
+use Rattle.exploration.specs.declared.Grown.the-variants as Grown
+use Rattle.exploration.specs.declared.Walked.{Walked}
+use Rattle.exploration.specs.declared.Walked.the-variants as Walked
+
+-- the walk over the keys of the tables, with the events below `width` and at most 256 keys
+abbrev pub expandKey : Tables → ℕ → ℕ → List ℕ → Explored ℕ (List ℕ)
+expandKey t width k keys = expand eqb (stepKey t) (startKey t) (eventsBelow width) 256 k keys
+
+abbrev pub exploreBelow : Tables → ℕ → Explored ℕ (List (List ℕ))
+exploreBelow t width = explore eqb (stepKey t) (startKey t) (eventsBelow width) 256
+
+-- over P signals
+abbrev pub exploreKeys : Tables → ℕ → Explored ℕ (List (List ℕ))
+exploreKeys t P = explore eqb (stepKey t) (startKey t) (over P) 256
+
+-- the class of a key: 2 no continuation satisfies the rule, 1 every one does, 0 neither
+abbrev pub classOf : Tables → ℕ → ℕ
+classOf t k = cond (emptyKey k) 2 (cond (fullKey t k) 1 0)
+
+-- the same, from the key of all continuations
+abbrev pub classBy : ℕ → ℕ → ℕ
+classBy full k = cond (eqb k 0) 2 (cond (eqb k full) 1 0)
+
+-- ---- the answers of the functions below `explore`
+
+-- the model went beyond the limit
+pub record Beyond {A : Type 0} (m : Explored ℕ A) : Type 0 where
+  pub keys : List ℕ
+  pub key : ℕ
+  pub is : m ≡ beyond keys key
+
+-- the model kept within the limit with the answer a, and its keys are the first `count` of the array
+pub record Within {A : Type 0} (m : Explored ℕ A) (count : ℕ) (keys : List (List ℕ)) (a : A) : Type 0 where
+  pub is : m ≡ within (keysIn count keys) a
+  pub fit : KeysFit count keys
+
+abbrev pub EnteredAs : Explored ℕ ℕ → List (List ℕ) → Entered → Type 0
+EnteredAs m keys (Entered.At i count) = Within m count keys i × (i < 256)
+EnteredAs m keys Entered.Full = Beyond m
+
+-- a key entered among others, whatever is read past them
+abbrev pub Enters : List ℕ → ℕ → List (List ℕ) → Entered → Type 0
+Enters ks k keys r = (s : ℕ) → EnteredAs (enter eqb s 256 ks k) keys r
+
+abbrev pub GrownAs : Explored ℕ (List ℕ) → ℕ → List (List ℕ) → List ℕ → Grown → Type 0
+GrownAs m width keys row (Grown.To count) = Within m count keys (rowIn width row)
+GrownAs m width keys row Grown.Full = Beyond m
+
+-- the walk closed with `count` states, whose rows the array has
+pub record Ended (m : Explored ℕ (List (List ℕ))) (width count : ℕ) (keys rows : List (List ℕ)) : Type 0 where
+  pub states : List (List ℕ)
+  pub is : m ≡ within (keysIn count keys) states
+  pub fit : KeysFit count keys
+  pub long : length rows ≡ 256
+  pub successors : (s e : ℕ) → s < count → e < width → getD (getD rows s []) e 0 ≡ getD (getD states s []) e 0
+
+abbrev pub WalkedAs : Explored ℕ (List (List ℕ)) → ℕ → List (List ℕ) → List (List ℕ) → List (List ℕ) → Walked → Type 0
+WalkedAs m width keys rows₀ rows (Walked.Closed count) = Ended m width count keys rows
+WalkedAs m width keys rows₀ rows Walked.TooMany = Beyond m × (rows ≡ rows₀)
+
+-- ---- the answer of `explore`
+
+-- the model's walk closed with these keys and rows
+pub record ClosedAs (P : ℕ) (t : Tables) (keys : List ℕ) (states : List (List ℕ)) (r : Walked) (rows : List (List ℕ)) (classes : List ℕ) : Type 0 where
+  pub count : r ≡ Walked.Closed (length keys)
+  pub successors : (s e : ℕ) → s < length keys → e < 2 ^ P → getD (getD rows s []) e 0 ≡ getD (getD states s []) e 0
+  pub class : (s : ℕ) → s < length keys → getD classes s 0 ≡ classOf t (getD keys s (startKey t))
+  pub rows-long : length rows ≡ 256
+  pub classes-long : length classes ≡ 256
+
+-- a 257th key: the arrays are as they were
+pub record StoppedAs (r : Walked) (rows₀ rows : List (List ℕ)) (classes₀ classes : List ℕ) : Type 0 where
+  pub over : r ≡ Walked.TooMany
+  pub rows-kept : rows ≡ rows₀
+  pub classes-kept : classes ≡ classes₀
+
+-- by cases of the model's walk; the arrays before and after
+abbrev pub ExploredAs : ℕ → Tables → Explored ℕ (List (List ℕ)) → Walked → List (List ℕ) → List (List ℕ) → List ℕ → List ℕ → Type 0
+ExploredAs P t (within keys states) r rows₀ rows classes₀ classes = ClosedAs P t keys states r rows classes
+ExploredAs P t (beyond keys k) r rows₀ rows classes₀ classes = StoppedAs r rows₀ rows classes₀ classes
+
+-- the walk over the keys of the tables, at P signals
+abbrev pub Explores : ℕ → Tables → Walked → List (List ℕ) → List (List ℕ) → List ℕ → List ℕ → Type 0
+Explores P t r rows₀ rows classes₀ classes = ExploredAs P t (exploreKeys t P) r rows₀ rows classes₀ classes

@@ -1,0 +1,67 @@
+-- How the walk's tables, keys and rows stand in arrays.
+use mathlib.Core.Path.{_≡_}
+use mathlib.Core.Bool.{Bool, true, false}
+use mathlib.Core.List.{List, []}
+use Prim.Native.Nat.{ℕ, _+_, _*_, _/_, _%_, _^_, _≤_, _<_}
+use lib.ListN.{length, getD}
+use lib.Dec.{eqb}
+use Rattle.sequences.specs.Tabulate.{tabulate}
+use Rattle.meaning.specs.Traces.{Alphabet}
+use Rattle.ltl.specs.Sets.{on, setBelow}
+use Rattle.ltl.specs.Keys.{Tables}
+use Rattle.labelling.specs.Arrays.{TablesIn}
+
+-- the set of the places at which the array is true
+unfoldable pub setIn : List Bool → ℕ
+setIn bits = setBelow 256 (λ p. getD bits p false)
+
+-- 64 of them as a set of numbers below 64: the word number j
+unfoldable pub wordIn : List Bool → ℕ → ℕ
+wordIn bits j = setBelow 64 (λ i. getD bits (64 * j + i) false)
+
+-- of the places below p, the array is true at those that pass the test f
+pub record Marked (p : ℕ) (f : ℕ → Bool) (bits : List Bool) : Type 0 where
+  pub long : length bits ≡ 256
+  pub at : (q : ℕ) → q < p → getD bits q false ≡ f q
+
+-- the tables that the arrays hold, with n labels
+abbrev pub tablesIn : ℕ → List (List ℕ) → List Bool → Tables
+tablesIn n places whole = record { labels = n; places = places; whole = setIn whole }
+
+-- the arrays are in order for n labels and the events below `width`
+abbrev pub Tabled : ℕ → ℕ → List (List ℕ) → List Bool → Type 0
+Tabled width n places whole = TablesIn width n (tablesIn n places whole) places whole
+
+-- all events below `width`
+abbrev pub eventsBelow : ℕ → Alphabet
+eventsBelow width = record { width = width; possible = λ _. true }
+
+-- the set of at most 256 numbers in four words: q is in it if bit q % 64 of word q / 64 is 1
+unfoldable pub keyOf : List ℕ → ℕ
+keyOf words = setBelow 256 (λ q. on (getD words (q / 64) 0) (q % 64))
+
+-- each is a word of 64 bits
+pub record WordsFit (words : List ℕ) : Type 0 where
+  pub small : (j : ℕ) → j < 4 → getD words j 0 < 2 ^ 64
+
+-- the first `count` keys of an array
+abbrev pub keysIn : ℕ → List (List ℕ) → List ℕ
+keysIn count keys = tabulate count (λ i. keyOf (getD keys i []))
+
+-- key i of the array is k
+abbrev pub metAt : List (List ℕ) → ℕ → ℕ → Bool
+metAt keys k i = eqb (keyOf (getD keys i [])) k
+
+-- there are so many keys, one at least
+pub record KeysFit (count : ℕ) (keys : List (List ℕ)) : Type 0 where
+  pub some : 1 ≤ count
+  pub few : count ≤ 256
+  pub room : length keys ≡ 256
+  pub words : (i : ℕ) → i < count → WordsFit (getD keys i [])
+
+-- the first `width` entries of a row, and the first `count` rows of an array
+abbrev pub rowIn : ℕ → List ℕ → List ℕ
+rowIn width row = tabulate width (λ e. getD row e 0)
+
+abbrev pub rowsIn : ℕ → ℕ → List (List ℕ) → List (List ℕ)
+rowsIn width count rows = tabulate count (λ s. rowIn width (getD rows s []))

@@ -1,0 +1,345 @@
+// The breadth-first walk over the keys of remaining properties. A key is a set of at most 256 places, in four words.
+ghost use mathlib.Core.Path.{_≡_};
+ghost use mathlib.Core.Bool.{cond};
+ghost use mathlib.Core.List.{[], _++_};
+ghost use Prim.Native.Nat.{_+_, _%_, _^_, _≤_, _<_};
+ghost use lib.ListN.{length, getD, set, drop};
+ghost use lib.Dec.{eqb};
+ghost use Rattle.sequences.specs.Tabulate.{tabulate, leastBelow};
+ghost use Rattle.ltl.specs.Sets.{on};
+ghost use Rattle.ltl.specs.Residuals.{preimage, ruleTrue};
+ghost use Rattle.ltl.specs.Keys.{look, startKey, stepKey};
+ghost use Rattle.exploration.specs.Arrays.{setIn, wordIn, Marked, tablesIn, Tabled, keyOf, WordsFit, keysIn, KeysFit, metAt};
+ghost use Rattle.exploration.specs.Answers.{expandKey, exploreBelow, classBy, Enters, GrownAs, WalkedAs, Explores};
+use wire::wide;
+use wire::wide16;
+
+// The walk closed, with so many states; or it met a 257th key.
+pub enum Walked {
+    Closed(u16),
+    TooMany,
+}
+
+// The number of a key, and how many keys there are now; or there is no room for it.
+pub enum Entered {
+    At(usize, usize),
+    Full,
+}
+
+// How many keys there are now; or there was no room for one.
+pub enum Grown {
+    To(usize),
+    Full,
+}
+
+// How many events there are over so many signals.
+fn width(signals: u8) -> usize
+    requires { ⌜ signals ≤ 4 ⌝ }
+    ensures { λ r. ⌜ (r ≡ 2 ^ signals) × (r ≤ 16) ⌝ }
+{
+    1 << signals
+}
+
+// ---- keys
+
+fn digit(b: bool) -> u64
+    ensures { λ r. ⌜ (r ≡ cond b 1 0) × (r ≤ 1) ⌝ }
+{
+    if b { 1 } else { 0 }
+}
+
+fn word_of(bits: &[bool; 256], j: usize) -> u64
+    requires { ⌜ j < 4 ⌝ }
+    ensures { λ r. ⌜ r ≡ wordIn (now (bits .entry)) j ⌝ }
+{
+    let mut word: u64 = 0;
+    let mut i: usize = 64;
+    while 0 < i {
+        i -= 1;
+        word = word * 2 + digit(bits[64 * j + i]);
+    }
+    word
+}
+
+fn pack(bits: &[bool; 256]) -> [u64; 4]
+    ensures { λ r. ⌜ WordsFit r × (keyOf r ≡ setIn (now (bits .entry))) ⌝ }
+{
+    [
+        word_of(bits, 0),
+        word_of(bits, 1),
+        word_of(bits, 2),
+        word_of(bits, 3),
+    ]
+}
+
+fn member(key: &[u64; 4], q: usize) -> bool
+    requires { ⌜ q < 256 ⌝ }
+    ensures { λ r. ⌜ r ≡ on (keyOf (now (key .entry))) q ⌝ }
+{
+    (key[q / 64] >> (q % 64)) % 2 == 1
+}
+
+fn same_key(a: [u64; 4], b: [u64; 4]) -> bool
+    requires { ⌜ WordsFit a × WordsFit b ⌝ }
+    ensures { λ r. ⌜ r ≡ eqb (keyOf a) (keyOf b) ⌝ }
+{
+    if a[0] != b[0] {
+        return false;
+    }
+    if a[1] != b[1] {
+        return false;
+    }
+    if a[2] != b[2] {
+        return false;
+    }
+    a[3] == b[3]
+}
+
+// Whether a place is in the key before any event.
+fn starts(whole: &[bool; 256], n: usize, p: usize) -> bool
+    requires { ⌜ p < 256 ⌝ }
+    ensures { λ r. ⌜ r ≡ ruleTrue n (setIn (now (whole .entry))) p ⌝ }
+{
+    if p < n {
+        return false;
+    }
+    whole[p]
+}
+
+fn start_places(whole: &[bool; 256], n: usize) -> [bool; 256]
+    ensures { λ r. ⌜ Marked 256 (ruleTrue n (setIn (now (whole .entry)))) r ⌝ }
+{
+    let mut out = [false; 256];
+    let mut p: usize = 0;
+    while p < 256 {
+        out[p] = starts(whole, n, p);
+        p += 1;
+    }
+    out
+}
+
+// The label of a place.
+fn label_of(p: usize, n: usize) -> usize
+    requires { ⌜ p < n + n ⌝ }
+    ensures { λ r. ⌜ (r ≡ p % n) × (r < n) ⌝ }
+{
+    if p < n {
+        return p;
+    }
+    p - n
+}
+
+// Whether the event leads from a place into the key.
+fn leads(
+    places: &[[u8; 128]; 16],
+    whole: &[bool; 256],
+    n: usize,
+    key: &[u64; 4],
+    e: usize,
+    p: usize,
+) -> bool
+    requires { ⌜ Tabled (e + 1) n (now places) (now whole) ⌝ }
+    requires { ⌜ (e < 16) × (p < 256) ⌝ }
+    ensures { λ r. ⌜ r ≡ preimage n (look (now (places .entry))) (setIn (now (whole .entry))) (keyOf (now (key .entry))) e p ⌝ }
+{
+    if !whole[p] {
+        return false;
+    }
+    let y = label_of(p, n);
+    let q = wide(places[e][y]);
+    member(key, q)
+}
+
+fn step_places(
+    places: &[[u8; 128]; 16],
+    whole: &[bool; 256],
+    n: usize,
+    key: &[u64; 4],
+    e: usize,
+) -> [bool; 256]
+    requires { ⌜ Tabled (e + 1) n (now places) (now whole) ⌝ }
+    requires { ⌜ e < 16 ⌝ }
+    ensures { λ r. ⌜ Marked 256 (preimage n (look (now (places .entry))) (setIn (now (whole .entry))) (keyOf (now (key .entry))) e) r ⌝ }
+{
+    let mut out = [false; 256];
+    let mut p: usize = 0;
+    while p < 256 {
+        out[p] = leads(places, whole, n, key, e, p);
+        p += 1;
+    }
+    out
+}
+
+fn step_key(
+    places: &[[u8; 128]; 16],
+    whole: &[bool; 256],
+    n: usize,
+    key: &[u64; 4],
+    e: usize,
+) -> [u64; 4]
+    requires { ⌜ Tabled (e + 1) n (now places) (now whole) ⌝ }
+    requires { ⌜ e < 16 ⌝ }
+    ensures { λ r. ⌜ WordsFit r × (keyOf r ≡ stepKey (tablesIn n (now (places .entry)) (now (whole .entry))) (keyOf (now (key .entry))) e) ⌝ }
+{
+    let bits = step_places(places, whole, n, key, e);
+    pack(&bits)
+}
+
+// ---- the keys met
+
+// The number of the first key that is the same, or how many keys there are.
+fn locate(keys: &[[u64; 4]; 256], count: usize, key: [u64; 4]) -> usize
+    requires { ⌜ KeysFit count (now keys) × WordsFit key ⌝ }
+    ensures { λ r. ⌜ r ≡ leastBelow count (metAt (now (keys .entry)) (keyOf key)) ⌝ }
+{
+    let mut i: usize = 0;
+    while i < count {
+        let met = keys[i];
+        if same_key(met, key) {
+            return i;
+        }
+        i += 1;
+    }
+    count
+}
+
+// The number of a key, which is added at the end if it is new.
+fn enter(keys: &mut [[u64; 4]; 256], count: usize, key: [u64; 4]) -> Entered
+    requires { ⌜ KeysFit count (now keys) × WordsFit key ⌝ }
+    ensures { λ r. ⌜ Enters (keysIn count (now (keys .entry))) (keyOf key) (now (keys .exit)) r ⌝ }
+{
+    let i = locate(keys, count, key);
+    if i < count {
+        return Entered::At(i, count);
+    }
+    if count < 256 {
+        keys[count] = key;
+        return Entered::At(count, count + 1);
+    }
+    Entered::Full
+}
+
+// The row of a key, for event 0 upward.
+fn expand(
+    places: &[[u8; 128]; 16],
+    whole: &[bool; 256],
+    n: usize,
+    events: usize,
+    keys: &mut [[u64; 4]; 256],
+    count: usize,
+    source: [u64; 4],
+    row: &mut [u16; 16],
+) -> Grown
+    requires { ⌜ Tabled events n (now places) (now whole) ⌝ }
+    requires { ⌜ (events ≤ 16) × KeysFit count (now keys) × (length (now row) ≡ 16) ⌝ }
+    ensures { λ r. ⌜ GrownAs (expandKey (tablesIn n (now (places .entry)) (now (whole .entry))) events (keyOf source) (keysIn count (now (keys .entry)))) events (now (keys .exit)) (now (row .exit)) r ⌝ }
+{
+    let mut met = count;
+    let mut e: usize = 0;
+    while e < events {
+        let key = step_key(places, whole, n, &source, e);
+        let entered = enter(keys, met, key);
+        let Entered::At(i, next) = entered else {
+            return Grown::Full;
+        };
+        row[e] = i as u16;
+        met = next;
+        e += 1;
+    }
+    Grown::To(met)
+}
+
+// The rows with one more: "an array of rows, one row of successors per state", by value.
+fn store_row(rows: [[u16; 16]; 256], i: usize, row: [u16; 16]) -> [[u16; 16]; 256]
+    requires { ⌜ i < 256 ⌝ }
+    ensures { λ r. ⌜ r ≡ set rows i row ⌝ }
+{
+    let mut out = rows;
+    out[i] = row;
+    out
+}
+
+// The rows of all keys that are reached from the first one.
+fn walk(
+    places: &[[u8; 128]; 16],
+    whole: &[bool; 256],
+    n: usize,
+    events: usize,
+    keys: &mut [[u64; 4]; 256],
+    rows: &mut [[u16; 16]; 256],
+) -> Walked
+    requires { ⌜ Tabled events n (now places) (now whole) ⌝ }
+    requires { ⌜ (events ≤ 16) × KeysFit 1 (now keys) ⌝ }
+    requires { ⌜ keyOf (getD (now keys) 0 []) ≡ startKey (tablesIn n (now places) (now whole)) ⌝ }
+    ensures { λ r. ⌜ WalkedAs (exploreBelow (tablesIn n (now (places .entry)) (now (whole .entry))) events) events (now (keys .exit)) (now (rows .entry)) (now (rows .exit)) r ⌝ }
+{
+    let mut table = [[0u16; 16]; 256];
+    let mut count: usize = 1;
+    let mut i: usize = 0;
+    while i < count {
+        let mut row = [0u16; 16];
+        let source = keys[i];
+        let grown = expand(places, whole, n, events, keys, count, source, &mut row);
+        let Grown::To(next) = grown else {
+            return Walked::TooMany;
+        };
+        count = next;
+        let stored = store_row(table, i, row);
+        table = stored;
+        i += 1;
+    }
+    *rows = table;
+    Walked::Closed(count as u16)
+}
+
+// ---- the classes of keys
+
+fn class_of(key: [u64; 4], full: [u64; 4]) -> u8
+    requires { ⌜ WordsFit key × WordsFit full ⌝ }
+    ensures { λ r. ⌜ r ≡ classBy (keyOf full) (keyOf key) ⌝ }
+{
+    if same_key(key, [0; 4]) {
+        return 2;
+    }
+    if same_key(key, full) {
+        return 1;
+    }
+    0
+}
+
+fn classify(keys: &[[u64; 4]; 256], count: usize, full: [u64; 4], classes: &mut [u8; 256])
+    requires { ⌜ KeysFit count (now keys) × WordsFit full × (length (now classes) ≡ 256) ⌝ }
+    ensures { λ _. ⌜ now (classes .exit) ≡ tabulate count (λ s. classBy (keyOf full) (keyOf (getD (now (keys .entry)) s []))) ++ drop count (now (classes .entry)) ⌝ }
+{
+    let mut s: usize = 0;
+    while s < count {
+        let key = keys[s];
+        classes[s] = class_of(key, full);
+        s += 1;
+    }
+}
+
+// The states that the rule's remaining properties make: how many, the rows of their successors and their classes. Or there are more than 256.
+pub fn explore(
+    signals: u8,
+    labels: usize,
+    places: &[[u8; 128]; 16],
+    whole: &[bool; 256],
+    rows: &mut [[u16; 16]; 256],
+    classes: &mut [u8; 256],
+) -> Walked
+    requires { ⌜ (signals ≤ 4) × Tabled (2 ^ signals) labels (now places) (now whole) ⌝ }
+    requires { ⌜ length (now classes) ≡ 256 ⌝ }
+    ensures { λ r. ⌜ Explores signals (tablesIn labels (now (places .entry)) (now (whole .entry))) r (now (rows .entry)) (now (rows .exit)) (now (classes .entry)) (now (classes .exit)) ⌝ }
+{
+    let events = width(signals);
+    let mut keys = [[0u64; 4]; 256];
+    let first = start_places(whole, labels);
+    keys[0] = pack(&first);
+    let walked = walk(places, whole, labels, events, &mut keys, rows);
+    let Walked::Closed(count) = walked else {
+        return Walked::TooMany;
+    };
+    classify(&keys, wide16(count), pack(whole), classes);
+    Walked::Closed(count)
+}

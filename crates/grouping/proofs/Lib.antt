@@ -1,0 +1,4 @@
+pub mod Laws
+pub mod Front
+pub mod Reductions
+pub mod Arrays

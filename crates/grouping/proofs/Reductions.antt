@@ -1,0 +1,113 @@
+-- What the code computes of an array of groups is the model's quotient of the machine.
+use mathlib.Core.Path.{_≡_, sym, ap, _∙_, subst}
+use mathlib.Core.Bool.{Bool}
+use mathlib.Core.List.{List, _++_, map}
+use Prim.Native.Nat.{ℕ, _^_, _≤_, _<_}
+use native.Mathlib.Omega.{arith}
+use lib.ListN.{getD, take, drop}
+use Rattle.sequences.specs.Tabulate.{tabulate}
+use Rattle.sequences.proofs.Loops.{getD-tab}
+use Rattle.meaning.specs.Traces.{over}
+use Rattle.moore.specs.Grouping.{entry, Machine, leads, grouping, Grouped, Stable}
+use Rattle.moore.specs.Quotient.{leader, size, number, closed, verdictByte, verdicts, quotientRows}
+use Rattle.moore.proofs.Counting.{count-le}
+use Rattle.moore.proofs.Grouping.{grouping-grouped, grouping-stable}
+use Rattle.moore.proofs.Quotient.{leader-in, number-in, number-start}
+use Rattle.grouping.specs.Machines.{firstEvents, RowsBelow, ListBelow, Least, Leaders, verdictAt, rowAt}
+use Rattle.grouping.specs.Reduction.{padded, Reduction}
+use Rattle.grouping.proofs.Laws.{taken-at, rows-fewer}
+use Rattle.grouping.proofs.Front.{tabulate-same, map-tabulate, front-at, size-front, leader-front, number-front, closed-front}
+
+-- the counts as the code has them
+pub machine-at : (P : ℕ) {n : ℕ} {rows : List (List ℕ)} {classes : List ℕ} (w m : ℕ) → w ≡ 2 ^ P → m ≡ n → Machine (over P) n rows classes → Machine (firstEvents w) m rows classes
+machine-at P {n} {rows} {classes} w m p q M = subst (λ (k : ℕ). Machine (firstEvents w) k rows classes) (sym q) (subst (λ (k : ℕ). Machine (firstEvents k) n rows classes) (sym p) M)
+
+pub rows-in : {w n : ℕ} {rows : List (List ℕ)} {classes : List ℕ} → Machine (firstEvents w) n rows classes → RowsBelow n w n rows
+rows-in M = record { row = λ s l. record { to = λ e h. M .inside s e l (h, tt) } }
+
+module _ {w n : ℕ} {rows : List (List ℕ)} {classes : List ℕ} (M : Machine (firstEvents w) n rows classes) (group : List ℕ)
+    (is : take n group ≡ grouping (firstEvents w) n rows classes) where
+  front : List ℕ
+  front = take n group
+
+  G : Grouped (firstEvents w) n rows classes front
+  unfolding front
+  G = subst (λ (g : List ℕ). Grouped (firstEvents w) n rows classes g) (sym is) (grouping-grouped M)
+
+  S : Stable (firstEvents w) n rows front
+  unfolding front
+  S = subst (λ (g : List ℕ). Stable (firstEvents w) n rows g) (sym is) (grouping-stable M)
+
+  pub group-least : Least n group
+  unfolding front
+  group-least = record { least = λ i l. subst (λ (x : ℕ). x ≤ i) (front-at n group i l) (G .least i l) }
+
+  module _ {r : ℕ} {least : List ℕ} (L : Leaders n group r least) where
+    count-is : r ≡ size n front
+    unfolding front
+    count-is = L .count ∙ sym (size-front n group)
+
+    least-is : (q : ℕ) → q < r → getD least q 0 ≡ leader n front q
+    unfolding front
+    least-is q l = L .at q l ∙ sym (leader-front n group q)
+
+    least-in : (q : ℕ) → q < r → getD least q 0 < n
+    least-in q l = subst (λ (s : ℕ). s < n) (sym (least-is q l)) (leader-in M G S q (subst (λ (k : ℕ). q < k) count-is l))
+
+    pub leaders-in : n ≤ 256 → ListBelow r w 256 rows least
+    leaders-in h = record {
+      state = λ q l. let x = least-in q l in omega arith;
+      row = λ q l. rows-fewer n 256 (rows-in M) (omega arith) h .row (getD least q 0) (least-in q l);
+    }
+
+    leaders-some : 0 < r
+    leaders-some = subst (λ (k : ℕ). 0 < k) (sym count-is) (subst (λ (q : ℕ). q < size n front) (number-start M G S) (number-in M G S 0 (M .some)))
+
+    pub leaders-fewer : r ≤ n
+    unfolding size
+    leaders-fewer = subst (λ (k : ℕ). k ≤ n) (sym (L .count)) (count-le n (leads group))
+
+    verdicts-are : tabulate r (λ q. verdictAt (firstEvents w) rows classes group (getD least q 0)) ≡ verdicts (firstEvents w) n rows classes front
+    unfolding verdicts verdictAt leader front
+    verdicts-are =
+        tabulate-same r (λ q. verdictAt (firstEvents w) rows classes group (getD least q 0)) byte (λ q l.
+        ap (λ (b : Bool). verdictByte (getD classes (getD least q 0) 0) b) (sym (closed-front n group w rows (getD least q 0) (least-in q l) (rows-in M .row (getD least q 0) (least-in q l))))
+        ∙ ap (λ (s : ℕ). verdictByte (getD classes s 0) (closed (firstEvents w) rows front s)) (least-is q l))
+        ∙ ap (λ (k : ℕ). tabulate k byte) count-is
+      where
+        byte : ℕ → ℕ
+        byte q = verdictByte (getD classes (leader n front q) 0) (closed (firstEvents w) rows front (leader n front q))
+
+    module _ (numbers : List ℕ) (N : take n numbers ≡ tabulate n (number group)) where
+      number-at : (i : ℕ) → i < n → getD numbers i 0 ≡ getD (tabulate n (number front)) i 0
+      unfolding front
+      number-at i l =
+          let h = group-least .least i l in
+          taken-at n numbers (number group) N i 0 l ∙ sym (number-front n group i l (omega arith)) ∙ sym (getD-tab n (number (take n group)) i 0 l)
+
+      rows-are : tabulate r (λ q. rowAt w rows numbers (getD least q 0)) ≡ map padded (quotientRows (firstEvents w) n rows front)
+      unfolding quotientRows rowAt leader front
+      rows-are =
+          tabulate-same r (λ q. rowAt w rows numbers (getD least q 0)) (λ q. padded (row q)) (λ q l.
+          ap padded (tabulate-same w (λ e. getD numbers (entry rows (getD least q 0) e) 0) (λ e. getD (tabulate n (number front)) (entry rows (leader n front q) e) 0) (λ e h.
+          number-at (entry rows (getD least q 0) e) (M .inside (getD least q 0) e (least-in q l) (h, tt))
+          ∙ ap (λ (s : ℕ). getD (tabulate n (number front)) (entry rows s e) 0) (least-is q l))))
+          ∙ ap (λ (k : ℕ). tabulate k (λ q. padded (row q))) count-is
+          ∙ sym (map-tabulate padded (size n front) row)
+        where
+          row : ℕ → List ℕ
+          row q = tabulate w (λ e. getD (tabulate n (number front)) (entry rows (leader n front q) e) 0)
+
+      pub reduction : (P m : ℕ) (bytes bytes′ : List ℕ) (to to′ : List (List ℕ)) → w ≡ 2 ^ P → n ≡ m
+          → bytes′ ≡ tabulate r (λ q. verdictAt (firstEvents w) rows classes group (getD least q 0)) ++ drop r bytes
+          → to′ ≡ tabulate r (λ q. rowAt w rows numbers (getD least q 0)) ++ drop r to → Reduction (over P) m rows classes bytes to r bytes′ to′
+      unfolding front
+      reduction P m bytes bytes′ to to′ p q b t =
+          subst (λ (k : ℕ). Reduction (over P) k rows classes bytes to r bytes′ to′) q
+          (subst (λ (k : ℕ). Reduction (firstEvents k) n rows classes bytes to r bytes′ to′) p (record {
+            count = count-is ∙ ap (size n) is;
+            some = leaders-some;
+            fewer = leaders-fewer;
+            verdicts-are = b ∙ ap (λ (l : List ℕ). l ++ drop r bytes) (verdicts-are ∙ ap (verdicts (firstEvents w) n rows classes) is);
+            rows-are = t ∙ ap (λ (l : List (List ℕ)). l ++ drop r to) (rows-are ∙ ap (λ (g : List ℕ). map padded (quotientRows (firstEvents w) n rows g)) is);
+          }))

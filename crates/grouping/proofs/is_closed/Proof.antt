@@ -1,0 +1,58 @@
+use native.Mathlib.Omega.{arith}
+use borrow.Author.Needs.{needs}
+use mathlib.Core.Path.{sym, _∙_}
+use borrow.Author.Tests.{not-true, not-false}
+use Prim.Native.Nat.{_-_, _≤_}
+use denote.Ref.{now}
+use Rattle.sequences.proofs.Loops.{Passed, passed-none, passed-more, passed-all, all-not}
+use Rattle.moore.specs.Grouping.{entry, together}
+use Rattle.moore.specs.Quotient.{closed}
+use Rattle.grouping.proofs.is_closed.Statement.{statement}
+use Rattle.grouping.proofs.is_closed.Tie as tie
+
+abbrev Inv-loop : tie.InvT-loop
+Inv-loop rows group events s e₀ e = (e ≤ events) × Passed e (λ k. together group (entry rows s k) s)
+
+abbrev μ-loop : tie.MeasureT-loop
+μ-loop rows group events s e₀ e = events - e
+
+loop-holds : tie.Need-loop-holds Inv-loop μ-loop
+loop-holds c = (omega arith, passed-none)
+
+successor-requires : tie.Need-successor-requires Inv-loop μ-loop
+successor-requires c κs = search needs
+
+joined-requires : tie.Need-joined-requires Inv-loop μ-loop
+joined-requires c κs = (omega (arith, c .successor .ensures, c .before .before .before .pre .1 .to (c .before .before .loop .e) (omega arith)), omega arith)
+
+returns : tie.Need-returns Inv-loop μ-loop
+unfolding closed
+returns c = let s = c .before .before .before .before .before in sym (all-not (s .args .events) (λ k. together (now (s .args .group)) (entry (now (s .args .rows)) (s .args .s) k) (s .args .s)) (c .before .before .before .before .loop .e) (c .before .before .before .loop-test .taken) (rw (← c .before .before .successor .ensures) (sym (c .before .joined .ensures) ∙ not-true _ (c .if1 .taken))))
+
+add-e : tie.Need-add-e Inv-loop μ-loop
+add-e c = search needs
+
+loop-less : tie.Need-loop-less Inv-loop μ-loop
+loop-less c = search needs
+
+loop-again : tie.Need-loop-again Inv-loop μ-loop
+loop-again c = (omega arith, passed-more (c .before .before .before .before .loop .inv .1) (rw (← c .before .before .successor .ensures) (sym (c .before .joined .ensures) ∙ not-false _ (c .if1 .left))))
+
+returns-2 : tie.Need-returns-2 Inv-loop μ-loop
+unfolding closed
+returns-2 c = sym (passed-all (c .before .loop .inv .1) (c .before .before .args .events) (omega arith))
+
+pub is-closed-spec : {M : Type 1} → statement M
+is-closed-spec =
+    tie.close
+    (tie.spec
+    Inv-loop
+    μ-loop
+    loop-holds
+    successor-requires
+    joined-requires
+    returns
+    add-e
+    loop-less
+    loop-again
+    returns-2)

@@ -1,0 +1,72 @@
+use native.Mathlib.Omega.{arith}
+use borrow.Author.Needs.{needs}
+use mathlib.Core.Path.{sym, _∙_}
+use Prim.Native.Nat.{_-_, _≤_}
+use denote.Ref.{now}
+use Rattle.sequences.proofs.Loops.{Missed, missed-more, missed-found, missed-end}
+use Rattle.moore.specs.Grouping.{sameStep}
+use Rattle.grouping.specs.Machines.{firstEvents}
+use Rattle.grouping.proofs.Laws.{missed-before}
+use Rattle.grouping.proofs.least_same.Statement.{statement}
+use Rattle.grouping.proofs.least_same.Tie as tie
+
+abbrev Inv-loop : tie.InvT-loop
+Inv-loop rows group events i j₀ j = (j ≤ i) × Missed j (λ k. sameStep (firstEvents events) rows group k i)
+
+abbrev μ-loop : tie.MeasureT-loop
+μ-loop rows group events i j₀ j = i - j
+
+mul-wide16 : tie.Need-mul-wide16 Inv-loop μ-loop
+mul-wide16 c = search needs
+
+element-copy-out-wide16 : tie.Need-element-copy-out-wide16 Inv-loop μ-loop
+element-copy-out-wide16 c = search needs
+
+wide16-requires : tie.Need-wide16-requires Inv-loop μ-loop
+wide16-requires c κs = search needs
+
+loop-holds : tie.Need-loop-holds Inv-loop μ-loop
+loop-holds c = let s = c .before .before in (omega (arith, c .wide16 .ensures .0, s .pre .1 .1 .least (s .args .i) (omega arith)), missed-before (firstEvents (s .args .events)) (now (s .args .rows)) (now (s .args .group)) (s .args .i) (c .wide16 .result) (s .pre .1 .1) (c .wide16 .ensures .0))
+
+same-step-requires : tie.Need-same-step-requires Inv-loop μ-loop
+same-step-requires c κs = let s = c .before .before .before .before in ((omega arith, omega arith, omega arith), (s .pre .1 .0 .row (c .before .loop .j) (omega arith), s .pre .1 .0 .row (s .args .i) (omega arith)))
+
+cast-result : tie.Need-cast-result Inv-loop μ-loop
+cast-result c = search needs
+
+returns : tie.Need-returns Inv-loop μ-loop
+returns c = sym (missed-found (c .before .before .before .loop .inv .1) (c .before .before .before .before .before .before .args .i) (c .before .before .loop-test .taken) (sym (c .before .same-step .ensures) ∙ c .if1 .taken))
+
+add-j : tie.Need-add-j Inv-loop μ-loop
+add-j c = search needs
+
+loop-less : tie.Need-loop-less Inv-loop μ-loop
+loop-less c = search needs
+
+loop-again : tie.Need-loop-again Inv-loop μ-loop
+loop-again c = (omega arith, missed-more (c .before .before .before .loop .inv .1) (sym (c .before .same-step .ensures) ∙ c .if1 .left))
+
+cast-result-2 : tie.Need-cast-result-2 Inv-loop μ-loop
+cast-result-2 c = search needs
+
+returns-2 : tie.Need-returns-2 Inv-loop μ-loop
+returns-2 c = sym (missed-end (c .before .loop .inv .1) (c .before .before .before .before .args .i) (omega arith))
+
+pub least-same-spec : {M : Type 1} → statement M
+least-same-spec =
+    tie.close
+    (tie.spec
+    Inv-loop
+    μ-loop
+    mul-wide16
+    element-copy-out-wide16
+    wide16-requires
+    loop-holds
+    same-step-requires
+    cast-result
+    returns
+    add-j
+    loop-less
+    loop-again
+    cast-result-2
+    returns-2)

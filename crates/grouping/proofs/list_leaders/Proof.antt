@@ -1,0 +1,60 @@
+use native.Mathlib.Omega.{arith}
+use borrow.Author.Needs.{needs}
+use mathlib.Core.Path.{_≡_, refl}
+use Prim.Native.Nat.{_-_, _≤_}
+use denote.Ref.{now}
+use lib.ListN.{length, length-set}
+use Rattle.moore.specs.Counting.{countBelow}
+use Rattle.moore.specs.Grouping.{leads}
+use Rattle.grouping.proofs.Laws.{count-step, count-step-le, Listed, listed-none, listed-more, listed-end}
+use Rattle.grouping.proofs.list_leaders.Statement.{statement}
+use Rattle.grouping.proofs.list_leaders.Tie as tie
+
+abbrev Inv-loop : tie.InvT-loop
+Inv-loop group states least₀ count₀ i₀ least count i = (i ≤ states) × (count ≤ i) × (length least ≡ 256) × (count ≡ countBelow i (leads group)) × Listed i (leads group) least
+
+abbrev μ-loop : tie.MeasureT-loop
+μ-loop group states least₀ count₀ i₀ least count i = states - i
+
+loop-holds : tie.Need-loop-holds Inv-loop μ-loop
+loop-holds c = (omega arith, omega arith, search needs, refl, listed-none)
+
+cast-least : tie.Need-cast-least Inv-loop μ-loop
+cast-least c = search needs
+
+mul-least : tie.Need-mul-least Inv-loop μ-loop
+mul-least c = search needs
+
+element-write-least : tie.Need-element-write-least Inv-loop μ-loop
+element-write-least c = search needs
+
+counted-requires : tie.Need-counted-requires Inv-loop μ-loop
+counted-requires c κs = search needs
+
+add-i : tie.Need-add-i Inv-loop μ-loop
+add-i c = search needs
+
+loop-less : tie.Need-loop-less Inv-loop μ-loop
+loop-less c = search needs
+
+loop-again : tie.Need-loop-again Inv-loop μ-loop
+loop-again c = let s = c .before .before .before in let l = c .before .before in (omega arith, count-step-le (leads (now (s .args .group))) (l .loop .i) (l .loop .count) (c .counted .result) (l .loop .inv .3) (c .counted .ensures), simp length-set (l .loop .inv .2), count-step (leads (now (s .args .group))) (l .loop .i) (l .loop .count) (c .counted .result) (l .loop .inv .3) (c .counted .ensures), listed-more (l .loop .i) (l .loop .count) (leads (now (s .args .group))) (l .loop .least) (l .loop .inv .4) (l .loop .inv .3) (omega (arith, l .loop .inv .2)))
+
+returns : tie.Need-returns Inv-loop μ-loop
+returns c = let s = c .before .before in listed-end (s .args .states) (c .before .loop .i) (c .before .loop .count) (now (s .args .group)) (c .before .loop .least) (c .before .loop .inv .4) (omega arith) (c .before .loop .inv .3)
+
+pub list-leaders-spec : {M : Type 1} → statement M
+list-leaders-spec =
+    tie.close
+    (tie.spec
+    Inv-loop
+    μ-loop
+    loop-holds
+    cast-least
+    mul-least
+    element-write-least
+    counted-requires
+    add-i
+    loop-less
+    loop-again
+    returns)

@@ -1,0 +1,68 @@
+use native.Mathlib.Omega.{arith}
+use borrow.Author.Needs.{needs}
+use mathlib.Core.Path.{sym, _∙_, ap, subst}
+use Prim.Native.Nat.{ℕ, _-_, _≤_}
+use mathlib.Core.List.{[]}
+use denote.Ref.{now}
+use lib.ListN.{getD}
+use Rattle.sequences.proofs.Loops.{Filled, filled-none, filled-more, filled-to}
+use Rattle.grouping.specs.Machines.{RowBelow, rowAt}
+use Rattle.grouping.proofs.put_rows.Statement.{statement}
+use Rattle.grouping.proofs.put_rows.Tie as tie
+
+abbrev Inv-loop : tie.InvT-loop
+Inv-loop rows numbers events least count to₀ q₀ to q = (q ≤ count) × Filled q (λ k. rowAt events rows numbers (getD least k 0)) to₀ to
+
+abbrev μ-loop : tie.MeasureT-loop
+μ-loop rows numbers events least count to₀ q₀ to q = count - q
+
+loop-holds : tie.Need-loop-holds Inv-loop μ-loop
+loop-holds c = (omega arith, filled-none)
+
+mul-wide16 : tie.Need-mul-wide16 Inv-loop μ-loop
+mul-wide16 c = search needs
+
+element-copy-out-wide16 : tie.Need-element-copy-out-wide16 Inv-loop μ-loop
+element-copy-out-wide16 c = search needs
+
+wide16-requires : tie.Need-wide16-requires Inv-loop μ-loop
+wide16-requires c κs = search needs
+
+row-of-requires : tie.Need-row-of-requires Inv-loop μ-loop
+row-of-requires c κs = ((omega arith, omega (arith, c .wide16 .ensures .0, c .before .before .before .before .pre .1 .state (c .before .before .before .loop .q) (omega arith))), subst (λ (x : ℕ). RowBelow (c .before .before .before .before .args .events) 256 (getD (now (c .before .before .before .before .args .rows)) x [])) (sym (c .wide16 .ensures .0)) (c .before .before .before .before .pre .1 .row (c .before .before .before .loop .q) (omega arith)))
+
+mul-t10 : tie.Need-mul-t10 Inv-loop μ-loop
+mul-t10 c = search needs
+
+element-set-from-to : tie.Need-element-set-from-to Inv-loop μ-loop
+element-set-from-to c = search needs
+
+add-q : tie.Need-add-q Inv-loop μ-loop
+add-q c = search needs
+
+loop-less : tie.Need-loop-less Inv-loop μ-loop
+loop-less c = search needs
+
+loop-again : tie.Need-loop-again Inv-loop μ-loop
+loop-again c = (omega arith, filled-more (c .before .before .before .before .loop .inv .1) (c .row-of .ensures ∙ ap (rowAt (c .before .before .before .before .before .args .events) (now (c .before .before .before .before .before .args .rows)) (now (c .before .before .before .before .before .args .numbers))) (c .before .wide16 .ensures .0)) (omega arith))
+
+returns : tie.Need-returns Inv-loop μ-loop
+returns c = filled-to (c .before .before .args .count) (c .before .loop .inv .1) (omega arith)
+
+pub put-rows-spec : {M : Type 1} → statement M
+put-rows-spec =
+    tie.close
+    (tie.spec
+    Inv-loop
+    μ-loop
+    loop-holds
+    mul-wide16
+    element-copy-out-wide16
+    wide16-requires
+    row-of-requires
+    mul-t10
+    element-set-from-to
+    add-q
+    loop-less
+    loop-again
+    returns)

@@ -1,0 +1,45 @@
+-- What the code that groups states asks of the arrays that it is given, and what it computes of one state.
+use mathlib.Core.Path.{_≡_}
+use mathlib.Core.List.{List, []}
+use mathlib.Core.Bool.{true}
+use Prim.Native.Nat.{ℕ, _≤_, _<_}
+use lib.ListN.{getD}
+use Rattle.sequences.specs.Tabulate.{tabulate}
+use Rattle.meaning.specs.Traces.{Alphabet}
+use Rattle.moore.specs.Grouping.{entry}
+use Rattle.moore.specs.Quotient.{leader, size, closed, verdictByte}
+use Rattle.grouping.specs.Reduction.{padded}
+
+-- every event below w can happen
+abbrev pub firstEvents : ℕ → Alphabet
+firstEvents w = record { width = w; possible = λ _. true }
+
+-- the first w successors of a row are below n
+pub record RowBelow (w n : ℕ) (row : List ℕ) : Type 0 where
+  pub to : (e : ℕ) → e < w → getD row e 0 < n
+
+-- and those of the first k rows
+pub record RowsBelow (k w n : ℕ) (rows : List (List ℕ)) : Type 0 where
+  pub row : (s : ℕ) → s < k → RowBelow w n (getD rows s [])
+
+-- the first k states of a list are below n, and so are the first w successors of each
+pub record ListBelow (k w n : ℕ) (rows : List (List ℕ)) (list : List ℕ) : Type 0 where
+  pub state : (q : ℕ) → q < k → getD list q 0 < n
+  pub row : (q : ℕ) → q < k → RowBelow w n (getD rows (getD list q 0) [])
+
+-- each of the first n states is in a group that is named by no later state
+pub record Least (n : ℕ) (group : List ℕ) : Type 0 where
+  pub least : (i : ℕ) → i < n → getD group i 0 ≤ i
+
+-- r groups, with the least state of each in ascending order
+pub record Leaders (n : ℕ) (group : List ℕ) (r : ℕ) (least : List ℕ) : Type 0 where
+  pub count : r ≡ size n group
+  pub at : (q : ℕ) → q < r → getD least q 0 ≡ leader n group q
+
+-- the verdict byte of the group of which s is the least state
+unfoldable pub verdictAt : Alphabet → List (List ℕ) → List ℕ → List ℕ → ℕ → ℕ
+verdictAt Σ rows classes group s = verdictByte (getD classes s 0) (closed Σ rows group s)
+
+-- its row of successors, where numbers has the number of the group of each state
+unfoldable pub rowAt : ℕ → List (List ℕ) → List ℕ → ℕ → List ℕ
+rowAt w rows numbers s = padded (tabulate w (λ e. getD numbers (entry rows s e) 0))

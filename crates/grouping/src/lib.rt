@@ -1,0 +1,347 @@
+// Groups the states of a machine that no word tells apart, and makes the smallest machine of the groups. A group is named by its least state.
+ghost use mathlib.Core.Path.{_≡_};
+ghost use mathlib.Core.Bool.{cond};
+ghost use mathlib.Core.List.{List, [], _++_};
+ghost use Prim.Native.Nat.{ℕ, _+_, _≤_, _<_};
+ghost use lib.ListN.{length, getD, take, drop};
+ghost use Rattle.sequences.specs.Tabulate.{tabulate, leastBelow};
+ghost use Rattle.meaning.specs.Traces.{over};
+ghost use Rattle.moore.specs.Counting.{countBelow};
+ghost use Rattle.moore.specs.Grouping.{entry, Machine, together, leads, sameStep, firstGroups, nextGroups, sameBelow, rounds, grouping};
+ghost use Rattle.moore.specs.Quotient.{number, closed};
+ghost use Rattle.grouping.specs.Machines.{firstEvents, RowBelow, RowsBelow, ListBelow, Least, Leaders, verdictAt, rowAt};
+ghost use Rattle.grouping.specs.Reduction.{Reduction};
+use table_file::width;
+use wire::wide16;
+
+// ---- groups
+
+// The successor of a state at an event.
+fn successor(rows: &[[u16; 16]; 256], state: usize, event: usize) -> usize
+    requires { ⌜ (state < 256) × (event < 16) ⌝ }
+    ensures { λ r. ⌜ r ≡ entry (now (rows .entry)) state event ⌝ }
+{
+    wide16(rows[state][event])
+}
+
+// Whether two states are in one group.
+fn joined(group: &[u16; 256], i: usize, j: usize) -> bool
+    requires { ⌜ (i < 256) × (j < 256) ⌝ }
+    ensures { λ r. ⌜ r ≡ together (now (group .entry)) i j ⌝ }
+{
+    group[i] == group[j]
+}
+
+// Whether two states are in one group, and so are their successors at each event.
+fn same_step(rows: &[[u16; 16]; 256], group: &[u16; 256], events: usize, j: usize, i: usize) -> bool
+    requires { ⌜ (events ≤ 16) × (j < 256) × (i < 256) ⌝ }
+    requires { ⌜ RowBelow events 256 (getD (now rows) j []) × RowBelow events 256 (getD (now rows) i []) ⌝ }
+    ensures { λ r. ⌜ r ≡ sameStep (firstEvents events) (now (rows .entry)) (now (group .entry)) j i ⌝ }
+{
+    if !joined(group, j, i) {
+        return false;
+    }
+    let mut e: usize = 0;
+    while e < events {
+        let a = successor(rows, j, e);
+        let b = successor(rows, i, e);
+        if !joined(group, a, b) {
+            return false;
+        }
+        e += 1;
+    }
+    true
+}
+
+// The least state that a round leaves with a state. The search starts at the least of its group so far, before which none is in it: over all
+// rounds it passes each state once at most, and compares once more a round.
+fn least_same(rows: &[[u16; 16]; 256], group: &[u16; 256], events: usize, i: usize) -> u16
+    requires { ⌜ (events ≤ 16) × (i < 256) ⌝ }
+    requires { ⌜ RowsBelow (i + 1) events 256 (now rows) ⌝ }
+    requires { ⌜ Least (i + 1) (now group) ⌝ }
+    ensures { λ r. ⌜ r ≡ leastBelow i (λ j. sameStep (firstEvents events) (now (rows .entry)) (now (group .entry)) j i) ⌝ }
+{
+    let mut j: usize = wide16(group[i]);
+    while j < i {
+        if same_step(rows, group, events, j, i) {
+            return j as u16;
+        }
+        j += 1;
+    }
+    i as u16
+}
+
+// One round: each state with the least that is left with it.
+fn round(rows: [[u16; 16]; 256], group: &[u16; 256], states: usize, events: usize) -> [u16; 256]
+    requires { ⌜ (events ≤ 16) × (states ≤ 256) ⌝ }
+    requires { ⌜ RowsBelow states events 256 rows ⌝ }
+    requires { ⌜ Least states (now group) ⌝ }
+    ensures { λ r. ⌜ take states r ≡ nextGroups (firstEvents events) states rows (now (group .entry)) ⌝ }
+{
+    let mut next = [0u16; 256];
+    let mut i: usize = 0;
+    while i < states {
+        next[i] = least_same(&rows, group, events, i);
+        i += 1;
+    }
+    next
+}
+
+// Whether a round changed nothing.
+fn same_groups(a: &[u16; 256], b: &[u16; 256], states: usize) -> bool
+    requires { ⌜ states ≤ 256 ⌝ }
+    ensures { λ r. ⌜ r ≡ sameBelow states (now (a .entry)) (now (b .entry)) ⌝ }
+{
+    let mut i: usize = 0;
+    while i < states {
+        if a[i] != b[i] {
+            return false;
+        }
+        i += 1;
+    }
+    true
+}
+
+// Rounds until one changes nothing; as many as there are states are enough.
+fn refined(rows: [[u16; 16]; 256], first: [u16; 256], states: usize, events: usize) -> [u16; 256]
+    requires { ⌜ (events ≤ 16) × (states ≤ 256) ⌝ }
+    requires { ⌜ RowsBelow states events states rows ⌝ }
+    requires { ⌜ Least states first ⌝ }
+    ensures { λ r. ⌜ take states r ≡ rounds states (firstEvents events) states rows (take states first) ⌝ }
+{
+    let mut group = first;
+    let mut left: usize = states;
+    while 0 < left {
+        let next = round(rows, &group, states, events);
+        if same_groups(&next, &group, states) {
+            return group;
+        }
+        group = next;
+        left -= 1;
+    }
+    group
+}
+
+// The least state that has a state's class.
+fn least_of_class(classes: &[u8; 256], i: usize) -> u16
+    requires { ⌜ i < 256 ⌝ }
+    ensures { λ r. ⌜ r ≡ leastBelow i (λ k. together (now (classes .entry)) k i) ⌝ }
+{
+    let mut k: usize = 0;
+    while k < i {
+        if classes[k] == classes[i] {
+            return k as u16;
+        }
+        k += 1;
+    }
+    i as u16
+}
+
+// Each state with the least of its class.
+fn first_groups(classes: &[u8; 256], states: usize) -> [u16; 256]
+    requires { ⌜ states ≤ 256 ⌝ }
+    ensures { λ r. ⌜ take states r ≡ firstGroups states (now (classes .entry)) ⌝ }
+{
+    let mut group = [0u16; 256];
+    let mut i: usize = 0;
+    while i < states {
+        group[i] = least_of_class(classes, i);
+        i += 1;
+    }
+    group
+}
+
+// For each state the least of its group.
+fn groups(rows: [[u16; 16]; 256], classes: &[u8; 256], states: usize, events: usize) -> [u16; 256]
+    requires { ⌜ (events ≤ 16) × (states ≤ 256) ⌝ }
+    requires { ⌜ RowsBelow states events states rows ⌝ }
+    ensures { λ r. ⌜ take states r ≡ grouping (firstEvents events) states rows (now (classes .entry)) ⌝ }
+{
+    let first = first_groups(classes, states);
+    refined(rows, first, states, events)
+}
+
+// ---- the machine of the groups
+
+// How many groups are met once a state is: one more if it is the least of its group.
+fn counted(group: &[u16; 256], i: usize, count: usize) -> usize
+    requires { ⌜ (i < 256) × (count ≤ i) ⌝ }
+    ensures { λ r. ⌜ r ≡ cond (leads (now (group .entry)) i) (count + 1) count ⌝ }
+{
+    if wide16(group[i]) == i {
+        return count + 1;
+    }
+    count
+}
+
+// How many groups have a least state below each state.
+fn ranks(group: &[u16; 256], states: usize) -> [u16; 256]
+    requires { ⌜ states ≤ 256 ⌝ }
+    ensures { λ r. ⌜ take states r ≡ tabulate states (λ i. countBelow i (leads (now (group .entry)))) ⌝ }
+{
+    let mut rank = [0u16; 256];
+    let mut below: usize = 0;
+    let mut i: usize = 0;
+    while i < states {
+        rank[i] = below as u16;
+        below = counted(group, i, below);
+        i += 1;
+    }
+    rank
+}
+
+// The number of the group of each state: how many groups have a lower least state.
+fn numbers(group: &[u16; 256], states: usize) -> [u16; 256]
+    requires { ⌜ states ≤ 256 ⌝ }
+    requires { ⌜ Least states (now group) ⌝ }
+    ensures { λ r. ⌜ take states r ≡ tabulate states (number (now (group .entry))) ⌝ }
+{
+    let rank = ranks(group, states);
+    let mut out = [0u16; 256];
+    let mut i: usize = 0;
+    while i < states {
+        let g = wide16(group[i]);
+        out[i] = rank[g];
+        i += 1;
+    }
+    out
+}
+
+// Lists the least states of the groups.
+fn list_leaders(group: &[u16; 256], states: usize, least: &mut [u16; 256]) -> usize
+    requires { ⌜ (states ≤ 256) × (length (now least) ≡ 256) ⌝ }
+    ensures { λ r. ⌜ Leaders states (now (group .entry)) r (now (least .exit)) ⌝ }
+{
+    let mut count: usize = 0;
+    let mut i: usize = 0;
+    while i < states {
+        least[count] = i as u16;
+        count = counted(group, i, count);
+        i += 1;
+    }
+    count
+}
+
+// Whether every event leads from a state back to its own group.
+fn is_closed(rows: &[[u16; 16]; 256], group: &[u16; 256], events: usize, s: usize) -> bool
+    requires { ⌜ (events ≤ 16) × (s < 256) ⌝ }
+    requires { ⌜ RowBelow events 256 (getD (now rows) s []) ⌝ }
+    ensures { λ r. ⌜ r ≡ closed (firstEvents events) (now (rows .entry)) (now (group .entry)) s ⌝ }
+{
+    let mut e: usize = 0;
+    while e < events {
+        let to = successor(rows, s, e);
+        if !joined(group, to, s) {
+            return false;
+        }
+        e += 1;
+    }
+    true
+}
+
+// The verdict byte of a group, by its least state.
+fn verdict_of(
+    rows: &[[u16; 16]; 256],
+    group: &[u16; 256],
+    classes: &[u8; 256],
+    events: usize,
+    s: usize,
+) -> u8
+    requires { ⌜ (events ≤ 16) × (s < 256) ⌝ }
+    requires { ⌜ RowBelow events 256 (getD (now rows) s []) ⌝ }
+    ensures { λ r. ⌜ r ≡ verdictAt (firstEvents events) (now (rows .entry)) (now (classes .entry)) (now (group .entry)) s ⌝ }
+{
+    let class = classes[s];
+    if class != 0 {
+        return class;
+    }
+    if is_closed(rows, group, events, s) {
+        return 3;
+    }
+    0
+}
+
+// Stores the verdict byte of each group.
+fn put_verdicts(
+    rows: &[[u16; 16]; 256],
+    group: &[u16; 256],
+    classes: &[u8; 256],
+    events: usize,
+    least: &[u16; 256],
+    count: usize,
+    verdicts: &mut [u8; 256],
+)
+    requires { ⌜ (events ≤ 16) × (count ≤ 256) × (length (now verdicts) ≡ 256) ⌝ }
+    requires { ⌜ ListBelow count events 256 (now rows) (now least) ⌝ }
+    ensures { λ _. ⌜ now (verdicts .exit) ≡ tabulate count (λ q. verdictAt (firstEvents events) (now (rows .entry)) (now (classes .entry)) (now (group .entry)) (getD (now (least .entry)) q 0)) ++ drop count (now (verdicts .entry)) ⌝ }
+{
+    let mut q: usize = 0;
+    while q < count {
+        let s = wide16(least[q]);
+        verdicts[q] = verdict_of(rows, group, classes, events, s);
+        q += 1;
+    }
+}
+
+// The row of a group, by its least state: the numbers of the groups that its successors are in.
+fn row_of(rows: &[[u16; 16]; 256], numbers: &[u16; 256], events: usize, s: usize) -> [u16; 16]
+    requires { ⌜ (events ≤ 16) × (s < 256) ⌝ }
+    requires { ⌜ RowBelow events 256 (getD (now rows) s []) ⌝ }
+    ensures { λ r. ⌜ r ≡ rowAt events (now (rows .entry)) (now (numbers .entry)) s ⌝ }
+{
+    let mut row = [0u16; 16];
+    let mut e: usize = 0;
+    while e < events {
+        let next = successor(rows, s, e);
+        row[e] = numbers[next];
+        e += 1;
+    }
+    row
+}
+
+// Stores the row of each group.
+fn put_rows(
+    rows: &[[u16; 16]; 256],
+    numbers: &[u16; 256],
+    events: usize,
+    least: &[u16; 256],
+    count: usize,
+    to: &mut [[u16; 16]; 256],
+)
+    requires { ⌜ (events ≤ 16) × (count ≤ 256) × (length {A = List ℕ} (now to) ≡ 256) ⌝ }
+    requires { ⌜ ListBelow count events 256 (now rows) (now least) ⌝ }
+    ensures { λ _. ⌜ now (to .exit) ≡ tabulate count (λ q. rowAt events (now (rows .entry)) (now (numbers .entry)) (getD (now (least .entry)) q 0)) ++ drop count (now (to .entry)) ⌝ }
+{
+    let mut q: usize = 0;
+    while q < count {
+        let s = wide16(least[q]);
+        to[q] = row_of(rows, numbers, events, s);
+        q += 1;
+    }
+}
+
+// Makes of a machine the smallest one that shows the same: how many states it has, and the verdict byte and the row of successors of each, from
+// the front of the arrays. Classes are 0 (neither), 1 (satisfied) or 2 (violated).
+pub fn reduce(
+    signals: u8,
+    states: u16,
+    classes: &[u8; 256],
+    rows: [[u16; 16]; 256],
+    verdicts: &mut [u8; 256],
+    to: &mut [[u16; 16]; 256],
+) -> u16
+    requires { ⌜ (signals ≤ 4) × (states ≤ 256) ⌝ }
+    requires { ⌜ Machine (over signals) states rows (now classes) ⌝ }
+    requires { ⌜ (length (now verdicts) ≡ 256) × (length {A = List ℕ} (now to) ≡ 256) ⌝ }
+    ensures { λ r. ⌜ Reduction (over signals) states rows (now (classes .entry)) (now (verdicts .entry)) (now (to .entry)) r (now (verdicts .exit)) (now (to .exit)) ⌝ }
+{
+    let events = width(signals);
+    let n = wide16(states);
+    let group = groups(rows, classes, n, events);
+    let number = numbers(&group, n);
+    let mut least = [0u16; 256];
+    let count = list_leaders(&group, n, &mut least);
+    put_verdicts(&rows, &group, classes, events, &least, count, verdicts);
+    put_rows(&rows, &number, events, &least, count, to);
+    count as u16
+}

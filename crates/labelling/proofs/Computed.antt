@@ -1,0 +1,96 @@
+-- The arrays that the code computes hold the tables of the residual system.
+use mathlib.Core.Path.{_≡_, refl, sym, ap, ap₂, _∙_, subst}
+use mathlib.Core.Bool.{Bool, true, false}
+use mathlib.Core.List.{List, []}
+use Prim.Native.Nat.{ℕ, zero, suc, _+_, _*_, _%_, _^_, _≤_, _<_}
+use native.Mathlib.Nat.{le-refl, one-mul}
+use native.Mathlib.Omega.{arith}
+use lib.ListN.{length, getD, take}
+use lib.Dec.{eqb}
+use lib.Pow.{pow-pos, pow-mono, shl-exact}
+use Rattle.meaning.specs.Traces.{over}
+use Rattle.meaning.specs.declared.Node.{Node}
+use Rattle.ltl.specs.Sets.{on, someBelow}
+use Rattle.ltl.specs.Nodes.{splits, temporals}
+use Rattle.ltl.specs.Valuation.{placeOf}
+use Rattle.ltl.specs.Realizable.{realizable}
+use Rattle.ltl.specs.Residuals.{before, wholeSet}
+use Rattle.ltl.specs.Keys.{look, tableOf, tablesOf}
+use Rattle.ltl.proofs.Sets.{on-out}
+use Rattle.ltl.proofs.Tables.{Tabulates}
+use Rattle.ltl.proofs.Bounds.{place-lt, whole-lt}
+use Rattle.ltl.proofs.SameTables.{same-whole}
+use Rattle.ltl.proofs.Instance.{made-tabulates}
+use Rattle.valuation.specs.Valued.{Valuable, placeAt, fairsAt}
+use Rattle.valuation.specs.Entries.{Table}
+use Rattle.realizability.specs.Relations.{Row, below}
+use Rattle.labelling.specs.Arrays.{TablesIn}
+use Rattle.labelling.specs.Marks.{hits, AllMarked}
+use Rattle.labelling.proofs.Marks.{gives, marks-on}
+
+pub shift-one : (k : ℕ) → k ≤ 7 → (1 * 2 ^ k) % 2 ^ 64 ≡ 2 ^ k
+shift-one k h = shl-exact {a = 1} 1 k 64 (omega arith) (omega arith) ∙ one-mul (2 ^ k)
+
+-- so many events and labels are within the arrays
+pub within : (j k x : ℕ) → x ≡ 2 ^ k → k ≤ j → (1 ≤ x) × (x ≤ 2 ^ j)
+within j k x e h = (subst (λ (y : ℕ). 1 ≤ y) (sym e) (pow-pos k), subst (λ (y : ℕ). y ≤ 2 ^ j) (sym e) (pow-mono h))
+
+-- the count, as the code holds it
+pub valuable-of : (k count : ℕ) (nodes : List Node) → k ≡ count → Valuable count nodes → Valuable k nodes
+valuable-of k count nodes e v = subst (λ (j : ℕ). Valuable j nodes) (sym e) v
+
+-- what the code computes for the first `count` nodes, with w events, n labels and m temporal nodes
+pub record Computed (w n m count : ℕ) (nodes : List Node) (places fairs : List (List ℕ)) (real whole : List Bool) : Type 0 where
+  pub place : Table w n (placeAt count nodes) places
+  pub fair : Table w n (fairsAt count nodes) fairs
+  pub labels : Row n (on (realizable (below w) n (before n (look places)) (look fairs) m)) real
+  pub marks : AllMarked w n places real whole
+
+some-same : (n : ℕ) (f g : ℕ → Bool) → ((i : ℕ) → i < n → f i ≡ g i) → someBelow n f ≡ someBelow n g
+some-same zero f g h = refl
+some-same (suc n) f g h =
+    ap₂ (λ (a b : Bool). elim a [ true ↦ true | false ↦ b ]) (h n (le-refl (suc n))) (some-same n f g (λ i l. h i (omega arith)))
+
+abbrev temporalsIn : ℕ → List Node → ℕ
+temporalsIn count nodes = temporals (splits (take count nodes))
+
+module _ (P count : ℕ) (nodes : List Node) {places fairs : List (List ℕ)} {real whole : List Bool} where
+  module _ (h : Computed (2 ^ P) (2 ^ temporalsIn count nodes) (temporalsIn count nodes) count nodes places fairs real whole) where
+    tabulates : Tabulates (over P) (splits (take count nodes)) (look places) (look fairs)
+    tabulates = record { place-is = λ e y p l. h .place .entry e y (p .0) l; fair-is = λ e y p l. h .fair .entry e y (p .0) l }
+
+    member : (p : ℕ) → p < 256 → getD whole p false ≡ on (tablesOf (over P) (splits (take count nodes)) .whole) p
+    unfolding tablesOf wholeSet
+    member p l =
+        let R = realizable (over P) (2 ^ temporalsIn count nodes) (before (2 ^ temporalsIn count nodes) (look places)) (look fairs) (temporalsIn count nodes) in
+        h .marks .is p l
+        ∙ some-same (2 ^ P) (λ e. someBelow (2 ^ temporalsIn count nodes) (hits places real e p)) (λ e. someBelow (2 ^ temporalsIn count nodes) (gives P (2 ^ temporalsIn count nodes) (look places) R p e))
+        (λ e a. some-same (2 ^ temporalsIn count nodes) (hits places real e p) (gives P (2 ^ temporalsIn count nodes) (look places) R p e)
+        (λ y b. ap (λ (t : Bool). elim t [ true ↦ eqb (look places e y) p | false ↦ false ]) (h .labels .is y b)))
+        ∙ marks-on P (2 ^ temporalsIn count nodes) (look places) R p
+        ∙ ap (λ (A : ℕ). on A p) (same-whole tabulates (made-tabulates (over P) (splits (take count nodes))))
+
+    tables-in : Valuable count nodes → TablesIn (2 ^ P) (2 ^ temporalsIn count nodes) (tablesOf (over P) (splits (take count nodes))) places whole
+    unfolding tablesOf
+    tables-in v = record {
+      labels = refl;
+      some = pow-pos (temporalsIn count nodes);
+      few = pow-mono {j = 7} (v .temporal);
+      place = λ e y a b. h .place .entry e y a b ∙ sym (made-tabulates (over P) (splits (take count nodes)) .place-is e y (a, tt) b);
+      small = λ e y a b. subst (λ (p : ℕ). p < 2 ^ temporalsIn count nodes + 2 ^ temporalsIn count nodes) (sym (h .place .entry e y a b)) (place-lt e y (splits (take count nodes)));
+      member = member;
+      past = λ p a. on-out (tablesOf (over P) (splits (take count nodes)) .whole) (2 ^ temporalsIn count nodes + 2 ^ temporalsIn count nodes) p (whole-lt (made-tabulates (over P) (splits (take count nodes)))) a;
+    }
+
+-- the same, where the counts are the code's
+pub all-computed : (P count w n m k : ℕ) (nodes : List Node) {places fairs : List (List ℕ)} {real whole : List Bool} → k ≡ count → m ≡ temporalsIn k nodes → n ≡ 2 ^ m → w ≡ 2 ^ P
+    → Valuable count nodes → Computed w n m k nodes places fairs real whole
+    → (m ≡ temporalsIn count nodes) × TablesIn (2 ^ P) (2 ^ m) (tablesOf (over P) (splits (take count nodes))) places whole
+all-computed P count w n m k nodes {places} {fairs} {real} {whole} a b c d v h =
+    let M = temporalsIn count nodes in
+    let e : m ≡ M = b ∙ ap (λ (j : ℕ). temporalsIn j nodes) a in
+    let h₁ = subst (λ (j : ℕ). Computed w n m j nodes places fairs real whole) a h in
+    let h₂ = subst (λ (j : ℕ). Computed w n j count nodes places fairs real whole) e h₁ in
+    let h₃ = subst (λ (j : ℕ). Computed w j M count nodes places fairs real whole) (c ∙ ap (λ (j : ℕ). 2 ^ j) e) h₂ in
+    let h₄ = subst (λ (j : ℕ). Computed j (2 ^ M) M count nodes places fairs real whole) d h₃ in
+    (e, subst (λ (j : ℕ). TablesIn (2 ^ P) (2 ^ j) (tablesOf (over P) (splits (take count nodes))) places whole) (sym e) (tables-in P count nodes h₄ v))

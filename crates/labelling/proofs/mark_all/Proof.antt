@@ -1,0 +1,45 @@
+use native.Mathlib.Omega.{arith}
+use borrow.Author.Needs.{needs}
+use mathlib.Core.Path.{_≡_, refl, sym, _∙_, ap, ap₂, subst}
+use mathlib.Core.Bool.{Bool, true, false, not, _&&_, _||_}
+use Prim.Native.Nat.{ℕ, suc, _+_, _-_, _*_, _%_, _^_, _≤_, _<_}
+use mathlib.Core.List.{List, [], _∷_}
+use denote.Ref.{now}
+use lib.ListN.{length, getD, length-set}
+use Rattle.labelling.proofs.Marks.{marked-none, marked-more, marked-to, all-none, all-more, all-to}
+use Rattle.labelling.proofs.Computed.{shift-one, within, valuable-of, Computed, all-computed}
+use Rattle.labelling.specs.Marks.{hits, Marked, AllMarked}
+use Rattle.labelling.proofs.mark_all.Statement.{statement}
+use Rattle.labelling.proofs.mark_all.Tie as tie
+use Rattle.labelling.proofs.mark_all.Reads as reads
+use Rattle.labelling.proofs.mark_all.Lts as lts
+use Rattle.labelling.proofs.mark_event.Reads as mark-event-reads
+
+abbrev Inv-loop : tie.InvT-loop
+Inv-loop whole₀ places real events labels e₀ whole e = (e ≤ events) × AllMarked e labels places real whole
+
+abbrev μ-loop : tie.MeasureT-loop
+μ-loop whole₀ places real events labels e₀ whole e = events - e
+
+loop-holds : tie.Need-loop-holds Inv-loop μ-loop
+loop-holds c = (omega arith, all-none)
+
+mark-event-requires : tie.Need-mark-event-requires Inv-loop μ-loop
+mark-event-requires c κs = ((search needs, search needs), (c .before .before .before .before .pre .1 .0, c .before .before .before .before .pre .1 .1, c .before .before .loop .inv .1 .long))
+
+add-e : tie.Need-add-e Inv-loop μ-loop
+add-e c = search needs
+
+loop-less : tie.Need-loop-less Inv-loop μ-loop
+loop-less c = search needs
+
+loop-again : tie.Need-loop-again Inv-loop μ-loop
+loop-again c = (omega arith, all-more (c .before .before .before .loop .inv .1) _ (c .mark-event .ensures))
+
+returns : tie.Need-returns Inv-loop μ-loop
+returns c = all-to (c .before .loop .inv .1) (c .before .before .before .args .events) (omega arith)
+
+pub mark-all-spec : {M : Type 1} → statement M
+mark-all-spec =
+    tie.close
+    (tie.spec Inv-loop μ-loop loop-holds mark-event-requires add-e loop-less loop-again returns)

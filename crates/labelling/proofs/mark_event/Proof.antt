@@ -1,0 +1,77 @@
+use native.Mathlib.Omega.{arith}
+use borrow.Author.Needs.{needs}
+use mathlib.Core.Path.{_≡_, refl, sym, _∙_, ap, ap₂, subst}
+use mathlib.Core.Bool.{Bool, true, false, not, _&&_, _||_}
+use Prim.Native.Nat.{ℕ, suc, _+_, _-_, _*_, _%_, _^_, _≤_, _<_}
+use mathlib.Core.List.{List, [], _∷_}
+use denote.Ref.{now}
+use lib.ListN.{length, getD, length-set}
+use Rattle.labelling.proofs.Marks.{marked-none, marked-more, marked-to, all-none, all-more, all-to}
+use Rattle.labelling.proofs.Computed.{shift-one, within, valuable-of, Computed, all-computed}
+use Rattle.labelling.specs.Marks.{hits, Marked, AllMarked}
+use Rattle.labelling.proofs.mark_event.Statement.{statement}
+use Rattle.labelling.proofs.mark_event.Tie as tie
+use Rattle.labelling.proofs.mark_event.Reads as reads
+use Rattle.labelling.proofs.mark_event.Lts as lts
+use Rattle.wire.proofs.wide.Reads as wide-reads
+
+abbrev Inv-loop : tie.InvT-loop
+Inv-loop whole₀ places real labels e y₀ whole y = (y ≤ labels) × Marked y (hits places real e) whole₀ whole
+
+abbrev μ-loop : tie.MeasureT-loop
+μ-loop whole₀ places real labels e y₀ whole y = labels - y
+
+loop-holds : tie.Need-loop-holds Inv-loop μ-loop
+loop-holds c = (omega arith, marked-none (c .pre .1 .2))
+
+mul-wide : tie.Need-mul-wide Inv-loop μ-loop
+mul-wide c = search needs
+
+index-1-wide : tie.Need-index-1-wide Inv-loop μ-loop
+index-1-wide c = search needs
+
+index-2-wide : tie.Need-index-2-wide Inv-loop μ-loop
+index-2-wide c = search needs
+
+wide-requires : tie.Need-wide-requires Inv-loop μ-loop
+wide-requires c κs = search needs
+
+element-copy-out-whole : tie.Need-element-copy-out-whole Inv-loop μ-loop
+element-copy-out-whole c = search needs
+
+element-copy-out-whole-2 : tie.Need-element-copy-out-whole-2 Inv-loop μ-loop
+element-copy-out-whole-2 c = omega (arith, c .before .wide .ensures .1)
+
+element-write-whole : tie.Need-element-write-whole Inv-loop μ-loop
+element-write-whole c = omega (arith, c .before .before .wide .ensures .1)
+
+add-y : tie.Need-add-y Inv-loop μ-loop
+add-y c = search needs
+
+loop-less : tie.Need-loop-less Inv-loop μ-loop
+loop-less c = search needs
+
+loop-again : tie.Need-loop-again Inv-loop μ-loop
+loop-again c = (omega arith, marked-more (now (c .before .before .before .before .before .before .args .places)) (now (c .before .before .before .before .before .before .args .real)) (c .before .before .before .before .before .before .args .e) (c .before .before .before .before .before .loop .inv .1) (c .before .before .wide .result) (c .before .before .wide .ensures .0) (c .before .before .wide .ensures .1))
+
+returns : tie.Need-returns Inv-loop μ-loop
+returns c = marked-to (c .before .loop .inv .1) (c .before .before .args .labels) (omega arith)
+
+pub mark-event-spec : {M : Type 1} → statement M
+mark-event-spec =
+    tie.close
+    (tie.spec
+    Inv-loop
+    μ-loop
+    loop-holds
+    mul-wide
+    index-1-wide
+    index-2-wide
+    wide-requires
+    element-copy-out-whole
+    element-copy-out-whole-2
+    element-write-whole
+    add-y
+    loop-less
+    loop-again
+    returns)

@@ -1,0 +1,80 @@
+-- The closure by passes over a matrix, and that it is crate ltl's closure of rows.
+use mathlib.Core.Path.{_≡_, refl, sym, ap, _∙_, subst}
+use mathlib.Core.Logic.{_⊎_, inl, inr}
+use mathlib.Core.Bool.{Bool, true, false, _||_}
+use mathlib.Core.List.{List, []}
+use Prim.Native.Nat.{ℕ, zero, suc, _+_, _≤_, _<_}
+use native.Mathlib.Numerals.{add-one}
+use native.Mathlib.Omega.{arith}
+use lib.ListN.{length, getD}
+use lib.Bits.{bitOr}
+use lib.Dec.{T}
+use Rattle.ltl.specs.Sets.{on}
+use Rattle.ltl.specs.Closure.{row, closure}
+use Rattle.ltl.proofs.Truth.{t-equal}
+use Rattle.ltl.proofs.Sets.{in-or, or-in}
+use Rattle.ltl.proofs.Closure.{row-pass}
+use Rattle.realizability.specs.Relations.{entry, Holds, through, closed}
+
+abbrev joins : Bool → Bool → Bool → Bool
+joins a b c = elim a [ true ↦ b || c | false ↦ c ]
+
+-- two relations that agree below n
+pub record Agree (n : ℕ) (r s : ℕ → ℕ → Bool) : Type 0 where
+  pub is : (x y : ℕ) → x < n → y < n → r x y ≡ s x y
+
+through-agree : {n : ℕ} {r s : ℕ → ℕ → Bool} → Agree n r s → (k : ℕ) → k < n → Agree n (through k r) (through k s)
+through-agree h k l = record { is = λ x y a b. λ i. joins (h .is x k a l i) (h .is k y l b i) (h .is x y a b i) }
+
+-- the matrix m holds the ways through the numbers below k of the one from which it started
+pub record Closing (k n : ℕ) (old m : List (List Bool)) : Type 0 where
+  pub long : length m ≡ 128
+  pub holds : Holds n (closed k (entry old)) m
+
+pub closing-none : {n : ℕ} {old : List (List Bool)} → length old ≡ 128 → Closing 0 n old old
+closing-none l = record { long = l; holds = record { is = λ x y a b. refl } }
+
+pub closing-more : {k n : ℕ} {old m : List (List Bool)} → Closing k n old m → (m′ : List (List Bool)) → k < n → length m′ ≡ 128 → Holds n (through k (entry m)) m′
+    → Closing (k + 1) n old m′
+closing-more {k} {n} {old} {m} h m′ l long q = record {
+  long = long;
+  holds = subst (λ (j : ℕ). Holds n (closed j (entry old)) m′) (sym (add-one k))
+  (record { is = λ x y a b. q .is x y a b ∙ through-agree (record { is = h .holds .is }) k l .is x y a b });
+}
+
+pub closing-all : {k n : ℕ} {old m : List (List Bool)} → Closing k n old m → (j : ℕ) → k ≡ j → Holds n (closed j (entry old)) m
+closing-all {n = n} {old} {m} h j e = subst (λ (i : ℕ). Holds n (closed i (entry old)) m) e (h .holds)
+
+-- ---- rows as numbers
+
+on-or : (A B i : ℕ) → on (bitOr A B) i ≡ (on A i || on B i)
+on-or A B i = t-equal (on (bitOr A B) i) (on A i || on B i) (λ t. into (on A i) (on B i) (in-or A B i t)) (λ t. or-in A B i (out (on A i) (on B i) t))
+  where
+    into : (a b : Bool) → T a ⊎ T b → T (a || b)
+    into true b t = tt
+    into false b (inl t) = absurd t
+    into false b (inr t) = t
+
+    out : (a b : Bool) → T (a || b) → T a ⊎ T b
+    out true b t = inl tt
+    out false b t = inr t
+
+-- the relation that rows of numbers hold
+abbrev pub related : List ℕ → ℕ → ℕ → Bool
+related rows x y = on (row rows x) y
+
+pass-related : (k : ℕ) (rows : List ℕ) (x y : ℕ) → related (closure (suc k) rows) x y ≡ through k (related (closure k rows)) x y
+pass-related k rows x y =
+    let now = closure k rows in
+    ap (λ (r : ℕ). on r y) (row-pass k now x) ∙ go (on (row now x) k)
+  where
+    go : (b : Bool) → on (elim b [ true ↦ bitOr (row (closure k rows) k) (row (closure k rows) x) | false ↦ row (closure k rows) x ]) y
+        ≡ joins b (related (closure k rows) k y) (related (closure k rows) x y)
+    go true = on-or (row (closure k rows) k) (row (closure k rows) x) y
+    go false = refl
+
+pub closed-related : {n : ℕ} {r : ℕ → ℕ → Bool} (rows : List ℕ) → Agree n r (related rows) → (k : ℕ) → k ≤ n → Agree n (closed k r) (related (closure k rows))
+closed-related rows h zero l = h
+closed-related {n} {r} rows h (suc k) l = record {
+  is = λ x y a b. through-agree (closed-related rows h k (omega arith)) k l .is x y a b ∙ sym (pass-related k rows x y);
+}

@@ -1,0 +1,90 @@
+-- What the code finds over a matrix is the set of labels that crate ltl finds over its rows.
+use mathlib.Core.Path.{_≡_, refl, sym, ap, ap₂, _∙_}
+use mathlib.Core.Bool.{Bool, true, false}
+use mathlib.Core.List.{List}
+use Prim.Native.Nat.{ℕ, zero, suc, _≤_, _<_}
+use native.Mathlib.Nat.{le-refl, mod-lt}
+use native.Mathlib.Omega.{arith}
+use lib.ListN.{getD}
+use lib.Bits.{bitOr}
+use lib.Dec.{eqb}
+use Rattle.sequences.proofs.Loops.{getD-tab}
+use Rattle.ltl.specs.Sets.{on, someBelow, unionBelow, someEvent}
+use Rattle.ltl.specs.Closure.{row, closure}
+use Rattle.ltl.specs.Realizable.{edgeRow, edgeRows, leads, leadsToCore, isCore, coreOf, realizable, allOf}
+use Rattle.ltl.specs.Residuals.{before}
+use Rattle.ltl.specs.Keys.{look}
+use Rattle.ltl.proofs.Sets.{on-set}
+use Rattle.realizability.specs.Relations.{entry, Holds, Row, below, labelAt, edge, closed, leadsBy, viaBy, aroundBy, coreBy, toCoreBy, realizableBy}
+use Rattle.realizability.proofs.Closures.{Agree, related, closed-related}
+
+-- ---- searches and unions over the same tests
+
+some-same : (n : ℕ) (f g : ℕ → Bool) → ((i : ℕ) → i < n → f i ≡ g i) → someBelow n f ≡ someBelow n g
+some-same zero f g h = refl
+some-same (suc n) f g h =
+    ap₂ (λ (a b : Bool). elim a [ true ↦ true | false ↦ b ]) (h n (le-refl (suc n))) (some-same n f g (λ i l. h i (omega arith)))
+
+union-same : (n : ℕ) (f g : ℕ → ℕ) → ((i : ℕ) → i < n → f i ≡ g i) → unionBelow n f ≡ unionBelow n g
+union-same zero f g h = refl
+union-same (suc n) f g h = ap₂ bitOr (h n (le-refl (suc n))) (union-same n f g (λ i l. h i (omega arith)))
+
+-- ---- relations that agree on the labels there are
+
+module _ {n : ℕ} {r s : ℕ → ℕ → Bool} (h : Agree n r s) where
+  leads-agree : (x y : ℕ) → x < n → y < n → leadsBy r x y ≡ leadsBy s x y
+  leads-agree x y a b = ap (λ (t : Bool). elim (eqb x y) [ true ↦ true | false ↦ t ]) (h .is x y a b)
+
+  module _ (before fair : ℕ → ℕ → ℕ) (within : (e y : ℕ) → before e y < n) where
+    via-agree : (c e y : ℕ) → c < n → y < n → viaBy r before fair c e y ≡ viaBy s before fair c e y
+    via-agree c e y a b =
+        ap₂ (λ (t u : Bool). elim t [ true ↦ elim u [ true ↦ fair e y | false ↦ 0 ] | false ↦ 0 ]) (leads-agree c (before e y) a (within e y)) (leads-agree y c b a)
+
+    core-agree : (m w c : ℕ) → c < n → coreBy m w n r before fair c ≡ coreBy m w n s before fair c
+    core-agree m w c a =
+        ap₂ (λ (t : Bool) (A : ℕ). elim t [ true ↦ allOf m A | false ↦ false ]) (h .is c c a a)
+        (union-same w (λ e. unionBelow n (viaBy r before fair c e)) (λ e. unionBelow n (viaBy s before fair c e))
+        (λ e l. union-same n (viaBy r before fair c e) (viaBy s before fair c e) (λ y b. via-agree c e y a b)))
+
+  to-core-agree : (f g : ℕ → Bool) → ((c : ℕ) → c < n → f c ≡ g c) → (x c : ℕ) → x < n → c < n → toCoreBy r f x c ≡ toCoreBy s g x c
+  to-core-agree f g k x c a b = ap₂ (λ (t u : Bool). elim t [ true ↦ u | false ↦ false ]) (k c b) (leads-agree x c a b)
+
+  realizable-agree : (f g : ℕ → Bool) → ((c : ℕ) → c < n → f c ≡ g c) → (x : ℕ) → x < n → realizableBy n r f x ≡ realizableBy n s g x
+  realizable-agree f g k x a = some-same n (toCoreBy r f x) (toCoreBy s g x) (λ c b. to-core-agree f g k x c a b)
+
+-- ---- the edges
+
+module _ (w n : ℕ) (places : List (List ℕ)) where
+  edges : List ℕ
+  edges = edgeRows (below w) n (labelAt n places)
+
+  edges-related : Agree n (edge w n places) (related edges)
+  unfolding edges
+  edges-related = record {
+    is = λ x y a b.
+    sym (ap (λ (r : ℕ). on r y) (getD-tab n (edgeRow (below w) n (labelAt n places)) x 0 a)
+    ∙ on-set n (λ y. someEvent (below w) (λ e. eqb (labelAt n places e y) x)) y b);
+  }
+
+  module _ (m : ℕ) (fairs : List (List ℕ)) (rows₀ rows : List (List Bool)) (core out : List Bool) where
+    pub found : 1 ≤ n → Holds n (edge w n places) rows₀ → Holds n (closed n (entry rows₀)) rows → Row n (coreBy m w n (entry rows) (labelAt n places) (look fairs)) core
+        → Row n (realizableBy n (entry rows) (λ i. getD core i false)) out → Row n (on (realizable (below w) n (before n (look places)) (look fairs) m)) out
+    unfolding realizable edges
+    found some h₀ h k l = record { is = λ x a. l .is x a ∙ realizable-agree agree (λ i. getD core i false) (on full) same x a ∙ sym (on-set n (λ x. someBelow n (leadsToCore reach full x)) x a) }
+      where
+        reach : List ℕ
+        reach = closure n (edgeRows (below w) n (labelAt n places))
+
+        full : ℕ
+        full = coreOf (below w) n (labelAt n places) (look fairs) m reach
+
+        first : Agree n (entry rows₀) (related (edgeRows (below w) n (labelAt n places)))
+        first = record { is = λ x y a b. h₀ .is x y a b ∙ edges-related .is x y a b }
+
+        agree : Agree n (entry rows) (related reach)
+        agree = record { is = λ x y a b. h .is x y a b ∙ closed-related (edgeRows (below w) n (labelAt n places)) first n (le-refl n) .is x y a b }
+
+        same : (c : ℕ) → c < n → getD core c false ≡ on full c
+        same c a =
+            k .is c a ∙ core-agree agree (labelAt n places) (look fairs) (λ e y. mod-lt (look places e y) some) m w c a
+            ∙ sym (on-set n (isCore (below w) n (labelAt n places) (look fairs) m reach) c a)

@@ -1,0 +1,62 @@
+-- Loops that look for a number, that test all of them, and that join the sets of all of them (specs/Sets of crate ltl).
+use mathlib.Core.Path.{_≡_, refl, sym, ap, _∙_, subst}
+use mathlib.Core.Bool.{Bool, true, false}
+use Prim.Native.Nat.{ℕ, suc, _+_, _<_}
+use native.Mathlib.Numerals.{add-one}
+use lib.Dec.{T}
+use lib.Bits.{bitOr}
+use Rattle.ltl.specs.Sets.{someBelow, everyBelow, unionBelow}
+use Rattle.ltl.proofs.Searches.{→some, every→}
+
+is-true : (b : Bool) → T b → b ≡ true
+is-true true t = refl
+is-true false t = absurd t
+
+is-false : (b : Bool) → (T b → ⊥) → b ≡ false
+is-false true f = absurd (f tt)
+is-false false f = refl
+
+-- none passes so far
+pub record NoneBelow (n : ℕ) (f : ℕ → Bool) : Type 0 where
+  pub is : someBelow n f ≡ false
+
+pub none-zero : {f : ℕ → Bool} → NoneBelow 0 f
+none-zero = record { is = refl }
+
+pub none-more : {n : ℕ} {f : ℕ → Bool} → NoneBelow n f → f n ≡ false → NoneBelow (n + 1) f
+none-more {n} {f} h e = record { is = ap (λ (k : ℕ). someBelow k f) (add-one n) ∙ ap (λ (b : Bool). elim b [ true ↦ true | false ↦ someBelow n f ]) e ∙ h .is }
+
+pub none-all : {n : ℕ} {f : ℕ → Bool} → NoneBelow n f → (m : ℕ) → n ≡ m → false ≡ someBelow m f
+none-all {f = f} h m e = sym (h .is) ∙ ap (λ (k : ℕ). someBelow k f) e
+
+pub some-found : (m : ℕ) (f : ℕ → Bool) (i : ℕ) → i < m → f i ≡ true → true ≡ someBelow m f
+some-found m f i h e = sym (is-true (someBelow m f) (→some m f i h (subst T (sym e) tt)))
+
+-- all pass so far
+pub record AllBelow (n : ℕ) (f : ℕ → Bool) : Type 0 where
+  pub is : everyBelow n f ≡ true
+
+pub all-zero : {f : ℕ → Bool} → AllBelow 0 f
+all-zero = record { is = refl }
+
+pub all-more : {n : ℕ} {f : ℕ → Bool} → AllBelow n f → f n ≡ true → AllBelow (n + 1) f
+all-more {n} {f} h e = record { is = ap (λ (k : ℕ). everyBelow k f) (add-one n) ∙ ap (λ (b : Bool). elim b [ true ↦ everyBelow n f | false ↦ false ]) e ∙ h .is }
+
+pub all-all : {n : ℕ} {f : ℕ → Bool} → AllBelow n f → (m : ℕ) → n ≡ m → true ≡ everyBelow m f
+all-all {f = f} h m e = sym (h .is) ∙ ap (λ (k : ℕ). everyBelow k f) e
+
+pub not-all : (m : ℕ) (f : ℕ → Bool) (i : ℕ) → i < m → f i ≡ false → false ≡ everyBelow m f
+not-all m f i h e = sym (is-false (everyBelow m f) (λ t. subst T e (every→ m f t i h)))
+
+-- the union so far
+pub record Union (n : ℕ) (f : ℕ → ℕ) (A : ℕ) : Type 0 where
+  pub is : A ≡ unionBelow n f
+
+pub union-none : {f : ℕ → ℕ} → Union 0 f 0
+union-none = record { is = refl }
+
+pub union-more : {n : ℕ} {f : ℕ → ℕ} {A : ℕ} (B : ℕ) → Union n f A → B ≡ f n → Union (n + 1) f (bitOr B A)
+union-more {n} B h e = record { is = rw (h .is, e, add-one) }
+
+pub union-all : {n : ℕ} {f : ℕ → ℕ} {A : ℕ} → Union n f A → (m : ℕ) → n ≡ m → A ≡ unionBelow m f
+union-all {f = f} h m e = h .is ∙ ap (λ (k : ℕ). unionBelow k f) e

@@ -1,0 +1,49 @@
+use native.Mathlib.Omega.{arith}
+use borrow.Author.Needs.{needs}
+use mathlib.Core.Path.{_≡_, refl, sym, _∙_, ap, ap₂, subst}
+use mathlib.Core.Bool.{Bool, true, false, not, _&&_, _||_}
+use Prim.Native.Nat.{ℕ, suc, _+_, _-_, _*_, _%_, _^_, _≤_, _<_}
+use native.Mathlib.Nat.{mod-lt}
+use mathlib.Core.List.{List, [], _∷_}
+use borrow.Author.Tests.{eq-eqb, ne-eqb}
+use denote.Ref.{now}
+use lib.ListN.{length, getD, length-set}
+use lib.Dec.{eqb}
+use Rattle.realizability.proofs.Searches.{NoneBelow, none-zero, none-more, none-all, some-found, AllBelow, all-zero, all-more, all-all, not-all, Union, union-none, union-more, union-all}
+use Rattle.realizability.proofs.Rows.{row-none, row-more, row-to, Made, made-none, made-more, made-same, made-all, through-row, past-row, through-made}
+use Rattle.realizability.proofs.Closures.{Closing, closing-none, closing-more, closing-all}
+use Rattle.realizability.specs.Relations.{entry, Holds, Row, throughRow, labelAt, edge, through, closed, leadsBy, viaBy, aroundBy, coreBy, toCoreBy, realizableBy}
+use Rattle.realizability.proofs.close.Statement.{statement}
+use Rattle.realizability.proofs.close.Tie as tie
+use Rattle.realizability.proofs.close.Reads as reads
+use Rattle.realizability.proofs.close.Lts as lts
+use Rattle.realizability.proofs.pass.Reads as pass-reads
+
+abbrev Inv-loop : tie.InvT-loop
+Inv-loop labels rows₀ k₀ rows k = (k ≤ labels) × Closing k labels rows₀ rows
+
+abbrev μ-loop : tie.MeasureT-loop
+μ-loop labels rows₀ k₀ rows k = labels - k
+
+loop-holds : tie.Need-loop-holds Inv-loop μ-loop
+loop-holds c = (omega arith, closing-none (c .pre .1))
+
+pass-requires : tie.Need-pass-requires Inv-loop μ-loop
+pass-requires c κs = (search needs, search needs, c .before .before .loop .inv .1 .long)
+
+add-k : tie.Need-add-k Inv-loop μ-loop
+add-k c = search needs
+
+loop-less : tie.Need-loop-less Inv-loop μ-loop
+loop-less c = search needs
+
+loop-again : tie.Need-loop-again Inv-loop μ-loop
+loop-again c = (omega arith, closing-more (c .before .before .before .loop .inv .1) _ (c .before .before .loop-test .taken) (c .pass .ensures .0) (c .pass .ensures .1))
+
+returns : tie.Need-returns Inv-loop μ-loop
+returns c = (c .before .loop .inv .1 .long, closing-all (c .before .loop .inv .1) (c .before .before .args .labels) (omega arith))
+
+pub close-spec : {M : Type 1} → statement M
+close-spec =
+    tie.close
+    (tie.spec Inv-loop μ-loop loop-holds pass-requires add-k loop-less loop-again returns)

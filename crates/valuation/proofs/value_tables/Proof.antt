@@ -1,0 +1,83 @@
+use native.Mathlib.Omega.{arith}
+use borrow.Author.Needs.{needs}
+use mathlib.Core.Path.{_≡_, refl, sym, _∙_, ap, ap₂, subst}
+use mathlib.Core.Bool.{Bool, true, false, not, _&&_, _||_, Bool·beq}
+use Prim.Native.Nat.{ℕ, suc, _+_, _-_, _*_, _%_, _^_, _≤_, _<_}
+use mathlib.Core.List.{List, [], _∷_}
+use Rattle.valuation.proofs.Numbers.{on-past, put-fits, put-is, place-fits}
+use Rattle.valuation.proofs.Nodes.{bitsAt, of-kind, of-no-kind, past}
+use Rattle.valuation.specs.Bits.{plainBits, temporalBits, bitsOf}
+use Rattle.valuation.proofs.Steps.{counts, temporal-node, plain-node}
+use Rattle.valuation.proofs.Prefixes.{Prefix, prefix-more, prefix-sized, prefix-temporals, prefix-count, prefix-room}
+use Rattle.valuation.specs.Valued.{modelOf, Sized, Room}
+use Rattle.ltl.specs.Nodes.{Split, split, splits, temporals}
+use Rattle.ltl.specs.Valuation.{value, valued, placeOf}
+use lib.ListN.{length, getD, take, length-set}
+use Rattle.valuation.proofs.Prefixes.{whole-temporals, whole-place, whole-fairs}
+use Rattle.valuation.proofs.Entries.{entries-none, entries-more, entries-to, table-none, table-more, table-to}
+use Rattle.valuation.specs.Entries.{Entries, Table}
+use Rattle.valuation.specs.Valued.{placeAt, fairsAt}
+use Rattle.ltl.specs.Valuation as ltl
+use denote.Ref.{now}
+use Rattle.valuation.proofs.value_tables.Statement.{statement}
+use Rattle.valuation.proofs.value_tables.Tie as tie
+use Rattle.valuation.proofs.value_tables.Reads as reads
+use Rattle.valuation.proofs.value_tables.Lts as lts
+use Rattle.valuation.proofs.value_rows.Reads as value-rows-reads
+
+abbrev Inv-loop : tie.InvT-loop
+Inv-loop events labels count nodes places₀ fairs₀ e₀ places fairs e = (e ≤ events) × (length places ≡ length places₀) × (length fairs ≡ length fairs₀) × Table e labels (placeAt count nodes) places × Table e labels (fairsAt count nodes) fairs
+
+abbrev μ-loop : tie.MeasureT-loop
+μ-loop events labels count nodes places₀ fairs₀ e₀ places fairs e = events - e
+
+loop-holds : tie.Need-loop-holds Inv-loop μ-loop
+loop-holds c = (omega arith, refl, refl, table-none, table-none)
+
+cast-value-rows : tie.Need-cast-value-rows Inv-loop μ-loop
+cast-value-rows c = search needs
+
+value-rows-requires : tie.Need-value-rows-requires Inv-loop μ-loop
+value-rows-requires c κs = (c .before .before .pre .0, omega arith)
+
+mul-p : tie.Need-mul-p Inv-loop μ-loop
+mul-p c = search needs
+
+element-set-from-p : tie.Need-element-set-from-p Inv-loop μ-loop
+element-set-from-p c = search needs
+
+mul-f : tie.Need-mul-f Inv-loop μ-loop
+mul-f c = search needs
+
+element-set-from-f : tie.Need-element-set-from-f Inv-loop μ-loop
+element-set-from-f c = search needs
+
+add-e : tie.Need-add-e Inv-loop μ-loop
+add-e c = search needs
+
+loop-less : tie.Need-loop-less Inv-loop μ-loop
+loop-less c = search needs
+
+loop-again : tie.Need-loop-again Inv-loop μ-loop
+loop-again c = (omega arith, simp length-set (c .before .before .before .before .loop .inv .1), simp length-set (c .before .before .before .before .loop .inv .2), table-more (c .before .before .before .before .loop .inv .3) (c .before .before .value-rows .ensures .0) (omega arith), table-more (c .before .before .before .before .loop .inv .4) (c .before .before .value-rows .ensures .1) (omega arith))
+
+returns : tie.Need-returns Inv-loop μ-loop
+returns c = let z : c .before .loop .e ≡ c .before .before .args .events = omega arith in ((c .before .loop .inv .1 ∙ c .before .before .pre .1 .1 .0, table-to (c .before .loop .inv .3) (c .before .before .args .events) z), (c .before .loop .inv .2 ∙ c .before .before .pre .1 .1 .1, table-to (c .before .loop .inv .4) (c .before .before .args .events) z))
+
+pub value-tables-spec : {M : Type 1} → statement M
+value-tables-spec =
+    tie.close
+    (tie.spec
+    Inv-loop
+    μ-loop
+    loop-holds
+    cast-value-rows
+    value-rows-requires
+    mul-p
+    element-set-from-p
+    mul-f
+    element-set-from-f
+    add-e
+    loop-less
+    loop-again
+    returns)
