@@ -1,5 +1,6 @@
 //! The stored test vectors: an input stream and the lines expected for it.
 
+mod build_cases;
 mod rule_cases;
 mod rule_faults;
 mod rule_samples;
@@ -17,10 +18,11 @@ trait Case {
     fn expected_line(&self) -> String;
 }
 
-/// Writes both folders of vectors under `folder`.
+/// Writes the folders of vectors under `folder`.
 pub fn write_all(folder: &Path) -> io::Result<()> {
     write_stream(&folder.join("rule_vectors"), &rule_cases::all())?;
-    write_stream(&folder.join("table_vectors"), &table_cases::all())
+    write_stream(&folder.join("table_vectors"), &table_cases::all())?;
+    write_stream(&folder.join("build_vectors"), &build_cases::all())
 }
 
 fn write_stream(folder: &Path, cases: &[impl Case]) -> io::Result<()> {

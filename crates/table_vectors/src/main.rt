@@ -10,62 +10,6 @@ use meaning::Ran;
 use meaning::Refusal;
 use meaning::Verdict;
 
-// The next two bytes as a number, or 65,536 where the input has ended.
-fn number() -> usize
-    ensures { λ r. ⌜ r ≤ 65536 ⌝ }
-{
-    let mut two = [0u8; 2];
-    let got = io::read_full(0, &mut two);
-    if got < 2 {
-        return 65536;
-    }
-    wire::wide(two[0]) + 256 * wire::wide(two[1])
-}
-
-fn say(text: &[u8]) {
-    io::write_all(1, text);
-}
-
-fn say_number(n: usize) {
-    io::print_decimal(1, n as u64);
-}
-
-fn say_refusal(r: Refusal) {
-    say(b"refused ");
-    say_number(wire::wide(r.number()));
-    say(b" at ");
-    say_number(r.place());
-}
-
-fn say_verdict(v: Verdict) {
-    match v {
-        Verdict::Undecided => say(b"undecided "),
-        Verdict::Satisfied => say(b"satisfied "),
-        Verdict::Violated => say(b"violated "),
-        Verdict::Moot => say(b"moot "),
-    }
-}
-
-fn say_run(r: Ran) {
-    match r {
-        Ran::Refused(why) => say_refusal(why),
-        Ran::Ended {
-            state,
-            verdict,
-            decided,
-        } => {
-            say(b"state ");
-            say_number(wire::wide16(state));
-            say(b" ");
-            say_verdict(verdict);
-            match decided {
-                Decided::After(n) => say_number(n),
-                Decided::Never => say(b"none"),
-            }
-        }
-    }
-}
-
 // A state's row, read from the table.
 fn row_of(t: &[u8], signals: u8, state: u16) -> [u16; 16]
     requires { ⌜ signals ≤ 4 ⌝ }
@@ -136,22 +80,6 @@ fn say_case(t: &[u8], state: u16, events: &[u8]) {
     say(b"\n");
 }
 
-// Fills the first n bytes from the input.
-fn fill(buffer: &mut [u8], n: usize) -> bool {
-    if buffer.len() < n {
-        return false;
-    }
-    let got = io::read_full(0, &mut buffer[..n]);
-    got == n
-}
-
-fn front(buffer: &[u8], n: usize) -> &[u8] {
-    if n <= buffer.len() {
-        return &buffer[..n];
-    }
-    buffer
-}
-
 // Reads and answers one case; false at the end of the input.
 fn case(table: &mut [u8], events: &mut [u8]) -> bool {
     let n = number();
@@ -168,13 +96,6 @@ fn case(table: &mut [u8], events: &mut [u8]) -> bool {
     }
     say_case(front(table, n), state as u16, front(events, m));
     true
-}
-
-// Room for any table.
-fn room() -> [u8; 9600]
-    ensures { λ r. ⌜ 9600 ≡ length r ⌝ }
-{
-    [0; 9600]
 }
 
 fn main() {

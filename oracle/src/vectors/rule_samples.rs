@@ -6,12 +6,12 @@ use crate::rule::{kind, temporal_count, FormulaNode, Rule, NODE_LIMIT, TEMPORAL_
 const TEMPORAL_KINDS: [u8; 4] = [kind::NEXT, kind::UNTIL, kind::EVENTUALLY, kind::ALWAYS];
 
 /// A node as kind, first and second body byte.
-type NodeBytes = (u8, u8, u8);
+pub type NodeBytes = (u8, u8, u8);
 
-const P: NodeBytes = (kind::SIGNAL, 0, 0);
-const Q: NodeBytes = (kind::SIGNAL, 1, 0);
+pub const P: NodeBytes = (kind::SIGNAL, 0, 0);
+pub const Q: NodeBytes = (kind::SIGNAL, 1, 0);
 
-fn rule(signals: u8, nodes: &[NodeBytes]) -> Rule {
+pub fn rule(signals: u8, nodes: &[NodeBytes]) -> Rule {
     let nodes =
         nodes.iter().map(|&(kind, first, second)| FormulaNode::new(kind, first, second)).collect();
     Rule { signals, nodes }
@@ -56,7 +56,7 @@ pub fn nexts(count: u8) -> Rule {
 }
 
 /// always ((p implies M) and (q implies not M)), M being nexts over signal 2
-fn shared_nexts(count: u8) -> Rule {
+pub fn shared_nexts(count: u8) -> Rule {
     let mut nodes = vec![P, Q, (kind::SIGNAL, 2, 0)];
     nodes.extend((0..count).map(|below| (kind::NEXT, below + 2, 0)));
     let inner = count + 2;

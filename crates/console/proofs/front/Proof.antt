@@ -5,10 +5,10 @@ use mathlib.Core.Path.{_≡_, refl, sym, _∙_}
 use lib.Seq.{length-take-le}
 use denote.Ref.{now}
 use borrow.Author.Needs.{needs}
-use Rattle.table_vectors.proofs.front.Statement.{statement}
-use Rattle.table_vectors.proofs.front.Tie as tie
-use Rattle.table_vectors.proofs.front.Reads as reads
-use Rattle.table_vectors.proofs.front.Lts as lts
+use Rattle.console.proofs.front.Statement.{statement}
+use Rattle.console.proofs.front.Tie as tie
+use Rattle.console.proofs.front.Reads as reads
+use Rattle.console.proofs.front.Lts as lts
 
 slice-aggregate-result : tie.Need-slice-aggregate-result
 slice-aggregate-result c = sym (length-take-le (c .before .before .args .n) (now (c .before .before .args .buffer)) (c .before .if1 .taken))

@@ -5,10 +5,10 @@ use mathlib.Core.Path.{_≡_, refl, sym, _∙_}
 use lib.Seq.{length-take-le}
 use denote.Ref.{now}
 use borrow.Author.Needs.{needs}
-use Rattle.table_vectors.proofs.fill.Statement.{statement}
-use Rattle.table_vectors.proofs.fill.Tie as tie
-use Rattle.table_vectors.proofs.fill.Reads as reads
-use Rattle.table_vectors.proofs.fill.Lts as lts
+use Rattle.console.proofs.fill.Statement.{statement}
+use Rattle.console.proofs.fill.Tie as tie
+use Rattle.console.proofs.fill.Reads as reads
+use Rattle.console.proofs.fill.Lts as lts
 use Rattle.io.proofs.read_full.Reads as read-full-reads
 
 returns : tie.Need-returns
