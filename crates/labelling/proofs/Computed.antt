@@ -1,35 +1,30 @@
 -- The arrays that the code computes hold the tables of the residual system.
-use mathlib.Core.Path.{_≡_, refl, sym, ap, ap₂, _∙_, subst}
+use mathlib.Core.Path.{_≡_, refl, sym, ap, _∙_, subst}
 use mathlib.Core.Bool.{Bool, true, false}
-use mathlib.Core.List.{List, []}
-use Prim.Native.Nat.{ℕ, zero, suc, _+_, _*_, _%_, _^_, _≤_, _<_}
-use native.Mathlib.Nat.{le-refl, one-mul}
-use native.Mathlib.Omega.{arith}
-use lib.ListN.{length, getD, take}
+use mathlib.Core.List.{List}
+use Prim.Native.Nat.{ℕ, _+_, _^_, _≤_, _<_}
+use lib.ListN.{getD, take}
 use lib.Dec.{eqb}
-use lib.Pow.{pow-pos, pow-mono, shl-exact}
+use lib.Pow.{pow-pos, pow-mono}
 use Rattle.meaning.specs.Traces.{over}
 use Rattle.meaning.specs.declared.Node.{Node}
 use Rattle.ltl.specs.Sets.{on, someBelow}
 use Rattle.ltl.specs.Nodes.{splits, temporals}
-use Rattle.ltl.specs.Valuation.{placeOf}
 use Rattle.ltl.specs.Realizable.{realizable}
 use Rattle.ltl.specs.Residuals.{before, wholeSet}
-use Rattle.ltl.specs.Keys.{look, tableOf, tablesOf}
+use Rattle.ltl.specs.Keys.{look, tablesOf}
 use Rattle.ltl.proofs.Sets.{on-out}
 use Rattle.ltl.proofs.Tables.{Tabulates}
 use Rattle.ltl.proofs.Bounds.{place-lt, whole-lt}
 use Rattle.ltl.proofs.SameTables.{same-whole}
 use Rattle.ltl.proofs.Instance.{made-tabulates}
 use Rattle.valuation.specs.Valued.{Valuable, placeAt, fairsAt}
-use Rattle.valuation.specs.Entries.{Table}
-use Rattle.realizability.specs.Relations.{Row, below}
+use Rattle.valuation.specs.Entries.{Entries, Table}
+use Rattle.realizability.specs.Relations.{below}
+use Rattle.realizability.proofs.Searches.{some-same}
 use Rattle.labelling.specs.Arrays.{TablesIn}
 use Rattle.labelling.specs.Marks.{hits, AllMarked}
 use Rattle.labelling.proofs.Marks.{gives, marks-on}
-
-pub shift-one : (k : ℕ) → k ≤ 7 → (1 * 2 ^ k) % 2 ^ 64 ≡ 2 ^ k
-shift-one k h = shl-exact {a = 1} 1 k 64 (omega arith) (omega arith) ∙ one-mul (2 ^ k)
 
 -- so many events and labels are within the arrays
 pub within : (j k x : ℕ) → x ≡ 2 ^ k → k ≤ j → (1 ≤ x) × (x ≤ 2 ^ j)
@@ -43,13 +38,8 @@ valuable-of k count nodes e v = subst (λ (j : ℕ). Valuable j nodes) (sym e) v
 pub record Computed (w n m count : ℕ) (nodes : List Node) (places fairs : List (List ℕ)) (real whole : List Bool) : Type 0 where
   pub place : Table w n (placeAt count nodes) places
   pub fair : Table w n (fairsAt count nodes) fairs
-  pub labels : Row n (on (realizable (below w) n (before n (look places)) (look fairs) m)) real
+  pub labels : Entries n (on (realizable (below w) n (before n (look places)) (look fairs) m)) false real
   pub marks : AllMarked w n places real whole
-
-some-same : (n : ℕ) (f g : ℕ → Bool) → ((i : ℕ) → i < n → f i ≡ g i) → someBelow n f ≡ someBelow n g
-some-same zero f g h = refl
-some-same (suc n) f g h =
-    ap₂ (λ (a b : Bool). elim a [ true ↦ true | false ↦ b ]) (h n (le-refl (suc n))) (some-same n f g (λ i l. h i (omega arith)))
 
 abbrev temporalsIn : ℕ → List Node → ℕ
 temporalsIn count nodes = temporals (splits (take count nodes))
@@ -66,7 +56,7 @@ module _ (P count : ℕ) (nodes : List Node) {places fairs : List (List ℕ)} {r
         h .marks .is p l
         ∙ some-same (2 ^ P) (λ e. someBelow (2 ^ temporalsIn count nodes) (hits places real e p)) (λ e. someBelow (2 ^ temporalsIn count nodes) (gives P (2 ^ temporalsIn count nodes) (look places) R p e))
         (λ e a. some-same (2 ^ temporalsIn count nodes) (hits places real e p) (gives P (2 ^ temporalsIn count nodes) (look places) R p e)
-        (λ y b. ap (λ (t : Bool). elim t [ true ↦ eqb (look places e y) p | false ↦ false ]) (h .labels .is y b)))
+        (λ y b. ap (λ (t : Bool). elim t [ true ↦ eqb (look places e y) p | false ↦ false ]) (h .labels .entry y b)))
         ∙ marks-on P (2 ^ temporalsIn count nodes) (look places) R p
         ∙ ap (λ (A : ℕ). on A p) (same-whole tabulates (made-tabulates (over P) (splits (take count nodes))))
 

@@ -2,8 +2,7 @@
 use mathlib.Core.Path.{_≡_, refl, sym, ap, ap₂, _∙_, subst}
 use mathlib.Core.Bool.{Bool, true, false, _||_}
 use mathlib.Core.List.{List}
-use Prim.Native.Nat.{ℕ, zero, suc, _+_, _^_, _<_}
-use native.Mathlib.Nat.{le-refl}
+use Prim.Native.Nat.{ℕ, _+_, _^_, _<_}
 use native.Mathlib.Numerals.{add-one}
 use native.Mathlib.Decide.{ℕ-discrete}
 use native.Mathlib.Omega.{arith}
@@ -50,9 +49,9 @@ module _ (places : List (List ℕ)) (real : List Bool) (e : ℕ) where
   marked-more {n} {old} {new} h q k l = record {
     long = length-set new q (getD real n false || getD new q false) ∙ h .long;
     is = λ p a.
-    go p a (ℕ-discrete p q)
-    ∙ sym (ap (λ (j : ℕ). or (someBelow j (hits places real e p)) (getD old p false)) (add-one n)
-    ∙ more (hits places real e p n) (someBelow n (hits places real e p)) (getD old p false));
+        go p a (ℕ-discrete p q)
+        ∙ sym (ap (λ (j : ℕ). or (someBelow j (hits places real e p)) (getD old p false)) (add-one n)
+        ∙ more (hits places real e p n) (someBelow n (hits places real e p)) (getD old p false));
   }
     where
       go : (p : ℕ) → p < 256 → Dec (p ≡ q)
@@ -81,8 +80,8 @@ module _ {n : ℕ} {places : List (List ℕ)} {real : List Bool} where
   all-more {e} {whole} h new q = record {
     long = q .long;
     is = λ p a.
-    q .is p a ∙ ap (or (someBelow n (hits places real e p))) (h .is p a)
-    ∙ ap (λ (j : ℕ). someBelow j (λ e. someBelow n (hits places real e p))) (sym (add-one e));
+        q .is p a ∙ ap (or (someBelow n (hits places real e p))) (h .is p a)
+        ∙ ap (λ (j : ℕ). someBelow j (λ e. someBelow n (hits places real e p))) (sym (add-one e));
   }
 
   pub all-to : {w : ℕ} {whole : List Bool} → AllMarked w n places real whole → (m : ℕ) → w ≡ m → AllMarked m n places real whole

@@ -1,9 +1,8 @@
 // The tables of the residual system, computed into arrays.
 ghost use mathlib.Core.Path.{_≡_};
-ghost use mathlib.Core.Bool.{Bool, false};
 ghost use mathlib.Core.List.{List};
-ghost use Prim.Native.Nat.{ℕ, _+_, _^_, _≤_, _<_};
-ghost use lib.ListN.{length, getD, take};
+ghost use Prim.Native.Nat.{ℕ, _^_, _≤_, _<_};
+ghost use lib.ListN.{length, take};
 ghost use Rattle.meaning.specs.Traces.{over};
 ghost use Rattle.ltl.specs.Nodes.{splits, temporals};
 ghost use Rattle.ltl.specs.Keys.{tablesOf};
@@ -12,7 +11,8 @@ ghost use Rattle.labelling.specs.Marks.{hits, Marked, AllMarked};
 ghost use Rattle.labelling.specs.Arrays.{TablesIn};
 use meaning::Node;
 use realizability::realizable_labels;
-use valuation::{temporal_count, value_tables};
+use valuation::temporal_count;
+use valuation::value_tables;
 use wire::wide;
 
 // A power of 2.
@@ -24,7 +24,13 @@ pub fn power(k: u8) -> usize
 }
 
 // Marks the places that an event gives before the labels that some continuation has.
-fn mark_event(whole: &mut [bool; 256], places: &[[u8; 128]; 16], real: &[bool; 128], labels: usize, e: usize)
+fn mark_event(
+    whole: &mut [bool; 256],
+    places: &[[u8; 128]; 16],
+    real: &[bool; 128],
+    labels: usize,
+    e: usize,
+)
     requires { ⌜ (labels ≤ 128) × (e < 16) ⌝ }
     requires { ⌜ (length {A = List ℕ} (now places) ≡ 16) × (length (now real) ≡ 128) × (length (now whole) ≡ 256) ⌝ }
     ensures { λ _. ⌜ Marked labels (hits (now (places .entry)) (now (real .entry)) e) (now (whole .entry)) (now (whole .exit)) ⌝ }
@@ -32,13 +38,20 @@ fn mark_event(whole: &mut [bool; 256], places: &[[u8; 128]; 16], real: &[bool; 1
     let mut y: usize = 0;
     while y < labels {
         let p = wide(places[e][y]);
-        whole[p] = real[y] | whole[p];
+        let has = real[y];
+        whole[p] = has | whole[p];
         y += 1;
     }
 }
 
 // Marks the places of all continuations, and no other.
-fn mark_all(whole: &mut [bool; 256], places: &[[u8; 128]; 16], real: &[bool; 128], events: usize, labels: usize)
+fn mark_all(
+    whole: &mut [bool; 256],
+    places: &[[u8; 128]; 16],
+    real: &[bool; 128],
+    events: usize,
+    labels: usize,
+)
     requires { ⌜ (labels ≤ 128) × (events ≤ 16) ⌝ }
     requires { ⌜ (length {A = List ℕ} (now places) ≡ 16) × (length (now real) ≡ 128) × (length (now whole) ≡ 256) ⌝ }
     ensures { λ _. ⌜ AllMarked events labels (now (places .entry)) (now (real .entry)) (now (whole .exit)) ⌝ }
@@ -53,7 +66,13 @@ fn mark_all(whole: &mut [bool; 256], places: &[[u8; 128]; 16], real: &[bool; 128
 
 // The tables of a rule's residual system: the place by event and next label, and which places the continuations have.
 // Returns the number m of temporal nodes; there are 2^m labels.
-pub fn tables(signals: u8, count: u8, nodes: [Node; 64], places: &mut [[u8; 128]; 16], whole: &mut [bool; 256]) -> u8
+pub fn tables(
+    signals: u8,
+    count: u8,
+    nodes: [Node; 64],
+    places: &mut [[u8; 128]; 16],
+    whole: &mut [bool; 256],
+) -> u8
     requires { ⌜ signals ≤ 4 ⌝ }
     requires { ⌜ Valuable count nodes ⌝ }
     requires { ⌜ (length {A = List ℕ} (now places) ≡ 16) × (length (now whole) ≡ 256) ⌝ }

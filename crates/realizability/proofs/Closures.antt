@@ -2,11 +2,11 @@
 use mathlib.Core.Path.{_≡_, refl, sym, ap, _∙_, subst}
 use mathlib.Core.Logic.{_⊎_, inl, inr}
 use mathlib.Core.Bool.{Bool, true, false, _||_}
-use mathlib.Core.List.{List, []}
+use mathlib.Core.List.{List}
 use Prim.Native.Nat.{ℕ, zero, suc, _+_, _≤_, _<_}
 use native.Mathlib.Numerals.{add-one}
 use native.Mathlib.Omega.{arith}
-use lib.ListN.{length, getD}
+use lib.ListN.{length}
 use lib.Bits.{bitOr}
 use lib.Dec.{T}
 use Rattle.ltl.specs.Sets.{on}
@@ -14,7 +14,7 @@ use Rattle.ltl.specs.Closure.{row, closure}
 use Rattle.ltl.proofs.Truth.{t-equal}
 use Rattle.ltl.proofs.Sets.{in-or, or-in}
 use Rattle.ltl.proofs.Closure.{row-pass}
-use Rattle.realizability.specs.Relations.{entry, Holds, through, closed}
+use Rattle.realizability.specs.Relations.{entry, Matrix, through, closed}
 
 abbrev joins : Bool → Bool → Bool → Bool
 joins a b c = elim a [ true ↦ b || c | false ↦ c ]
@@ -29,21 +29,21 @@ through-agree h k l = record { is = λ x y a b. λ i. joins (h .is x k a l i) (h
 -- the matrix m holds the ways through the numbers below k of the one from which it started
 pub record Closing (k n : ℕ) (old m : List (List Bool)) : Type 0 where
   pub long : length m ≡ 128
-  pub holds : Holds n (closed k (entry old)) m
+  pub holds : Matrix n (closed k (entry old)) m
 
 pub closing-none : {n : ℕ} {old : List (List Bool)} → length old ≡ 128 → Closing 0 n old old
 closing-none l = record { long = l; holds = record { is = λ x y a b. refl } }
 
-pub closing-more : {k n : ℕ} {old m : List (List Bool)} → Closing k n old m → (m′ : List (List Bool)) → k < n → length m′ ≡ 128 → Holds n (through k (entry m)) m′
+pub closing-more : {k n : ℕ} {old m : List (List Bool)} → Closing k n old m → (m′ : List (List Bool)) → k < n → length m′ ≡ 128 → Matrix n (through k (entry m)) m′
     → Closing (k + 1) n old m′
 closing-more {k} {n} {old} {m} h m′ l long q = record {
   long = long;
-  holds = subst (λ (j : ℕ). Holds n (closed j (entry old)) m′) (sym (add-one k))
-  (record { is = λ x y a b. q .is x y a b ∙ through-agree (record { is = h .holds .is }) k l .is x y a b });
+  holds = subst (λ (j : ℕ). Matrix n (closed j (entry old)) m′) (sym (add-one k))
+      (record { is = λ x y a b. q .is x y a b ∙ through-agree (record { is = h .holds .is }) k l .is x y a b });
 }
 
-pub closing-all : {k n : ℕ} {old m : List (List Bool)} → Closing k n old m → (j : ℕ) → k ≡ j → Holds n (closed j (entry old)) m
-closing-all {n = n} {old} {m} h j e = subst (λ (i : ℕ). Holds n (closed i (entry old)) m) e (h .holds)
+pub closing-all : {k n : ℕ} {old m : List (List Bool)} → Closing k n old m → (j : ℕ) → k ≡ j → Matrix n (closed j (entry old)) m
+closing-all {n = n} {old} {m} h j e = subst (λ (i : ℕ). Matrix n (closed i (entry old)) m) e (h .holds)
 
 -- ---- rows as numbers
 

@@ -1,8 +1,7 @@
 -- The tests of specs/Relations, by the outcomes of the tests within them.
-use mathlib.Core.Path.{_≡_, sym, ap, ap₂, _∙_}
+use mathlib.Core.Path.{_≡_, sym, ap, ap₂}
 use mathlib.Core.Bool.{Bool, true, false}
-use Prim.Native.Nat.{ℕ, suc, _+_, _<_}
-use lib.Dec.{eqb}
+use Prim.Native.Nat.{ℕ}
 use borrow.Author.Tests.{eq-eqb, ne-eqb}
 use Rattle.ltl.specs.Realizable.{allOf}
 use Rattle.realizability.specs.Relations.{leadsBy, viaBy, aroundBy, coreBy, toCoreBy}

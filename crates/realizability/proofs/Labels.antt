@@ -1,33 +1,22 @@
 -- What the code finds over a matrix is the set of labels that crate ltl finds over its rows.
-use mathlib.Core.Path.{_≡_, refl, sym, ap, ap₂, _∙_}
+use mathlib.Core.Path.{_≡_, sym, ap, ap₂, _∙_}
 use mathlib.Core.Bool.{Bool, true, false}
 use mathlib.Core.List.{List}
-use Prim.Native.Nat.{ℕ, zero, suc, _≤_, _<_}
+use Prim.Native.Nat.{ℕ, _≤_, _<_}
 use native.Mathlib.Nat.{le-refl, mod-lt}
-use native.Mathlib.Omega.{arith}
 use lib.ListN.{getD}
-use lib.Bits.{bitOr}
 use lib.Dec.{eqb}
 use Rattle.sequences.proofs.Loops.{getD-tab}
 use Rattle.ltl.specs.Sets.{on, someBelow, unionBelow, someEvent}
-use Rattle.ltl.specs.Closure.{row, closure}
-use Rattle.ltl.specs.Realizable.{edgeRow, edgeRows, leads, leadsToCore, isCore, coreOf, realizable, allOf}
+use Rattle.ltl.specs.Closure.{closure}
+use Rattle.ltl.specs.Realizable.{edgeRow, edgeRows, leadsToCore, isCore, coreOf, realizable, allOf}
 use Rattle.ltl.specs.Residuals.{before}
 use Rattle.ltl.specs.Keys.{look}
 use Rattle.ltl.proofs.Sets.{on-set}
-use Rattle.realizability.specs.Relations.{entry, Holds, Row, below, labelAt, edge, closed, leadsBy, viaBy, aroundBy, coreBy, toCoreBy, realizableBy}
+use Rattle.valuation.specs.Entries.{Entries}
+use Rattle.realizability.specs.Relations.{entry, Matrix, below, labelAt, edge, closed, leadsBy, viaBy, coreBy, toCoreBy, realizableBy}
+use Rattle.realizability.proofs.Searches.{some-same, union-same}
 use Rattle.realizability.proofs.Closures.{Agree, related, closed-related}
-
--- ---- searches and unions over the same tests
-
-some-same : (n : ℕ) (f g : ℕ → Bool) → ((i : ℕ) → i < n → f i ≡ g i) → someBelow n f ≡ someBelow n g
-some-same zero f g h = refl
-some-same (suc n) f g h =
-    ap₂ (λ (a b : Bool). elim a [ true ↦ true | false ↦ b ]) (h n (le-refl (suc n))) (some-same n f g (λ i l. h i (omega arith)))
-
-union-same : (n : ℕ) (f g : ℕ → ℕ) → ((i : ℕ) → i < n → f i ≡ g i) → unionBelow n f ≡ unionBelow n g
-union-same zero f g h = refl
-union-same (suc n) f g h = ap₂ bitOr (h n (le-refl (suc n))) (union-same n f g (λ i l. h i (omega arith)))
 
 -- ---- relations that agree on the labels there are
 
@@ -55,36 +44,35 @@ module _ {n : ℕ} {r s : ℕ → ℕ → Bool} (h : Agree n r s) where
 -- ---- the edges
 
 module _ (w n : ℕ) (places : List (List ℕ)) where
-  edges : List ℕ
+  abbrev edges : List ℕ
   edges = edgeRows (below w) n (labelAt n places)
 
   edges-related : Agree n (edge w n places) (related edges)
-  unfolding edges
   edges-related = record {
     is = λ x y a b.
-    sym (ap (λ (r : ℕ). on r y) (getD-tab n (edgeRow (below w) n (labelAt n places)) x 0 a)
-    ∙ on-set n (λ y. someEvent (below w) (λ e. eqb (labelAt n places e y) x)) y b);
+        sym (ap (λ (r : ℕ). on r y) (getD-tab n (edgeRow (below w) n (labelAt n places)) x 0 a)
+        ∙ on-set n (λ y. someEvent (below w) (λ e. eqb (labelAt n places e y) x)) y b);
   }
 
   module _ (m : ℕ) (fairs : List (List ℕ)) (rows₀ rows : List (List Bool)) (core out : List Bool) where
-    pub found : 1 ≤ n → Holds n (edge w n places) rows₀ → Holds n (closed n (entry rows₀)) rows → Row n (coreBy m w n (entry rows) (labelAt n places) (look fairs)) core
-        → Row n (realizableBy n (entry rows) (λ i. getD core i false)) out → Row n (on (realizable (below w) n (before n (look places)) (look fairs) m)) out
-    unfolding realizable edges
-    found some h₀ h k l = record { is = λ x a. l .is x a ∙ realizable-agree agree (λ i. getD core i false) (on full) same x a ∙ sym (on-set n (λ x. someBelow n (leadsToCore reach full x)) x a) }
+    pub found : 1 ≤ n → Matrix n (edge w n places) rows₀ → Matrix n (closed n (entry rows₀)) rows → Entries n (coreBy m w n (entry rows) (labelAt n places) (look fairs)) false core
+        → Entries n (realizableBy n (entry rows) (λ i. getD core i false)) false out → Entries n (on (realizable (below w) n (before n (look places)) (look fairs) m)) false out
+    unfolding realizable
+    found some h₀ h k l = record { entry = λ x a. l .entry x a ∙ realizable-agree agree (λ i. getD core i false) (on full) same x a ∙ sym (on-set n (λ x. someBelow n (leadsToCore reach full x)) x a) }
       where
         reach : List ℕ
-        reach = closure n (edgeRows (below w) n (labelAt n places))
+        reach = closure n edges
 
         full : ℕ
         full = coreOf (below w) n (labelAt n places) (look fairs) m reach
 
-        first : Agree n (entry rows₀) (related (edgeRows (below w) n (labelAt n places)))
+        first : Agree n (entry rows₀) (related edges)
         first = record { is = λ x y a b. h₀ .is x y a b ∙ edges-related .is x y a b }
 
         agree : Agree n (entry rows) (related reach)
-        agree = record { is = λ x y a b. h .is x y a b ∙ closed-related (edgeRows (below w) n (labelAt n places)) first n (le-refl n) .is x y a b }
+        agree = record { is = λ x y a b. h .is x y a b ∙ closed-related edges first n (le-refl n) .is x y a b }
 
         same : (c : ℕ) → c < n → getD core c false ≡ on full c
         same c a =
-            k .is c a ∙ core-agree agree (labelAt n places) (look fairs) (λ e y. mod-lt (look places e y) some) m w c a
+            k .entry c a ∙ core-agree agree (labelAt n places) (look fairs) (λ e y. mod-lt (look places e y) some) m w c a
             ∙ sym (on-set n (isCore (below w) n (labelAt n places) (look fairs) m reach) c a)

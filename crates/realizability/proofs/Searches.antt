@@ -1,7 +1,9 @@
 -- Loops that look for a number, that test all of them, and that join the sets of all of them (specs/Sets of crate ltl).
-use mathlib.Core.Path.{_≡_, refl, sym, ap, _∙_, subst}
+use mathlib.Core.Path.{ap₂, _≡_, refl, sym, ap, _∙_, subst}
 use mathlib.Core.Bool.{Bool, true, false}
-use Prim.Native.Nat.{ℕ, suc, _+_, _<_}
+use Prim.Native.Nat.{zero, suc, ℕ, _+_, _<_}
+use native.Mathlib.Nat.{le-refl}
+use native.Mathlib.Omega.{arith}
 use native.Mathlib.Numerals.{add-one}
 use lib.Dec.{T}
 use lib.Bits.{bitOr}
@@ -60,3 +62,14 @@ union-more {n} B h e = record { is = rw (h .is, e, add-one) }
 
 pub union-all : {n : ℕ} {f : ℕ → ℕ} {A : ℕ} → Union n f A → (m : ℕ) → n ≡ m → A ≡ unionBelow m f
 union-all {f = f} h m e = h .is ∙ ap (λ (k : ℕ). unionBelow k f) e
+
+-- ---- over the same tests, or the same sets
+
+pub some-same : (n : ℕ) (f g : ℕ → Bool) → ((i : ℕ) → i < n → f i ≡ g i) → someBelow n f ≡ someBelow n g
+some-same zero f g h = refl
+some-same (suc n) f g h =
+    ap₂ (λ (a b : Bool). elim a [ true ↦ true | false ↦ b ]) (h n (le-refl (suc n))) (some-same n f g (λ i l. h i (omega arith)))
+
+pub union-same : (n : ℕ) (f g : ℕ → ℕ) → ((i : ℕ) → i < n → f i ≡ g i) → unionBelow n f ≡ unionBelow n g
+union-same zero f g h = refl
+union-same (suc n) f g h = ap₂ bitOr (h n (le-refl (suc n))) (union-same n f g (λ i l. h i (omega arith)))

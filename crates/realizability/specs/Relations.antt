@@ -16,12 +16,8 @@ abbrev pub entry : List (List Bool) → ℕ → ℕ → Bool
 entry m x y = getD (getD m x []) y false
 
 -- the relation below n that a matrix holds, whatever else it holds
-pub record Holds (n : ℕ) (r : ℕ → ℕ → Bool) (m : List (List Bool)) : Type 0 where
+pub record Matrix (n : ℕ) (r : ℕ → ℕ → Bool) (m : List (List Bool)) : Type 0 where
   pub is : (x y : ℕ) → x < n → y < n → entry m x y ≡ r x y
-
--- the entries below n of a row
-pub record Row (n : ℕ) (f : ℕ → Bool) (row : List Bool) : Type 0 where
-  pub is : (i : ℕ) → i < n → getD row i false ≡ f i
 
 -- all events below w
 abbrev pub below : ℕ → Alphabet

@@ -2,11 +2,12 @@
 ghost use mathlib.Core.Path.{_≡_};
 ghost use mathlib.Core.Bool.{Bool, false, _||_};
 ghost use mathlib.Core.List.{List};
-ghost use Prim.Native.Nat.{ℕ, _+_, _*_, _%_, _^_, _≤_, _<_};
+ghost use Prim.Native.Nat.{ℕ, _+_, _%_, _≤_, _<_};
 ghost use lib.ListN.{length, getD};
 ghost use Rattle.ltl.specs.Sets.{on, unionBelow};
 ghost use Rattle.ltl.specs.Realizable.{allOf, realizable};
-ghost use Rattle.realizability.specs.Relations.{entry, Holds, Row, throughRow, labelAt, edge, through, closed, leadsBy, viaBy, aroundBy, coreBy, toCoreBy, realizableBy, Sizes, below};
+ghost use Rattle.valuation.specs.Entries.{Entries};
+ghost use Rattle.realizability.specs.Relations.{entry, Matrix, throughRow, labelAt, edge, through, closed, leadsBy, viaBy, aroundBy, coreBy, toCoreBy, realizableBy, Sizes, below};
 ghost use Rattle.ltl.specs.Residuals.{before};
 ghost use Rattle.ltl.specs.Keys.{look};
 use valuation::holds;
@@ -39,7 +40,7 @@ fn is_edge(events: usize, labels: usize, places: &[[u8; 128]; 16], x: usize, y: 
 fn edge_row(events: usize, labels: usize, places: &[[u8; 128]; 16], x: usize) -> [bool; 128]
     requires { ⌜ (events ≤ 16) × (1 ≤ labels) × (labels ≤ 128) ⌝ }
     requires { ⌜ length {A = List ℕ} (now places) ≡ 16 ⌝ }
-    ensures { λ r. ⌜ Row labels (edge events labels (now (places .entry)) x) r ⌝ }
+    ensures { λ r. ⌜ Entries labels (edge events labels (now (places .entry)) x) false r ⌝ }
 {
     let mut row = [false; 128];
     let mut y: usize = 0;
@@ -53,7 +54,7 @@ fn edge_row(events: usize, labels: usize, places: &[[u8; 128]; 16], x: usize) ->
 fn edge_rows(events: usize, labels: usize, places: &[[u8; 128]; 16], rows: &mut [[bool; 128]; 128])
     requires { ⌜ (events ≤ 16) × (1 ≤ labels) × (labels ≤ 128) ⌝ }
     requires { ⌜ (length {A = List ℕ} (now places) ≡ 16) × (length {A = List Bool} (now rows) ≡ 128) ⌝ }
-    ensures { λ _. ⌜ (length {A = List Bool} (now (rows .exit)) ≡ 128) × Holds labels (edge events labels (now (places .entry))) (now (rows .exit)) ⌝ }
+    ensures { λ _. ⌜ (length {A = List Bool} (now (rows .exit)) ≡ 128) × Matrix labels (edge events labels (now (places .entry))) (now (rows .exit)) ⌝ }
 {
     let mut x: usize = 0;
     while x < labels {
@@ -66,7 +67,7 @@ fn edge_rows(events: usize, labels: usize, places: &[[u8; 128]; 16], rows: &mut 
 // Two rows joined.
 fn joined(labels: usize, through: [bool; 128], row: [bool; 128]) -> [bool; 128]
     requires { ⌜ labels ≤ 128 ⌝ }
-    ensures { λ r. ⌜ Row labels (λ y. getD through y false || getD row y false) r ⌝ }
+    ensures { λ r. ⌜ Entries labels (λ y. getD through y false || getD row y false) false r ⌝ }
 {
     let mut out = row;
     let mut y: usize = 0;
@@ -80,7 +81,7 @@ fn joined(labels: usize, through: [bool; 128], row: [bool; 128]) -> [bool; 128]
 // A row with the ways through k, where `via` is the row of k.
 fn passed_row(k: usize, labels: usize, via: [bool; 128], row: [bool; 128]) -> [bool; 128]
     requires { ⌜ (labels ≤ 128) × (k < labels) ⌝ }
-    ensures { λ r. ⌜ Row labels (throughRow k via row) r ⌝ }
+    ensures { λ r. ⌜ Entries labels (throughRow k via row) false r ⌝ }
 {
     if row[k] {
         return joined(labels, via, row);
@@ -90,7 +91,7 @@ fn passed_row(k: usize, labels: usize, via: [bool; 128], row: [bool; 128]) -> [b
 
 fn pass(k: usize, labels: usize, rows: &mut [[bool; 128]; 128])
     requires { ⌜ (labels ≤ 128) × (k < labels) × (length {A = List Bool} (now rows) ≡ 128) ⌝ }
-    ensures { λ _. ⌜ (length {A = List Bool} (now (rows .exit)) ≡ 128) × Holds labels (through k (entry (now (rows .entry)))) (now (rows .exit)) ⌝ }
+    ensures { λ _. ⌜ (length {A = List Bool} (now (rows .exit)) ≡ 128) × Matrix labels (through k (entry (now (rows .entry)))) (now (rows .exit)) ⌝ }
 {
     let via = rows[k];
     let mut x: usize = 0;
@@ -105,7 +106,7 @@ fn pass(k: usize, labels: usize, rows: &mut [[bool; 128]; 128])
 // The ways through all labels.
 fn close(labels: usize, rows: &mut [[bool; 128]; 128])
     requires { ⌜ (labels ≤ 128) × (length {A = List Bool} (now rows) ≡ 128) ⌝ }
-    ensures { λ _. ⌜ (length {A = List Bool} (now (rows .exit)) ≡ 128) × Holds labels (closed labels (entry (now (rows .entry)))) (now (rows .exit)) ⌝ }
+    ensures { λ _. ⌜ (length {A = List Bool} (now (rows .exit)) ≡ 128) × Matrix labels (closed labels (entry (now (rows .entry)))) (now (rows .exit)) ⌝ }
 {
     let mut k: usize = 0;
     while k < labels {
@@ -126,7 +127,15 @@ fn leads(rows: &[[bool; 128]; 128], x: usize, y: usize) -> bool
 }
 
 // The temporal nodes to which the edge by e to y is fair, if it is on a closed walk through c.
-fn fair_via(rows: &[[bool; 128]; 128], places: &[[u8; 128]; 16], fairs: &[[u8; 128]; 16], labels: usize, c: usize, e: usize, y: usize) -> u8
+fn fair_via(
+    rows: &[[bool; 128]; 128],
+    places: &[[u8; 128]; 16],
+    fairs: &[[u8; 128]; 16],
+    labels: usize,
+    c: usize,
+    e: usize,
+    y: usize,
+) -> u8
     requires { ⌜ Sizes (e + 1) labels (now places) (now fairs) ⌝ }
     requires { ⌜ (c < labels) × (y < labels) × (length {A = List Bool} (now rows) ≡ 128) ⌝ }
     ensures { λ r. ⌜ r ≡ viaBy (entry (now (rows .entry))) (labelAt labels (now (places .entry))) (look (now (fairs .entry))) c e y ⌝ }
@@ -143,7 +152,14 @@ fn fair_via(rows: &[[bool; 128]; 128], places: &[[u8; 128]; 16], fairs: &[[u8; 1
     fairs[e][y]
 }
 
-fn fair_by(rows: &[[bool; 128]; 128], places: &[[u8; 128]; 16], fairs: &[[u8; 128]; 16], labels: usize, c: usize, e: usize) -> u8
+fn fair_by(
+    rows: &[[bool; 128]; 128],
+    places: &[[u8; 128]; 16],
+    fairs: &[[u8; 128]; 16],
+    labels: usize,
+    c: usize,
+    e: usize,
+) -> u8
     requires { ⌜ Sizes (e + 1) labels (now places) (now fairs) ⌝ }
     requires { ⌜ (c < labels) × (length {A = List Bool} (now rows) ≡ 128) ⌝ }
     ensures { λ r. ⌜ r ≡ unionBelow labels (viaBy (entry (now (rows .entry))) (labelAt labels (now (places .entry))) (look (now (fairs .entry))) c e) ⌝ }
@@ -159,7 +175,14 @@ fn fair_by(rows: &[[bool; 128]; 128], places: &[[u8; 128]; 16], fairs: &[[u8; 12
 }
 
 // Those to which some edge on a closed walk through c is fair.
-fn fair_around(rows: &[[bool; 128]; 128], places: &[[u8; 128]; 16], fairs: &[[u8; 128]; 16], events: usize, labels: usize, c: usize) -> u8
+fn fair_around(
+    rows: &[[bool; 128]; 128],
+    places: &[[u8; 128]; 16],
+    fairs: &[[u8; 128]; 16],
+    events: usize,
+    labels: usize,
+    c: usize,
+) -> u8
     requires { ⌜ Sizes events labels (now places) (now fairs) ⌝ }
     requires { ⌜ (c < labels) × (length {A = List Bool} (now rows) ≡ 128) ⌝ }
     ensures { λ r. ⌜ r ≡ aroundBy events labels (entry (now (rows .entry))) (labelAt labels (now (places .entry))) (look (now (fairs .entry))) c ⌝ }
@@ -189,7 +212,15 @@ fn all_of(m: u8, set: u8) -> bool
 }
 
 // Whether c is on a closed walk that is fair to every temporal node.
-fn is_core(rows: &[[bool; 128]; 128], places: &[[u8; 128]; 16], fairs: &[[u8; 128]; 16], m: u8, events: usize, labels: usize, c: usize) -> bool
+fn is_core(
+    rows: &[[bool; 128]; 128],
+    places: &[[u8; 128]; 16],
+    fairs: &[[u8; 128]; 16],
+    m: u8,
+    events: usize,
+    labels: usize,
+    c: usize,
+) -> bool
     requires { ⌜ Sizes events labels (now places) (now fairs) ⌝ }
     requires { ⌜ (c < labels) × (length {A = List Bool} (now rows) ≡ 128) ⌝ }
     ensures { λ r. ⌜ r ≡ coreBy m events labels (entry (now (rows .entry))) (labelAt labels (now (places .entry))) (look (now (fairs .entry))) c ⌝ }
@@ -200,10 +231,17 @@ fn is_core(rows: &[[bool; 128]; 128], places: &[[u8; 128]; 16], fairs: &[[u8; 12
     false
 }
 
-fn core_row(rows: &[[bool; 128]; 128], places: &[[u8; 128]; 16], fairs: &[[u8; 128]; 16], m: u8, events: usize, labels: usize) -> [bool; 128]
+fn core_row(
+    rows: &[[bool; 128]; 128],
+    places: &[[u8; 128]; 16],
+    fairs: &[[u8; 128]; 16],
+    m: u8,
+    events: usize,
+    labels: usize,
+) -> [bool; 128]
     requires { ⌜ Sizes events labels (now places) (now fairs) ⌝ }
     requires { ⌜ length {A = List Bool} (now rows) ≡ 128 ⌝ }
-    ensures { λ r. ⌜ Row labels (coreBy m events labels (entry (now (rows .entry))) (labelAt labels (now (places .entry))) (look (now (fairs .entry)))) r ⌝ }
+    ensures { λ r. ⌜ Entries labels (coreBy m events labels (entry (now (rows .entry))) (labelAt labels (now (places .entry))) (look (now (fairs .entry)))) false r ⌝ }
 {
     let mut core = [false; 128];
     let mut c: usize = 0;
@@ -244,7 +282,7 @@ fn leads_to_core(rows: &[[bool; 128]; 128], core: &[bool; 128], labels: usize, x
 fn leading_row(rows: &[[bool; 128]; 128], core: &[bool; 128], labels: usize) -> [bool; 128]
     requires { ⌜ labels ≤ 128 ⌝ }
     requires { ⌜ (length {A = List Bool} (now rows) ≡ 128) × (length (now core) ≡ 128) ⌝ }
-    ensures { λ r. ⌜ Row labels (realizableBy labels (entry (now (rows .entry))) (λ i. getD (now (core .entry)) i false)) r ⌝ }
+    ensures { λ r. ⌜ Entries labels (realizableBy labels (entry (now (rows .entry))) (λ i. getD (now (core .entry)) i false)) false r ⌝ }
 {
     let mut leading = [false; 128];
     let mut x: usize = 0;
@@ -256,9 +294,15 @@ fn leading_row(rows: &[[bool; 128]; 128], core: &[bool; 128], labels: usize) -> 
 }
 
 // The labels that some continuation has, of m temporal nodes: those from which edges lead to the core.
-pub fn realizable_labels(places: &[[u8; 128]; 16], fairs: &[[u8; 128]; 16], m: u8, events: usize, labels: usize) -> [bool; 128]
+pub fn realizable_labels(
+    places: &[[u8; 128]; 16],
+    fairs: &[[u8; 128]; 16],
+    m: u8,
+    events: usize,
+    labels: usize,
+) -> [bool; 128]
     requires { ⌜ Sizes events labels (now places) (now fairs) ⌝ }
-    ensures { λ r. ⌜ Row labels (on (realizable (below events) labels (before labels (look (now (places .entry)))) (look (now (fairs .entry))) m)) r ⌝ }
+    ensures { λ r. ⌜ Entries labels (on (realizable (below events) labels (before labels (look (now (places .entry)))) (look (now (fairs .entry))) m)) false r ⌝ }
 {
     let mut rows = [[false; 128]; 128];
     edge_rows(events, labels, places, &mut rows);

@@ -1,12 +1,11 @@
 -- A node's bits by its kind.
 use mathlib.Core.Path.{_≡_, sym, ap, _∙_}
 use mathlib.Core.Bool.{Bool, false}
-use mathlib.Core.List.{List, _∷_}
 use Prim.Native.Nat.{ℕ, suc, _≤_}
 use native.Mathlib.Omega.{arith}
 use lib.ListN.{getD, List·getD-eq-default}
 use Rattle.meaning.specs.declared.Node.{Node}
-use Rattle.ltl.specs.Nodes.{Split, plain, falsum, kinds, split}
+use Rattle.ltl.specs.Nodes.{plain, falsum, kinds, split}
 use Rattle.valuation.specs.declared.Bits.{Bits}
 use Rattle.valuation.specs.Bits.{plainBits, bitsOf}
 

@@ -4,7 +4,7 @@ use mathlib.Core.Bool.{Bool, false}
 use Prim.Native.Nat.{ℕ, suc, _+_, _*_, _%_, _^_, _≤_, _<_}
 use native.Mathlib.Nat.{one-mul, pow-suc}
 use native.Mathlib.Omega.{arith}
-use lib.Pow.{pow-mono, pow-pos, shl-exact}
+use lib.Pow.{pow-mono, shl-exact}
 use mir.Val.{Fits}
 use mir.Syntax.{w64}
 use Rattle.ltl.specs.Sets.{on, put}
@@ -13,7 +13,8 @@ use Rattle.ltl.proofs.Sets.{on-out, put-lt}
 pub on-past : (A i : ℕ) → A < 2 ^ 64 → 64 ≤ i → false ≡ on A i
 on-past A i h l = sym (on-out A 64 i h l)
 
-shift-one : (k : ℕ) → k < 64 → (1 * 2 ^ k) % 2 ^ 64 ≡ 2 ^ k
+-- a shift of 1 within the word
+pub shift-one : (k : ℕ) → k < 64 → (1 * 2 ^ k) % 2 ^ 64 ≡ 2 ^ k
 shift-one k h = shl-exact {a = 1} 1 k 64 (omega arith) (omega arith) ∙ one-mul (2 ^ k)
 
 pub put-fits : (k A : ℕ) → k < 64 → A < 2 ^ k → Fits w64 (A + (1 * 2 ^ k) % 2 ^ 64)

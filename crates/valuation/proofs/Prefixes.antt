@@ -1,7 +1,7 @@
 -- The first i of a list of nodes, valued: the invariant of the loop over the nodes, and what it says of sizes.
-use mathlib.Core.Path.{_≡_, refl, sym, ap, ap₂, _∙_, subst}
-use mathlib.Core.List.{List, [], _∷_, _++_, map, map-append}
-use Prim.Native.Nat.{ℕ, zero, suc, _+_, _-_, _^_, _≤_, _<_}
+use mathlib.Core.Path.{_≡_, refl, sym, ap, _∙_, subst}
+use mathlib.Core.List.{List, [], _∷_, _++_, map-append}
+use Prim.Native.Nat.{ℕ, suc, _+_, _-_, _^_, _≤_, _<_}
 use native.Mathlib.Nat.{zero-add, suc-add}
 use native.Mathlib.Numerals.{add-one}
 use native.Mathlib.Omega.{arith}
@@ -48,9 +48,9 @@ module _ {e y : ℕ} {nodes : List Node} {i : ℕ} {s : Valued} (p : Prefix e y 
   pub prefix-more : (r : Valued) (d : Node) → i < length nodes → modelOf r ≡ value e y (modelOf s) (split (getD nodes i d)) → Prefix e y nodes (i + 1) r
   prefix-more r d h q = record {
     is =
-    q ∙ ap (λ (t : ltl.Valued). value e y t (split (getD nodes i d))) (p .is)
-    ∙ sym (value-snoc e y none (splits (take i nodes)) (split (getD nodes i d)))
-    ∙ ap (valued e y) (sym (splits-suc nodes i d h) ∙ ap (λ (n : ℕ). splits (take n nodes)) (sym (add-one i)));
+        q ∙ ap (λ (t : ltl.Valued). value e y t (split (getD nodes i d))) (p .is)
+        ∙ sym (value-snoc e y none (splits (take i nodes)) (split (getD nodes i d)))
+        ∙ ap (valued e y) (sym (splits-suc nodes i d h) ∙ ap (λ (n : ℕ). splits (take n nodes)) (sym (add-one i)));
   }
 
   pub prefix-sized : Sized s

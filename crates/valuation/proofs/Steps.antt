@@ -1,10 +1,9 @@
 -- One node more, from its bits; and the nodes of a list, one after the other.
 use mathlib.Core.Path.{_≡_, refl, sym, ap, _∙_}
 use mathlib.Core.Bool.{Bool, true, false, false≢true}
-use mathlib.Core.List.{List, [], _∷_, _++_, map}
-use Prim.Native.Nat.{ℕ, zero, suc, _+_, _^_, _≤_, _<_}
+use mathlib.Core.List.{[], _∷_}
+use Prim.Native.Nat.{ℕ, _+_}
 use native.Mathlib.Numerals.{add-one}
-use native.Mathlib.Omega.{arith}
 use Rattle.ltl.specs.Sets.{on, put}
 use Rattle.ltl.specs.Nodes.{Split, plain, temporal, temporals}
 use Rattle.ltl.specs.Valuation.{Valued, value}
@@ -21,7 +20,7 @@ module _ (e y : ℕ) (s : Valued) (x : Bool) (w : Bits) (vs : ℕ) (next : x ≡
       → f ≡ put (s .temporals) (w .fair) (s .fairs)
       → _≡_ {A = Valued} (record { count = s .count + 1; values = vs; temporals = s .temporals + 1; label = l; fairs = f }) (value e y s n)
   temporal-node (plain n) l f h t p q = absurd (false≢true (sym (ap (λ (b : Bits). b .temporal) h) ∙ t))
-  temporal-node (temporal n) l f h t p q = rw (values, p, q, h, next, add-one, add-one)
+  temporal-node (temporal n) l f h t p q = rw (values, p, q, h, next, add-one (s .count), add-one (s .temporals))
 
   pub plain-node : (n : Split) → w ≡ bitsOf (s .values) e x n → w .temporal ≡ false
       → _≡_ {A = Valued} (record { count = s .count + 1; values = vs; temporals = s .temporals; label = s .label; fairs = s .fairs }) (value e y s n)

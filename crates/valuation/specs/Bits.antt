@@ -1,5 +1,5 @@
 -- What valuing one node gives: its value, and for a temporal node its bits of the label and of fairness.
-use mathlib.Core.Bool.{Bool, true, false, not, _||_}
+use mathlib.Core.Bool.{Bool, true, false}
 use Prim.Native.Nat.{ℕ}
 use Rattle.ltl.specs.Nodes.{Split, plain, temporal}
 use Rattle.ltl.specs.Valuation.{plainValue, temporalValue, labelBit, fairBit}

@@ -1,6 +1,6 @@
 // The values of a rule's nodes at an event before a label, and the rows of places and of fairness that they give.
 ghost use mathlib.Core.Path.{_≡_};
-ghost use Prim.Native.Nat.{ℕ, _+_, _*_, _^_, _≤_, _<_};
+ghost use Prim.Native.Nat.{ℕ, _^_, _≤_, _<_};
 ghost use Rattle.ltl.specs.Sets.{on, put};
 ghost use lib.ListN.{length, take};
 ghost use Rattle.ltl.specs.Nodes.{split, splits, temporals};
@@ -9,7 +9,8 @@ ghost use Rattle.valuation.specs.Bits.{plainBits, temporalBits, bitsOf};
 ghost use Rattle.valuation.specs.Valued.{modelOf, Room, Valuable, placeAt, fairsAt};
 ghost use Rattle.valuation.specs.Entries.{Entries, Table};
 ghost use mathlib.Core.List.{List};
-use events::{at_least, signal_on};
+use events::at_least;
+use events::signal_on;
 use meaning::Node;
 
 // What valuing a node gives.
@@ -59,13 +60,23 @@ fn put_at(k: u8, add: bool, set: u64) -> u64
 fn plain(value: bool) -> Bits
     ensures { λ r. ⌜ r ≡ plainBits value ⌝ }
 {
-    Bits { value, label: false, fair: false, temporal: false }
+    Bits {
+        value,
+        label: false,
+        fair: false,
+        temporal: false,
+    }
 }
 
 fn promise(value: bool, fair: bool) -> Bits
     ensures { λ r. ⌜ r ≡ temporalBits value fair ⌝ }
 {
-    Bits { value, label: value, fair, temporal: true }
+    Bits {
+        value,
+        label: value,
+        fair,
+        temporal: true,
+    }
 }
 
 // A node's bits, where `values` holds the earlier nodes that are true and x is its bit of the next label.
@@ -86,7 +97,12 @@ fn node_bits(event: u8, values: u64, x: bool, n: Node) -> Bits
         7 => plain(!a | b),
         8 => plain(a == b),
         9 => plain(a != b),
-        10 => Bits { value: x, label: a, fair: true, temporal: true },
+        10 => Bits {
+            value: x,
+            label: a,
+            fair: true,
+            temporal: true,
+        },
         11 => promise(b | (a & x), !(b | (a & x)) | b),
         12 => promise(a | x, !(a | x) | a),
         13 => promise(a & x, (a & x) | !a),
@@ -107,9 +123,21 @@ fn value_node(event: u8, next: u8, s: Valued, n: Node) -> Valued
     if w.temporal {
         let label = put_at(m, w.label, s.label);
         let fairs = put_at(m, w.fair, s.fairs);
-        return Valued { count, values, temporals: m + 1, label, fairs };
+        return Valued {
+            count,
+            values,
+            temporals: m + 1,
+            label,
+            fairs,
+        };
     }
-    Valued { count, values, temporals: m, label: s.label, fairs: s.fairs }
+    Valued {
+        count,
+        values,
+        temporals: m,
+        label: s.label,
+        fairs: s.fairs,
+    }
 }
 
 // All nodes.
@@ -117,7 +145,13 @@ fn value_nodes(event: u8, next: u8, count: usize, nodes: [Node; 64]) -> Valued
     requires { ⌜ Valuable count nodes ⌝ }
     ensures { λ r. ⌜ modelOf r ≡ valued event next (splits (take count nodes)) ⌝ }
 {
-    let mut s = Valued { count: 0, values: 0, temporals: 0, label: 0, fairs: 0 };
+    let mut s = Valued {
+        count: 0,
+        values: 0,
+        temporals: 0,
+        label: 0,
+        fairs: 0,
+    };
     let mut i: usize = 0;
     while i < count {
         let n = nodes[i];
@@ -164,7 +198,14 @@ fn value_rows(event: u8, labels: usize, count: usize, nodes: [Node; 64]) -> Rows
 }
 
 // The places and the sets of fairness by event and next label.
-pub fn value_tables(events: usize, labels: usize, count: usize, nodes: [Node; 64], places: &mut [[u8; 128]; 16], fairs: &mut [[u8; 128]; 16])
+pub fn value_tables(
+    events: usize,
+    labels: usize,
+    count: usize,
+    nodes: [Node; 64],
+    places: &mut [[u8; 128]; 16],
+    fairs: &mut [[u8; 128]; 16],
+)
     requires { ⌜ Valuable count nodes ⌝ }
     requires { ⌜ (events ≤ 16) × (labels ≤ 128) ⌝ }
     requires { ⌜ (length {A = List ℕ} (now places) ≡ 16) × (length {A = List ℕ} (now fairs) ≡ 16) ⌝ }

@@ -1,19 +1,11 @@
+-- `labelling::mark_all` meets its contract. The loop's invariant: the places that the events passed hit are marked, and no others.
 use native.Mathlib.Omega.{arith}
 use borrow.Author.Needs.{needs}
-use mathlib.Core.Path.{_≡_, refl, sym, _∙_, ap, ap₂, subst}
-use mathlib.Core.Bool.{Bool, true, false, not, _&&_, _||_}
-use Prim.Native.Nat.{ℕ, suc, _+_, _-_, _*_, _%_, _^_, _≤_, _<_}
-use mathlib.Core.List.{List, [], _∷_}
-use denote.Ref.{now}
-use lib.ListN.{length, getD, length-set}
-use Rattle.labelling.proofs.Marks.{marked-none, marked-more, marked-to, all-none, all-more, all-to}
-use Rattle.labelling.proofs.Computed.{shift-one, within, valuable-of, Computed, all-computed}
-use Rattle.labelling.specs.Marks.{hits, Marked, AllMarked}
+use Prim.Native.Nat.{_-_, _≤_}
+use Rattle.labelling.proofs.Marks.{all-none, all-more, all-to}
+use Rattle.labelling.specs.Marks.{AllMarked}
 use Rattle.labelling.proofs.mark_all.Statement.{statement}
 use Rattle.labelling.proofs.mark_all.Tie as tie
-use Rattle.labelling.proofs.mark_all.Reads as reads
-use Rattle.labelling.proofs.mark_all.Lts as lts
-use Rattle.labelling.proofs.mark_event.Reads as mark-event-reads
 
 abbrev Inv-loop : tie.InvT-loop
 Inv-loop whole₀ places real events labels e₀ whole e = (e ≤ events) × AllMarked e labels places real whole

@@ -1,19 +1,12 @@
+-- `labelling::mark_event` meets its contract. The loop's invariant: the places that the labels passed hit are marked, besides those marked before.
 use native.Mathlib.Omega.{arith}
 use borrow.Author.Needs.{needs}
-use mathlib.Core.Path.{_≡_, refl, sym, _∙_, ap, ap₂, subst}
-use mathlib.Core.Bool.{Bool, true, false, not, _&&_, _||_}
-use Prim.Native.Nat.{ℕ, suc, _+_, _-_, _*_, _%_, _^_, _≤_, _<_}
-use mathlib.Core.List.{List, [], _∷_}
+use Prim.Native.Nat.{_-_, _≤_}
 use denote.Ref.{now}
-use lib.ListN.{length, getD, length-set}
-use Rattle.labelling.proofs.Marks.{marked-none, marked-more, marked-to, all-none, all-more, all-to}
-use Rattle.labelling.proofs.Computed.{shift-one, within, valuable-of, Computed, all-computed}
-use Rattle.labelling.specs.Marks.{hits, Marked, AllMarked}
+use Rattle.labelling.proofs.Marks.{marked-none, marked-more, marked-to}
+use Rattle.labelling.specs.Marks.{hits, Marked}
 use Rattle.labelling.proofs.mark_event.Statement.{statement}
 use Rattle.labelling.proofs.mark_event.Tie as tie
-use Rattle.labelling.proofs.mark_event.Reads as reads
-use Rattle.labelling.proofs.mark_event.Lts as lts
-use Rattle.wire.proofs.wide.Reads as wide-reads
 
 abbrev Inv-loop : tie.InvT-loop
 Inv-loop whole₀ places real labels e y₀ whole y = (y ≤ labels) × Marked y (hits places real e) whole₀ whole
@@ -36,11 +29,11 @@ index-2-wide c = search needs
 wide-requires : tie.Need-wide-requires Inv-loop μ-loop
 wide-requires c κs = search needs
 
-element-copy-out-whole : tie.Need-element-copy-out-whole Inv-loop μ-loop
-element-copy-out-whole c = search needs
+element-copy-out-has : tie.Need-element-copy-out-has Inv-loop μ-loop
+element-copy-out-has c = search needs
 
-element-copy-out-whole-2 : tie.Need-element-copy-out-whole-2 Inv-loop μ-loop
-element-copy-out-whole-2 c = omega (arith, c .before .wide .ensures .1)
+element-copy-out-whole : tie.Need-element-copy-out-whole Inv-loop μ-loop
+element-copy-out-whole c = omega (arith, c .before .wide .ensures .1)
 
 element-write-whole : tie.Need-element-write-whole Inv-loop μ-loop
 element-write-whole c = omega (arith, c .before .before .wide .ensures .1)
@@ -68,8 +61,8 @@ mark-event-spec =
     index-1-wide
     index-2-wide
     wide-requires
+    element-copy-out-has
     element-copy-out-whole
-    element-copy-out-whole-2
     element-write-whole
     add-y
     loop-less

@@ -1,25 +1,12 @@
+-- `labelling::tables` meets its contract. The counts are those of the rule, and the arrays hold the tables (proofs/Computed).
 use native.Mathlib.Omega.{arith}
-use mathlib.Core.Path.{_≡_, refl, sym, _∙_, ap, ap₂, subst}
-use mathlib.Core.Bool.{Bool, true, false, not, _&&_, _||_}
-use Prim.Native.Nat.{ℕ, suc, _+_, _-_, _*_, _%_, _^_, _≤_, _<_}
-use mathlib.Core.List.{List, [], _∷_}
-use denote.Ref.{now}
-use lib.ListN.{length, getD, length-set}
-use Rattle.labelling.proofs.Marks.{marked-none, marked-more, marked-to, all-none, all-more, all-to}
-use Rattle.labelling.proofs.Computed.{shift-one, within, valuable-of, Computed, all-computed}
-use Rattle.labelling.specs.Marks.{hits, Marked, AllMarked}
+use mathlib.Core.Path.{refl}
+use Prim.Native.Nat.{_≤_}
+use Rattle.labelling.proofs.Computed.{within, valuable-of, all-computed}
 use Rattle.valuation.specs.Valued.{Valuable}
 use borrow.Author.Needs.{needs}
 use Rattle.labelling.proofs.tables.Statement.{statement}
 use Rattle.labelling.proofs.tables.Tie as tie
-use Rattle.labelling.proofs.tables.Reads as reads
-use Rattle.labelling.proofs.tables.Lts as lts
-use Rattle.labelling.proofs.mark_all.Reads as mark-all-reads
-use Rattle.labelling.proofs.power.Reads as power-reads
-use Rattle.realizability.proofs.realizable_labels.Reads as realizable-labels-reads
-use Rattle.valuation.proofs.temporal_count.Reads as temporal-count-reads
-use Rattle.valuation.proofs.value_tables.Reads as value-tables-reads
-use Rattle.wire.proofs.wide.Reads as wide-reads
 
 valuable : (c : tie.After-wide) → Valuable (c .wide .result) (c .before .args .nodes)
 valuable c = valuable-of (c .wide .result) (c .before .args .count) (c .before .args .nodes) (c .wide .ensures .0) (c .before .pre .1 .0)

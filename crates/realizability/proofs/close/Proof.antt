@@ -1,23 +1,10 @@
+-- `realizability::close` meets its contract. The loop's invariant: the matrix holds the ways through the labels below k.
 use native.Mathlib.Omega.{arith}
 use borrow.Author.Needs.{needs}
-use mathlib.Core.Path.{_≡_, refl, sym, _∙_, ap, ap₂, subst}
-use mathlib.Core.Bool.{Bool, true, false, not, _&&_, _||_}
-use Prim.Native.Nat.{ℕ, suc, _+_, _-_, _*_, _%_, _^_, _≤_, _<_}
-use native.Mathlib.Nat.{mod-lt}
-use mathlib.Core.List.{List, [], _∷_}
-use borrow.Author.Tests.{eq-eqb, ne-eqb}
-use denote.Ref.{now}
-use lib.ListN.{length, getD, length-set}
-use lib.Dec.{eqb}
-use Rattle.realizability.proofs.Searches.{NoneBelow, none-zero, none-more, none-all, some-found, AllBelow, all-zero, all-more, all-all, not-all, Union, union-none, union-more, union-all}
-use Rattle.realizability.proofs.Rows.{row-none, row-more, row-to, Made, made-none, made-more, made-same, made-all, through-row, past-row, through-made}
+use Prim.Native.Nat.{_-_, _≤_}
 use Rattle.realizability.proofs.Closures.{Closing, closing-none, closing-more, closing-all}
-use Rattle.realizability.specs.Relations.{entry, Holds, Row, throughRow, labelAt, edge, through, closed, leadsBy, viaBy, aroundBy, coreBy, toCoreBy, realizableBy}
 use Rattle.realizability.proofs.close.Statement.{statement}
 use Rattle.realizability.proofs.close.Tie as tie
-use Rattle.realizability.proofs.close.Reads as reads
-use Rattle.realizability.proofs.close.Lts as lts
-use Rattle.realizability.proofs.pass.Reads as pass-reads
 
 abbrev Inv-loop : tie.InvT-loop
 Inv-loop labels rows₀ k₀ rows k = (k ≤ labels) × Closing k labels rows₀ rows

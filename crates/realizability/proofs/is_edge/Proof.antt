@@ -1,22 +1,15 @@
+-- `realizability::is_edge` meets its contract. The loop's invariant: none of the events passed gives the edge.
 use native.Mathlib.Omega.{arith}
 use borrow.Author.Needs.{needs}
-use mathlib.Core.Path.{_≡_, refl, sym, _∙_, ap, ap₂, subst}
-use mathlib.Core.Bool.{Bool, true, false, not, _&&_, _||_}
-use Prim.Native.Nat.{ℕ, suc, _+_, _-_, _*_, _%_, _^_, _≤_, _<_}
-use native.Mathlib.Nat.{mod-lt}
-use mathlib.Core.List.{List, [], _∷_}
+use mathlib.Core.Path.{sym, _∙_}
+use Prim.Native.Nat.{_-_, _≤_}
 use borrow.Author.Tests.{eq-eqb, ne-eqb}
 use denote.Ref.{now}
-use lib.ListN.{length, getD, length-set}
 use lib.Dec.{eqb}
-use Rattle.realizability.proofs.Searches.{NoneBelow, none-zero, none-more, none-all, some-found, AllBelow, all-zero, all-more, all-all, not-all, Union, union-none, union-more, union-all}
-use Rattle.realizability.proofs.Rows.{row-none, row-more, row-to, Made, made-none, made-more, made-same, made-all, through-row, past-row}
-use Rattle.realizability.specs.Relations.{entry, Holds, Row, labelAt, edge, through, closed, leadsBy, viaBy, aroundBy, coreBy, toCoreBy, realizableBy}
+use Rattle.realizability.proofs.Searches.{NoneBelow, none-zero, none-more, none-all, some-found}
+use Rattle.realizability.specs.Relations.{labelAt}
 use Rattle.realizability.proofs.is_edge.Statement.{statement}
 use Rattle.realizability.proofs.is_edge.Tie as tie
-use Rattle.realizability.proofs.is_edge.Reads as reads
-use Rattle.realizability.proofs.is_edge.Lts as lts
-use Rattle.realizability.proofs.label_in.Reads as label-in-reads
 
 abbrev Inv-loop : tie.InvT-loop
 Inv-loop events labels places x y e₀ e = (e ≤ events) × NoneBelow e (λ e. eqb (labelAt labels places e y) x)

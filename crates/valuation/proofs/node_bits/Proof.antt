@@ -1,21 +1,12 @@
+-- `valuation::node_bits` meets its contract. An arm for each kind; a kind past the last is false.
 use native.Mathlib.Omega.{arith}
-use mathlib.Core.Path.{_≡_, refl, sym, _∙_, ap, ap₂, subst}
-use mathlib.Core.Bool.{Bool, true, false, not, _&&_, _||_, Bool·beq}
-use Prim.Native.Nat.{ℕ, suc, _+_, _-_, _*_, _%_, _^_, _≤_, _<_}
-use mathlib.Core.List.{List, [], _∷_}
-use Rattle.valuation.proofs.Numbers.{on-past, put-fits, put-is}
-use Rattle.valuation.proofs.Nodes.{bitsAt, of-kind, of-no-kind, past}
-use Rattle.valuation.specs.Bits.{plainBits, temporalBits, bitsOf}
+use mathlib.Core.Path.{_∙_, ap, ap₂}
+use mathlib.Core.Bool.{Bool, true, not, _&&_, _||_, Bool·beq}
+use Rattle.valuation.proofs.Nodes.{of-kind, of-no-kind, past}
+use Rattle.valuation.specs.Bits.{plainBits, temporalBits}
 use borrow.Author.Needs.{needs}
 use Rattle.valuation.proofs.node_bits.Statement.{statement}
 use Rattle.valuation.proofs.node_bits.Tie as tie
-use Rattle.valuation.proofs.node_bits.Reads as reads
-use Rattle.valuation.proofs.node_bits.Lts as lts
-use Rattle.events.proofs.at_least.Reads as at-least-reads
-use Rattle.events.proofs.signal_on.Reads as signal-on-reads
-use Rattle.valuation.proofs.holds.Reads as holds-reads
-use Rattle.valuation.proofs.plain.Reads as plain-reads
-use Rattle.valuation.proofs.promise.Reads as promise-reads
 
 holds-requires : tie.Need-holds-requires
 holds-requires c κs = search needs

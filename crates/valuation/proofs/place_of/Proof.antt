@@ -1,24 +1,11 @@
+-- `valuation::place_of` meets its contract. The place is below 256, since there are at most 7 temporal nodes.
 use native.Mathlib.Omega.{arith}
-use mathlib.Core.Path.{_≡_, refl, sym, _∙_, ap, ap₂, subst}
-use mathlib.Core.Bool.{Bool, true, false, not, _&&_, _||_, Bool·beq}
-use Prim.Native.Nat.{ℕ, suc, _+_, _-_, _*_, _%_, _^_, _≤_, _<_}
-use mathlib.Core.List.{List, [], _∷_}
-use Rattle.valuation.proofs.Numbers.{on-past, put-fits, put-is, place-fits}
-use Rattle.valuation.proofs.Nodes.{bitsAt, of-kind, of-no-kind, past}
-use Rattle.valuation.specs.Bits.{plainBits, temporalBits, bitsOf}
-use Rattle.valuation.proofs.Steps.{counts, temporal-node, plain-node}
-use Rattle.valuation.proofs.Prefixes.{Prefix, prefix-more, prefix-sized, prefix-temporals, prefix-count, prefix-room}
-use Rattle.valuation.specs.Valued.{modelOf, Sized, Room}
-use Rattle.ltl.specs.Nodes.{Split, split, splits, temporals}
-use Rattle.ltl.specs.Valuation.{value, valued, placeOf}
-use lib.ListN.{length, getD, take, length-set}
+use mathlib.Core.Path.{_∙_, ap}
+use mathlib.Core.Bool.{Bool}
+use Rattle.valuation.proofs.Numbers.{place-fits}
 use borrow.Author.Needs.{needs}
 use Rattle.valuation.proofs.place_of.Statement.{statement}
 use Rattle.valuation.proofs.place_of.Tie as tie
-use Rattle.valuation.proofs.place_of.Reads as reads
-use Rattle.valuation.proofs.place_of.Lts as lts
-use Rattle.valuation.proofs.holds.Reads as holds-reads
-use Rattle.valuation.proofs.put_at.Reads as put-at-reads
 
 sub-holds : tie.Need-sub-holds
 sub-holds c = search needs

@@ -1,16 +1,11 @@
+-- `valuation::put_at` meets its contract. The power of 2 is a shift of 1.
 use native.Mathlib.Omega.{arith}
-use mathlib.Core.Path.{_≡_, refl, sym, _∙_, ap, ap₂, subst}
-use mathlib.Core.Bool.{Bool, true, false, not, _&&_, _||_, Bool·beq}
-use Prim.Native.Nat.{ℕ, suc, _+_, _-_, _*_, _%_, _^_, _≤_, _<_}
-use mathlib.Core.List.{List, [], _∷_}
-use Rattle.valuation.proofs.Numbers.{on-past, put-fits, put-is}
-use Rattle.valuation.proofs.Nodes.{bitsAt, of-kind, of-no-kind, past}
-use Rattle.valuation.specs.Bits.{plainBits, temporalBits, bitsOf}
+use mathlib.Core.Path.{_≡_}
+use mathlib.Core.Bool.{true, false}
+use Rattle.valuation.proofs.Numbers.{put-fits, put-is}
 use borrow.Author.Needs.{needs}
 use Rattle.valuation.proofs.put_at.Statement.{statement}
 use Rattle.valuation.proofs.put_at.Tie as tie
-use Rattle.valuation.proofs.put_at.Reads as reads
-use Rattle.valuation.proofs.put_at.Lts as lts
 
 shl-result : tie.Need-shl-result
 shl-result c = search needs

@@ -1,25 +1,13 @@
+-- `valuation::value_node` meets its contract. The bits of a temporal node are added, those of a plain one left out.
 use native.Mathlib.Omega.{arith}
-use mathlib.Core.Path.{_≡_, refl, sym, _∙_, ap, ap₂, subst}
-use mathlib.Core.Bool.{Bool, true, false, not, _&&_, _||_, Bool·beq}
-use Prim.Native.Nat.{ℕ, suc, _+_, _-_, _*_, _%_, _^_, _≤_, _<_}
-use mathlib.Core.List.{List, [], _∷_}
-use Rattle.valuation.proofs.Numbers.{on-past, put-fits, put-is}
-use Rattle.valuation.proofs.Nodes.{bitsAt, of-kind, of-no-kind, past}
-use Rattle.valuation.specs.Bits.{plainBits, temporalBits, bitsOf}
+use mathlib.Core.Path.{_≡_}
+use mathlib.Core.List.{[], _∷_}
 use Rattle.valuation.proofs.Steps.{counts, temporal-node, plain-node}
-use Rattle.valuation.proofs.Prefixes.{Prefix, prefix-more, prefix-sized, prefix-temporals, prefix-count, prefix-room}
-use Rattle.valuation.specs.Valued.{modelOf, Sized, Room}
-use Rattle.ltl.specs.Nodes.{Split, split, splits, temporals}
-use Rattle.ltl.specs.Valuation.{value, valued, placeOf}
-use lib.ListN.{length, getD, take, length-set}
+use Rattle.valuation.specs.Valued.{modelOf}
+use Rattle.ltl.specs.Nodes.{split, temporals}
 use borrow.Author.Needs.{needs}
 use Rattle.valuation.proofs.value_node.Statement.{statement}
 use Rattle.valuation.proofs.value_node.Tie as tie
-use Rattle.valuation.proofs.value_node.Reads as reads
-use Rattle.valuation.proofs.value_node.Lts as lts
-use Rattle.valuation.proofs.holds.Reads as holds-reads
-use Rattle.valuation.proofs.node_bits.Reads as node-bits-reads
-use Rattle.valuation.proofs.put_at.Reads as put-at-reads
 
 holds-requires : tie.Need-holds-requires
 holds-requires c κs = search needs

@@ -1,23 +1,14 @@
+-- `valuation::value_nodes` meets its contract. The loop's invariant: the state is the valuation of the nodes passed.
 use native.Mathlib.Omega.{arith}
 use borrow.Author.Needs.{needs}
-use mathlib.Core.Path.{_≡_, refl, sym, _∙_, ap, ap₂, subst}
-use mathlib.Core.Bool.{Bool, true, false, not, _&&_, _||_, Bool·beq}
-use Prim.Native.Nat.{ℕ, suc, _+_, _-_, _*_, _%_, _^_, _≤_, _<_}
-use mathlib.Core.List.{List, [], _∷_}
-use Rattle.valuation.proofs.Numbers.{on-past, put-fits, put-is, place-fits}
-use Rattle.valuation.proofs.Nodes.{bitsAt, of-kind, of-no-kind, past}
-use Rattle.valuation.specs.Bits.{plainBits, temporalBits, bitsOf}
-use Rattle.valuation.proofs.Steps.{counts, temporal-node, plain-node}
-use Rattle.valuation.proofs.Prefixes.{Prefix, prefix-more, prefix-sized, prefix-temporals, prefix-count, prefix-room}
-use Rattle.valuation.specs.Valued.{modelOf, Sized, Room}
-use Rattle.ltl.specs.Nodes.{Split, split, splits, temporals}
-use Rattle.ltl.specs.Valuation.{value, valued, placeOf}
-use lib.ListN.{length, getD, take, length-set}
+use mathlib.Core.Path.{_≡_, refl, _∙_, ap}
+use Prim.Native.Nat.{ℕ, _-_, _≤_}
+use Rattle.valuation.proofs.Prefixes.{Prefix, prefix-more, prefix-room}
+use Rattle.ltl.specs.Nodes.{splits}
+use Rattle.ltl.specs.Valuation.{valued}
+use lib.ListN.{take}
 use Rattle.valuation.proofs.value_nodes.Statement.{statement}
 use Rattle.valuation.proofs.value_nodes.Tie as tie
-use Rattle.valuation.proofs.value_nodes.Reads as reads
-use Rattle.valuation.proofs.value_nodes.Lts as lts
-use Rattle.valuation.proofs.value_node.Reads as value-node-reads
 
 abbrev Inv-loop : tie.InvT-loop
 Inv-loop event next count nodes s₀ i₀ s i = (i ≤ count) × Prefix event next nodes i s

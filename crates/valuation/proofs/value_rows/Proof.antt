@@ -1,30 +1,17 @@
+-- `valuation::value_rows` meets its contract. The loop's invariant: the entries below y are those of the labels passed.
 use native.Mathlib.Omega.{arith}
 use borrow.Author.Needs.{needs}
-use mathlib.Core.Path.{_≡_, refl, sym, _∙_, ap, ap₂, subst}
-use mathlib.Core.Bool.{Bool, true, false, not, _&&_, _||_, Bool·beq}
-use Prim.Native.Nat.{ℕ, suc, _+_, _-_, _*_, _%_, _^_, _≤_, _<_}
-use mathlib.Core.List.{List, [], _∷_}
-use Rattle.valuation.proofs.Numbers.{on-past, put-fits, put-is, place-fits}
-use Rattle.valuation.proofs.Nodes.{bitsAt, of-kind, of-no-kind, past}
-use Rattle.valuation.specs.Bits.{plainBits, temporalBits, bitsOf}
-use Rattle.valuation.proofs.Steps.{counts, temporal-node, plain-node}
-use Rattle.valuation.proofs.Prefixes.{Prefix, prefix-more, prefix-sized, prefix-temporals, prefix-count, prefix-room}
-use Rattle.valuation.specs.Valued.{modelOf, Sized, Room}
-use Rattle.ltl.specs.Nodes.{Split, split, splits, temporals}
-use Rattle.ltl.specs.Valuation.{value, valued, placeOf}
-use lib.ListN.{length, getD, take, length-set}
-use Rattle.valuation.proofs.Prefixes.{whole-temporals, whole-place, whole-fairs}
-use Rattle.valuation.proofs.Entries.{entries-none, entries-more, entries-to, table-none, table-more, table-to}
-use Rattle.valuation.specs.Entries.{Entries, Table}
+use mathlib.Core.Path.{_≡_, refl, _∙_, ap}
+use Prim.Native.Nat.{_-_, _≤_}
+use Rattle.ltl.specs.Valuation.{placeOf}
+use lib.ListN.{length, length-set}
+use Rattle.valuation.proofs.Prefixes.{whole-place, whole-fairs}
+use Rattle.valuation.proofs.Entries.{entries-none, entries-more, entries-to}
+use Rattle.valuation.specs.Entries.{Entries}
 use Rattle.valuation.specs.Valued.{placeAt, fairsAt}
 use Rattle.ltl.specs.Valuation as ltl
-use denote.Ref.{now}
 use Rattle.valuation.proofs.value_rows.Statement.{statement}
 use Rattle.valuation.proofs.value_rows.Tie as tie
-use Rattle.valuation.proofs.value_rows.Reads as reads
-use Rattle.valuation.proofs.value_rows.Lts as lts
-use Rattle.valuation.proofs.place_of.Reads as place-of-reads
-use Rattle.valuation.proofs.value_nodes.Reads as value-nodes-reads
 
 abbrev Inv-loop : tie.InvT-loop
 Inv-loop event labels count nodes places₀ fairs₀ y₀ places fairs y = (y ≤ labels) × (length places ≡ 128) × (length fairs ≡ 128) × Entries y (placeAt count nodes event) 0 places × Entries y (fairsAt count nodes event) 0 fairs

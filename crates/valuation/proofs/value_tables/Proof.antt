@@ -1,29 +1,14 @@
+-- `valuation::value_tables` meets its contract. The loop's invariant: the rows below e are those of the events passed.
 use native.Mathlib.Omega.{arith}
 use borrow.Author.Needs.{needs}
-use mathlib.Core.Path.{_≡_, refl, sym, _∙_, ap, ap₂, subst}
-use mathlib.Core.Bool.{Bool, true, false, not, _&&_, _||_, Bool·beq}
-use Prim.Native.Nat.{ℕ, suc, _+_, _-_, _*_, _%_, _^_, _≤_, _<_}
-use mathlib.Core.List.{List, [], _∷_}
-use Rattle.valuation.proofs.Numbers.{on-past, put-fits, put-is, place-fits}
-use Rattle.valuation.proofs.Nodes.{bitsAt, of-kind, of-no-kind, past}
-use Rattle.valuation.specs.Bits.{plainBits, temporalBits, bitsOf}
-use Rattle.valuation.proofs.Steps.{counts, temporal-node, plain-node}
-use Rattle.valuation.proofs.Prefixes.{Prefix, prefix-more, prefix-sized, prefix-temporals, prefix-count, prefix-room}
-use Rattle.valuation.specs.Valued.{modelOf, Sized, Room}
-use Rattle.ltl.specs.Nodes.{Split, split, splits, temporals}
-use Rattle.ltl.specs.Valuation.{value, valued, placeOf}
-use lib.ListN.{length, getD, take, length-set}
-use Rattle.valuation.proofs.Prefixes.{whole-temporals, whole-place, whole-fairs}
-use Rattle.valuation.proofs.Entries.{entries-none, entries-more, entries-to, table-none, table-more, table-to}
-use Rattle.valuation.specs.Entries.{Entries, Table}
+use mathlib.Core.Path.{_≡_, refl, _∙_}
+use Prim.Native.Nat.{_-_, _≤_}
+use lib.ListN.{length, length-set}
+use Rattle.valuation.proofs.Entries.{table-none, table-more, table-to}
+use Rattle.valuation.specs.Entries.{Table}
 use Rattle.valuation.specs.Valued.{placeAt, fairsAt}
-use Rattle.ltl.specs.Valuation as ltl
-use denote.Ref.{now}
 use Rattle.valuation.proofs.value_tables.Statement.{statement}
 use Rattle.valuation.proofs.value_tables.Tie as tie
-use Rattle.valuation.proofs.value_tables.Reads as reads
-use Rattle.valuation.proofs.value_tables.Lts as lts
-use Rattle.valuation.proofs.value_rows.Reads as value-rows-reads
 
 abbrev Inv-loop : tie.InvT-loop
 Inv-loop events labels count nodes places₀ fairs₀ e₀ places fairs e = (e ≤ events) × (length places ≡ length places₀) × (length fairs ≡ length fairs₀) × Table e labels (placeAt count nodes) places × Table e labels (fairsAt count nodes) fairs

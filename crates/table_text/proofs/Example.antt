@@ -1,0 +1,37 @@
+-- Document 01's printed examples: rule P3's table and its four lines, and a refusal's line.
+use mathlib.Core.Path.{_≡_, refl}
+use mathlib.Core.Bool.{true}
+use mathlib.Core.List.{List, [], _∷_, _++_}
+use Prim.Native.Nat.{ℕ}
+use Rattle.meaning.specs.TableFiles.{isTable}
+use Rattle.meaning.specs.declared.Refusal.the-variants.{WrongOperand}
+use Rattle.table_text.specs.Text.{digits, textOf, refusalText}
+
+-- "Its table begins `05 00 00 02 01 03 00` and has 34 bytes.": then the records of states 0, 1 and 2
+abbrev tableP3 : List ℕ
+tableP3 =
+    (5 ∷ 0 ∷ 0 ∷ 2 ∷ 1 ∷ 3 ∷ 0 ∷ [])
+    ++ (7 ∷ 0 ∷ 1 ∷ 2 ∷ 0 ∷ 1 ∷ 0 ∷ 2 ∷ 0 ∷ [])
+    ++ (7 ∷ 0 ∷ 1 ∷ 2 ∷ 2 ∷ 1 ∷ 0 ∷ 1 ∷ 0 ∷ [])
+    ++ (7 ∷ 0 ∷ 1 ∷ 2 ∷ 1 ∷ 2 ∷ 0 ∷ 2 ∷ 0 ∷ [])
+
+-- "signals 1 states 3", "0 undecided 1 2", "1 violated 1 1", "2 satisfied 2 2", and byte 10 after each
+abbrev linesP3 : List ℕ
+linesP3 =
+    (115 ∷ 105 ∷ 103 ∷ 110 ∷ 97 ∷ 108 ∷ 115 ∷ 32 ∷ 49 ∷ 32 ∷ 115 ∷ 116 ∷ 97 ∷ 116 ∷ 101 ∷ 115 ∷ 32 ∷ 51 ∷ 10 ∷ [])
+    ++ (48 ∷ 32 ∷ 117 ∷ 110 ∷ 100 ∷ 101 ∷ 99 ∷ 105 ∷ 100 ∷ 101 ∷ 100 ∷ 32 ∷ 49 ∷ 32 ∷ 50 ∷ 10 ∷ [])
+    ++ (49 ∷ 32 ∷ 118 ∷ 105 ∷ 111 ∷ 108 ∷ 97 ∷ 116 ∷ 101 ∷ 100 ∷ 32 ∷ 49 ∷ 32 ∷ 49 ∷ 10 ∷ [])
+    ++ (50 ∷ 32 ∷ 115 ∷ 97 ∷ 116 ∷ 105 ∷ 115 ∷ 102 ∷ 105 ∷ 101 ∷ 100 ∷ 32 ∷ 50 ∷ 32 ∷ 50 ∷ 10 ∷ [])
+
+pub table-P3 : isTable tableP3 ≡ true
+unfolding isTable
+table-P3 = refl
+
+pub text-P3 : textOf tableP3 ≡ linesP3
+unfolding textOf digits
+text-P3 = refl
+
+-- "refused 6 at 11"
+pub refused-6 : refusalText (WrongOperand 11) ≡ 114 ∷ 101 ∷ 102 ∷ 117 ∷ 115 ∷ 101 ∷ 100 ∷ 32 ∷ 54 ∷ 32 ∷ 97 ∷ 116 ∷ 32 ∷ 49 ∷ 49 ∷ 10 ∷ []
+unfolding refusalText digits
+refused-6 = refl

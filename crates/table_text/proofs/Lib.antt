@@ -1,0 +1,5 @@
+pub mod Answers
+pub mod Decimal
+pub mod Example
+pub mod Laws
+pub mod Tables
