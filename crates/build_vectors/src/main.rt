@@ -3,8 +3,17 @@
 ghost use mathlib.Core.Path.{_≡_};
 ghost use Prim.Native.Nat.{_≤_};
 ghost use lib.ListN.{length};
-use console::{fill, front, number, room, say, say_number, say_refusal, say_run, say_verdict};
-use meaning::{Built, Checked};
+use console::fill;
+use console::front;
+use console::number;
+use console::room;
+use console::say;
+use console::say_number;
+use console::say_refusal;
+use console::say_run;
+use console::say_verdict;
+use meaning::Built;
+use meaning::Checked;
 
 // Fills the buffer with one value.
 fn paint(buffer: &mut [u8]) {

@@ -2,7 +2,10 @@
 ghost use mathlib.Core.Path.{_≡_};
 ghost use Prim.Native.Nat.{_≤_};
 ghost use lib.ListN.{length};
-use meaning::{Decided, Ran, Refusal, Verdict};
+use meaning::Decided;
+use meaning::Ran;
+use meaning::Refusal;
+use meaning::Verdict;
 
 // The next two bytes as a number, or 65,536 where the input has ended.
 pub fn number() -> usize

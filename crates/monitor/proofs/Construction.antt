@@ -102,7 +102,7 @@ walks r labels m places whole w w′ rows₀ rows classes₀ classes T l e E =
     subst (λ (x : Walked). Walks r x rows₀ rows classes₀ classes) e
     (record {
       is = explored-same (r .signals) T w rows₀ rows classes₀ classes
-        (subst (λ (n : ℕ). Explores (r .signals) (tablesIn n places whole) w rows₀ rows classes₀ classes) l E);
+          (subst (λ (n : ℕ). Explores (r .signals) (tablesIn n places whole) w rows₀ rows classes₀ classes) l E);
     })
 
 -- what the tables ask of the nodes

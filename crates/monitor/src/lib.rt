@@ -11,7 +11,9 @@ ghost use Rattle.smallest.proofs.Accepted.{Formed};
 ghost use Rattle.monitor.specs.Build.{answerOf, outputAfter, Right};
 ghost use Rattle.monitor.specs.Parts.{Finished, ruleIn};
 use exploration::Walked;
-use meaning::{Built, Node, Refusal};
+use meaning::Built;
+use meaning::Node;
+use meaning::Refusal;
 use rule_file::Outcome;
 
 // 256 rows of zeros.
@@ -28,7 +30,13 @@ fn zeros() -> [u8; 256]
 }
 
 // Groups the states that no word tells apart, and writes the table.
-fn finish(signals: u8, states: u16, classes: &[u8; 256], rows: [[u16; 16]; 256], table: &mut [u8]) -> Built
+fn finish(
+    signals: u8,
+    states: u16,
+    classes: &[u8; 256],
+    rows: [[u16; 16]; 256],
+    table: &mut [u8],
+) -> Built
     requires { ⌜ (signals ≤ 4) × (states ≤ 256) ⌝ }
     requires { ⌜ Machine (over signals) states rows (now classes) ⌝ }
     ensures { λ r. ⌜ Finished signals states rows (now (classes .entry)) (now (table .entry)) r (now (table .exit)) ⌝ }

@@ -1,6 +1,9 @@
 // Prints the table of a rule file: the first 4,096 bytes of standard input, or all if there are fewer. A refusal prints as one line.
-use console::{front, room, say};
-use meaning::{Built, Refusal};
+use console::front;
+use console::room;
+use console::say;
+use meaning::Built;
+use meaning::Refusal;
 use table_text::Text;
 
 fn say_refusal(why: Refusal) {

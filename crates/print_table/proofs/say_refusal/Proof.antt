@@ -17,7 +17,6 @@ use Rattle.table_text.proofs.refusal_text.Reads as refusal-text-reads
 framed : (text line : List ℕ) {after : List ℕ} (n : ℕ) → after ≡ atFront text line → n ≡ length text → n ≤ 64 → length line ≡ 64 → 64 ≡ length after
 framed text line {after} n e q l m = sym (ap length e ∙ omega (arith, length-append text (drop (length text) line), length-drop (length text) line))
 
-
 refusal-text-requires : tie.Need-refusal-text-requires
 refusal-text-requires c κs = search needs
 
