@@ -24,12 +24,12 @@ use Rattle.exploration.specs.Arrays.{tablesIn, Tabled}
 use Rattle.exploration.proofs.Tables.{tabled}
 use Rattle.ltl.specs.Keys.{Tables}
 use Rattle.exploration.proofs.Explored.{explored-same}
-use Rattle.exploration.specs.Answers.{exploreKeys, ClosedAs, ExploredAs, Explores}
+use Rattle.exploration.specs.Answers.{exploreKeys, ExploredAs, Explores}
 use Rattle.exploration.specs.declared.Walked.{Walked}
 use Rattle.exploration.specs.declared.Walked.the-variants as Walked
 use Rattle.monitor.specs.Build.{outcomeOf, answerTo, outputOf, answerOf, outputAfter}
 use Rattle.monitor.specs.Parts.{Finished, ruleIn}
-use Rattle.monitor.proofs.Walking.{tablesFor, classList, Closes, closes, goes-beyond, machine-in, agrees}
+use Rattle.monitor.proofs.Walking.{tablesFor, classList, closes, goes-beyond, machine-in, agrees}
 use Rattle.monitor.proofs.Writing.{bytes-are, answer-is, output-is}
 
 -- the answer b and the output after it are those of the rule

@@ -1,12 +1,11 @@
 -- What the reader answers, as the rule or the refusal of the judgement; and what the tables ask of a rule that was read.
-use mathlib.Core.Path.{_≡_, refl, sym, ap, ap₂, _∙_, subst}
-use mathlib.Core.List.{List, _++_}
+use mathlib.Core.Path.{_≡_, refl, sym, ap, _∙_, subst}
+use mathlib.Core.List.{List}
 use Prim.Native.Nat.{ℕ, _-_, _≤_}
 use native.Mathlib.Omega.{arith}
-use lib.ListN.{length, take, replicate, length-take}
+use lib.ListN.{length, replicate}
 use lib.Seq.{take-append-seam}
 use Rattle.meaning.specs.RuleFiles.{Rule, Judgement, judge}
-use Rattle.meaning.specs.Demands.{Reads}
 use Rattle.meaning.specs.declared.Node.{Node}
 use Rattle.meaning.specs.declared.Refusal.{Refusal}
 use Rattle.rule_file.specs.Reading.{readOf, padded, blank}

@@ -5,19 +5,17 @@ use mathlib.Core.List.{List, _++_}
 use mathlib.Core.Bool.{Bool, true, false, cond}
 use Prim.Native.Nat.{ℕ}
 use native.Mathlib.Omega.{arith}
-use lib.ListN.{length, take, drop}
+use lib.ListN.{length, drop}
 use lib.Seq.{take-append-seam}
 use lib.Dec.{leb}
 use Rattle.meaning.specs.Verdicts.{MoreThan}
-use Rattle.meaning.specs.Refusals.{codeOf}
 use Rattle.meaning.specs.RuleFiles.{Rule, alphabetOf, propertyOf, Judgement, judge}
 use Rattle.meaning.specs.Demands.{Reads}
-use Rattle.meaning.specs.declared.Refusal.{Refusal}
 use Rattle.meaning.specs.declared.Built.{Built}
 use Rattle.meaning.specs.declared.Built.the-variants as Built
 use Rattle.meaning.specs.declared.Refusal.the-variants.{ShortOutput}
 use Rattle.ltl.proofs.Instance.{ltlSystem}
-use Rattle.smallest.specs.Table.{Outcome, Table, TooMany, tableOf}
+use Rattle.smallest.specs.Table.{Outcome, Table, TooMany}
 use Rattle.smallest.specs.Builder.{Built as BuiltBy}
 use Rattle.smallest.proofs.Accepted.{accepted-signals}
 use Rattle.smallest.proofs.Tables.{over-signals}

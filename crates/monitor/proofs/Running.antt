@@ -6,19 +6,17 @@ use mathlib.Core.Bool.{Bool, true, false, cond, _&&_}
 use Prim.Native.Nat.{ℕ, zero, suc, _+_, _^_, _≤_, _<_}
 use native.Mathlib.Omega.{arith}
 use lib.ListN.{length, take, getD}
-use lib.Seq.{take-length}
-use lib.Dec.{ltb, leb}
+use lib.Dec.{leb}
 use borrow.Author.Tests.{lt-ltb, le-ltb, lt-leb, leb-true}
-use Rattle.sequences.specs.Tabulate.{leastBelow, every, allBelow}
+use Rattle.sequences.specs.Tabulate.{every, allBelow}
 use Rattle.sequences.proofs.Loops.{least-is}
 use Rattle.sequences.proofs.Tests.{holds}
 use Rattle.meaning.specs.Traces.{over, Word}
 use Rattle.meaning.specs.Verdicts.{Property, Judged}
-use Rattle.meaning.specs.Monitors.{Monitor, Over, follow, shows}
-use Rattle.meaning.specs.RuleFiles.{Rule, alphabetOf, propertyOf}
+use Rattle.meaning.specs.Monitors.{Monitor, follow, shows}
+use Rattle.meaning.specs.RuleFiles.{alphabetOf, propertyOf}
 use Rattle.meaning.specs.TableFiles.{headerTests, rowTests, isTable, signalsIn, statesIn, monitorOf}
 use Rattle.meaning.specs.Runs.{decides, decidedFrom, endOf, firstBad, ranOf, runOf}
-use Rattle.meaning.specs.Demands.{Reads}
 use Rattle.meaning.specs.declared.Verdict.{Verdict}
 use Rattle.meaning.specs.declared.Verdict.the-variants.{Undecided, Satisfied, Violated, Moot}
 use Rattle.meaning.specs.declared.Decided.{Decided}

@@ -1,23 +1,23 @@
 -- What the arrays of the walk hold is what the model's walk over the rule's residual system gives.
-use mathlib.Core.Path.{_≡_, refl, sym, ap, _∙_, subst}
-use mathlib.Core.List.{List, []}
+use mathlib.Core.Path.{_≡_, sym, _∙_, subst}
+use mathlib.Core.List.{List}
 use mathlib.Core.Bool.{Bool, true, false, cond}
 use Prim.Native.Nat.{ℕ, _^_, _≤_, _<_}
 use native.Mathlib.Omega.{arith}
 use lib.ListN.{length, getD}
 use Rattle.sequences.specs.Tabulate.{tabulate}
 use Rattle.sequences.proofs.Loops.{getD-tab}
-use Rattle.meaning.specs.Traces.{over, Event}
-use Rattle.meaning.specs.RuleFiles.{Rule, alphabetOf, propertyOf}
+use Rattle.meaning.specs.Traces.{over}
+use Rattle.meaning.specs.RuleFiles.{Rule}
 use Rattle.ltl.specs.Nodes.{splits}
-use Rattle.ltl.specs.Keys.{Tables, tablesOf, startKey, stepKey, emptyKey, fullKey}
+use Rattle.ltl.specs.Keys.{Tables, tablesOf, startKey, emptyKey, fullKey}
 use Rattle.ltl.proofs.Instance.{nodesSystem, ltlSystem}
-use Rattle.walk.specs.Explore.{Explored, within, beyond}
+use Rattle.walk.specs.Explore.{within, beyond}
 use Rattle.walk.proofs.Closed.{Closed}
 use Rattle.walk.proofs.Ends.{closed-if}
 use Rattle.moore.specs.Grouping.{entry, Machine}
 use Rattle.moore.proofs.Extensional.{Agree}
-use Rattle.smallest.specs.Table.{Outcome, Table, TooMany, reducedBytes, classOf, classesOf, tableOf, mostStates}
+use Rattle.smallest.specs.Table.{Table, TooMany, reducedBytes, classOf, classesOf}
 use Rattle.smallest.proofs.Accepted.{Signals}
 use Rattle.smallest.proofs.Tables.{over-signals}
 use Rattle.smallest.proofs.Smallest.{table-within, table-beyond}

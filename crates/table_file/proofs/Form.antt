@@ -1,14 +1,13 @@
 -- Laws of the form of a table, and of the answers that rest on it.
-use mathlib.Core.Path.{_≡_, refl, sym, ap, _∙_}
-use mathlib.Core.List.{List, [], _∷_}
+use mathlib.Core.Path.{_≡_, refl}
+use mathlib.Core.List.{List}
 use mathlib.Core.Bool.{Bool, true, false, cond, _&&_}
 use Prim.Native.Nat.{ℕ, zero, suc, _≤_}
 use native.Mathlib.Omega.{arith}
 use borrow.Author.Tests.{leb-true, le-leb}
-use lib.Dec.{leb}
 use Rattle.sequences.specs.Tabulate.{every, allBelow}
 use Rattle.sequences.proofs.Tests.{holds}
-use Rattle.meaning.specs.TableFiles.{headerTests, rowTests, signalsIn, statesIn, isTable, checkedOf, verdictOf, monitorIn}
+use Rattle.meaning.specs.TableFiles.{headerTests, rowTests, signalsIn, statesIn, isTable, checkedOf, verdictOf}
 use Rattle.meaning.specs.Runs.{runOf}
 use Rattle.meaning.specs.declared.Verdict.the-variants.{Undecided}
 use Rattle.meaning.specs.declared.Refusal.{Refusal}

@@ -1,14 +1,16 @@
 // Checks, runs and rewrites the tables of a stream of cases on standard input: a two-byte length and the table, a two-byte state, a two-byte
 // count and the events. Writes a line for each case.
-ghost use mathlib.Core.Path.{_≡_};
-ghost use Prim.Native.Nat.{_≤_, _<_};
-ghost use lib.ListN.{length};
+ghost use Prim.Native.Nat.{_≤_};
+use console::fill;
+use console::front;
+use console::number;
+use console::room;
+use console::say;
+use console::say_number;
+use console::say_refusal;
+use console::say_run;
 use meaning::Built;
 use meaning::Checked;
-use meaning::Decided;
-use meaning::Ran;
-use meaning::Refusal;
-use meaning::Verdict;
 
 // A state's row, read from the table.
 fn row_of(t: &[u8], signals: u8, state: u16) -> [u16; 16]

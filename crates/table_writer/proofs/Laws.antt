@@ -5,11 +5,10 @@ use Prim.Native.Nat.{ℕ, suc, _+_, _*_, _^_, _≤_, _<_}
 use native.Mathlib.Nat.{mul-le-mul-right, suc-mul, mul-comm}
 use native.Mathlib.Numerals.{add-one}
 use native.Mathlib.Omega.{arith}
-use lib.ListN.{length, getD, set, drop, length-append}
+use lib.ListN.{length, getD, set, drop}
 use lib.Seq.{sets}
-use Rattle.sequences.specs.Tabulate.{joined}
 use Rattle.sequences.proofs.Joined.{joined-length}
-use Rattle.sequences.proofs.Stores.{Stored, stored-none, stored-more, stored-whole}
+use Rattle.sequences.proofs.Stores.{Stored, stored-more, stored-whole}
 use Rattle.meaning.specs.TableFiles.{rowLength, rowAt, tableLength}
 use Rattle.wire.specs.Wire.{u16Bytes}
 use Rattle.table_bytes.specs.Written.{headerBytes, successorBytes, rowBytes, rowsBytes, tableBytes}

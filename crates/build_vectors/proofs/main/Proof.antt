@@ -1,15 +1,10 @@
-use native.Mathlib.Omega.{arith}
+-- `build_vectors::main` meets its contract.
 use borrow.Author.Needs.{needs}
-use Prim.Native.Nat.{_≤_, _<_, _-_}
-use lib.ListN.{length, length-set}
-use mathlib.Core.Path.{_≡_, refl, sym, _∙_}
+use Prim.Native.Nat.{_≤_, _-_}
+use lib.ListN.{length}
+use mathlib.Core.Path.{_≡_}
 use Rattle.build_vectors.proofs.main.Statement.{statement}
 use Rattle.build_vectors.proofs.main.Tie as tie
-use Rattle.build_vectors.proofs.main.Reads as reads
-use Rattle.build_vectors.proofs.main.Lts as lts
-use Rattle.build_vectors.proofs.case.Reads as case-reads
-use Rattle.console.proofs.room.Reads as room-reads
-use Rattle.io.proofs.buffer.Reads as buffer-reads
 
 abbrev Inv-loop : tie.InvT-loop
 Inv-loop rule₀ out₀ events₀ left₀ rule out events left = (left ≤ 100000) × (4096 ≡ length rule) × (9600 ≡ length out) × (4096 ≡ length events)

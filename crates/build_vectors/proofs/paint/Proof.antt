@@ -1,12 +1,10 @@
-use native.Mathlib.Omega.{arith}
+-- `build_vectors::paint` meets its contract.
 use borrow.Author.Needs.{needs}
-use Prim.Native.Nat.{_≤_, _<_, _-_}
+use Prim.Native.Nat.{_-_}
 use lib.ListN.{length, length-set}
-use mathlib.Core.Path.{_≡_, refl, sym, _∙_}
+use mathlib.Core.Path.{_≡_}
 use Rattle.build_vectors.proofs.paint.Statement.{statement}
 use Rattle.build_vectors.proofs.paint.Tie as tie
-use Rattle.build_vectors.proofs.paint.Reads as reads
-use Rattle.build_vectors.proofs.paint.Lts as lts
 
 abbrev Inv-loop : tie.InvT-loop
 Inv-loop buffer₀ i₀ buffer i = length buffer ≡ length buffer₀

@@ -1,12 +1,9 @@
-use native.Mathlib.Omega.{arith}
+-- `build_vectors::painted` meets its contract.
 use borrow.Author.Needs.{needs}
-use Prim.Native.Nat.{_≤_, _<_, _-_}
-use lib.ListN.{length, length-set}
-use mathlib.Core.Path.{_≡_, refl, sym, _∙_}
+use Prim.Native.Nat.{_≤_, _-_}
+use lib.ListN.{length}
 use Rattle.build_vectors.proofs.painted.Statement.{statement}
 use Rattle.build_vectors.proofs.painted.Tie as tie
-use Rattle.build_vectors.proofs.painted.Reads as reads
-use Rattle.build_vectors.proofs.painted.Lts as lts
 
 abbrev Inv-loop : tie.InvT-loop
 Inv-loop buffer from i₀ i = 0 ≤ length buffer

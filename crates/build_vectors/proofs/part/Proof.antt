@@ -1,14 +1,11 @@
-use native.Mathlib.Omega.{arith}
-use Prim.Native.Nat.{_≤_, _<_, _-_}
-use lib.ListN.{length, length-set}
-use mathlib.Core.Path.{_≡_, refl, sym, _∙_}
+-- `build_vectors::part` meets its contract.
+use Prim.Native.Nat.{_-_}
+use mathlib.Core.Path.{sym}
 use lib.Seq.{length-take-le}
 use denote.Ref.{now}
 use borrow.Author.Needs.{needs}
 use Rattle.build_vectors.proofs.part.Statement.{statement}
 use Rattle.build_vectors.proofs.part.Tie as tie
-use Rattle.build_vectors.proofs.part.Reads as reads
-use Rattle.build_vectors.proofs.part.Lts as lts
 
 slice-aggregate-result : tie.Need-slice-aggregate-result
 slice-aggregate-result c = sym (length-take-le (c .before .args .n) (now (c .before .args .buffer)) (c .before .pre))

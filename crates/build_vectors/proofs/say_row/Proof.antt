@@ -1,20 +1,8 @@
-use native.Mathlib.Omega.{arith}
+-- `build_vectors::say_row` meets its contract.
 use borrow.Author.Needs.{needs}
-use Prim.Native.Nat.{_≤_, _<_, _-_}
-use lib.ListN.{length, length-set}
-use mathlib.Core.Path.{_≡_, refl, sym, _∙_}
+use Prim.Native.Nat.{_≤_, _-_}
 use Rattle.build_vectors.proofs.say_row.Statement.{statement}
 use Rattle.build_vectors.proofs.say_row.Tie as tie
-use Rattle.build_vectors.proofs.say_row.Reads as reads
-use Rattle.build_vectors.proofs.say_row.Lts as lts
-use Rattle.console.proofs.say.Reads as say-reads
-use Rattle.console.proofs.say_number.Reads as say-number-reads
-use Rattle.console.proofs.say_verdict.Reads as say-verdict-reads
-use Rattle.table_file.proofs.successor_at.Reads as successor-at-reads
-use Rattle.table_file.proofs.verdict_at.Reads as verdict-at-reads
-use Rattle.table_file.proofs.width.Reads as width-reads
-use Rattle.wire.proofs.wide.Reads as wide-reads
-use Rattle.wire.proofs.wide16.Reads as wide16-reads
 
 abbrev Inv-loop : tie.InvT-loop
 Inv-loop t signals state n e₀ t8 e = (e ≤ n) × (n ≤ 16)

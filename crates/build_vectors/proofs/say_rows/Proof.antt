@@ -1,13 +1,8 @@
-use native.Mathlib.Omega.{arith}
+-- `build_vectors::say_rows` meets its contract.
 use borrow.Author.Needs.{needs}
-use Prim.Native.Nat.{_≤_, _<_, _-_}
-use lib.ListN.{length, length-set}
-use mathlib.Core.Path.{_≡_, refl, sym, _∙_}
+use Prim.Native.Nat.{_≤_, _-_}
 use Rattle.build_vectors.proofs.say_rows.Statement.{statement}
 use Rattle.build_vectors.proofs.say_rows.Tie as tie
-use Rattle.build_vectors.proofs.say_rows.Reads as reads
-use Rattle.build_vectors.proofs.say_rows.Lts as lts
-use Rattle.build_vectors.proofs.say_row.Reads as say-row-reads
 
 abbrev Inv-loop : tie.InvT-loop
 Inv-loop t signals states s₀ s = s ≤ states

@@ -1,15 +1,11 @@
-use native.Mathlib.Omega.{arith}
-use Prim.Native.Nat.{_≤_, _<_, _-_}
-use lib.ListN.{length, length-set}
-use mathlib.Core.Path.{_≡_, refl, sym, _∙_}
+-- `console::fill` meets its contract.
+use Prim.Native.Nat.{_-_}
+use mathlib.Core.Path.{sym}
 use lib.Seq.{length-take-le}
 use denote.Ref.{now}
 use borrow.Author.Needs.{needs}
 use Rattle.console.proofs.fill.Statement.{statement}
 use Rattle.console.proofs.fill.Tie as tie
-use Rattle.console.proofs.fill.Reads as reads
-use Rattle.console.proofs.fill.Lts as lts
-use Rattle.io.proofs.read_full.Reads as read-full-reads
 
 returns : tie.Need-returns
 returns c = search needs

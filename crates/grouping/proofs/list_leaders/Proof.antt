@@ -1,3 +1,4 @@
+-- `grouping::list_leaders` meets its contract.
 use native.Mathlib.Omega.{arith}
 use borrow.Author.Needs.{needs}
 use mathlib.Core.Path.{_≡_, refl}

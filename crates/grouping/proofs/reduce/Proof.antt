@@ -1,3 +1,4 @@
+-- `grouping::reduce` meets its contract.
 use native.Mathlib.Omega.{arith}
 use borrow.Author.Needs.{needs}
 use Prim.Native.Nat.{_≤_}

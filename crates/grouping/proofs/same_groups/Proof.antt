@@ -1,3 +1,4 @@
+-- `grouping::same_groups` meets its contract.
 use native.Mathlib.Omega.{arith}
 use borrow.Author.Needs.{needs}
 use mathlib.Core.Path.{sym}

@@ -1,3 +1,4 @@
+-- `grouping::verdict_of` meets its contract.
 use borrow.Author.Needs.{needs}
 use mathlib.Core.Path.{sym, _∙_}
 use mathlib.Core.Bool.{true, false}

@@ -1,15 +1,11 @@
-use native.Mathlib.Omega.{arith}
-use mathlib.Core.Path.{_≡_, refl, sym, _∙_, ap}
+-- `monitor::build` meets its contract.
+use mathlib.Core.Path.{refl}
 use denote.Ref.{now}
 use Rattle.monitor.proofs.Reading.{refused-read, accepted-read, read-formed, read-count}
 use Rattle.monitor.proofs.Right.{all-right}
 use borrow.Author.Needs.{needs}
 use Rattle.monitor.proofs.build.Statement.{statement}
 use Rattle.monitor.proofs.build.Tie as tie
-use Rattle.monitor.proofs.build.Reads as reads
-use Rattle.monitor.proofs.build.Lts as lts
-use Rattle.monitor.proofs.construct.Reads as construct-reads
-use Rattle.rule_file.proofs.read.Reads as read-reads
 
 read-requires : tie.Need-read-requires
 read-requires c κs = search needs

@@ -1,24 +1,11 @@
+-- `monitor::construct` meets its contract.
 use native.Mathlib.Omega.{arith}
-use mathlib.Core.Path.{_≡_, refl, sym, _∙_, ap, subst}
-use Prim.Native.Nat.{ℕ, _^_}
 use denote.Ref.{now}
-use Rattle.exploration.specs.Arrays.{Tabled}
-use Rattle.exploration.proofs.Tables.{tabled}
 use Rattle.monitor.specs.Parts.{ruleIn}
 use Rattle.monitor.proofs.Construction.{walks, valuable, closed-few, closed-machine, closed-answers, over-answers, tabled-at}
 use borrow.Author.Needs.{needs}
 use Rattle.monitor.proofs.construct.Statement.{statement}
 use Rattle.monitor.proofs.construct.Tie as tie
-use Rattle.monitor.proofs.construct.Reads as reads
-use Rattle.monitor.proofs.construct.Lts as lts
-use Rattle.exploration.proofs.explore.Reads as explore-reads
-use Rattle.labelling.proofs.power.Reads as power-reads
-use Rattle.labelling.proofs.tables.Reads as tables-reads
-use Rattle.monitor.proofs.finish.Reads as finish-reads
-use Rattle.monitor.proofs.no_places.Reads as no-places-reads
-use Rattle.monitor.proofs.no_rows.Reads as no-rows-reads
-use Rattle.monitor.proofs.nowhere.Reads as nowhere-reads
-use Rattle.monitor.proofs.zeros.Reads as zeros-reads
 
 no-places-requires : tie.Need-no-places-requires
 no-places-requires c κs = search needs

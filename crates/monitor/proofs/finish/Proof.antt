@@ -1,15 +1,9 @@
+-- `monitor::finish` meets its contract.
 use native.Mathlib.Omega.{arith}
-use mathlib.Core.Path.{_≡_, refl, sym, _∙_, ap}
 use Rattle.grouping.proofs.Arrays.{verdicts-kept, rows-kept}
 use borrow.Author.Needs.{needs}
 use Rattle.monitor.proofs.finish.Statement.{statement}
 use Rattle.monitor.proofs.finish.Tie as tie
-use Rattle.monitor.proofs.finish.Reads as reads
-use Rattle.monitor.proofs.finish.Lts as lts
-use Rattle.grouping.proofs.reduce.Reads as reduce-reads
-use Rattle.monitor.proofs.no_rows.Reads as no-rows-reads
-use Rattle.monitor.proofs.zeros.Reads as zeros-reads
-use Rattle.table_writer.proofs.write.Reads as write-reads
 
 zeros-requires : tie.Need-zeros-requires
 zeros-requires c κs = search needs

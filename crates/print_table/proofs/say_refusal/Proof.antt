@@ -1,3 +1,4 @@
+-- `print_table::say_refusal` meets its contract.
 use native.Mathlib.Omega.{arith}
 use mathlib.Core.Path.{_≡_, refl, sym, _∙_, ap}
 use lib.ListN.{length, drop, length-append, length-drop, replicate}
@@ -7,11 +8,6 @@ use Rattle.table_text.specs.Text.{atFront, refusalText}
 use borrow.Author.Needs.{needs}
 use Rattle.print_table.proofs.say_refusal.Statement.{statement}
 use Rattle.print_table.proofs.say_refusal.Tie as tie
-use Rattle.print_table.proofs.say_refusal.Reads as reads
-use Rattle.print_table.proofs.say_refusal.Lts as lts
-use Rattle.console.proofs.front.Reads as front-reads
-use Rattle.console.proofs.say.Reads as say-reads
-use Rattle.table_text.proofs.refusal_text.Reads as refusal-text-reads
 
 -- the line's array is as long as it was
 framed : (text line : List ℕ) {after : List ℕ} (n : ℕ) → after ≡ atFront text line → n ≡ length text → n ≤ 64 → length line ≡ 64 → 64 ≡ length after

@@ -1,30 +1,17 @@
+-- `table_file::first_bad` meets its contract.
 use native.Mathlib.Omega.{arith}
 use borrow.Author.Needs.{needs}
-use mathlib.Core.Path.{_≡_, refl, sym, _∙_, ap, ap₂}
-use borrow.Author.Tests.{lt-leb, le-leb, eq-eqb, ne-eqb, lt-ltb, le-ltb}
-use Rattle.sequences.proofs.Tests.{fails, last}
-use Prim.Native.Nat.{ℕ, _+_, _-_, _*_, _^_, _≤_, _<_}
+use mathlib.Core.Path.{_≡_, sym, _∙_}
+use borrow.Author.Tests.{lt-leb, le-leb}
+use Prim.Native.Nat.{ℕ, _-_, _^_, _≤_}
 use mathlib.Core.List.{List}
-use mathlib.Core.Bool.{Bool, true, false, cond}
+use mathlib.Core.Bool.{Bool}
 use denote.Ref.{now}
-use Rattle.meaning.specs.Bytes.{u16At}
-use Rattle.sequences.proofs.Loops.{Passed, passed-none, passed-more, passed-all, all-not, Missed, missed-none, missed-more, missed-found, missed-end}
-use Rattle.meaning.specs.Monitors.{follow}
-use Rattle.meaning.specs.TableFiles.{rowAt, rowTests, headerTests, signalsIn, statesIn, verdictOf, verdictByte, successor, monitorIn, isTable}
-use Rattle.meaning.specs.Runs.{decides, decidedFrom, endOf, firstBad}
-use lib.Dec.{leb, ltb, eqb}
-use lib.ListN.{length, getD, drop}
-use Rattle.sequences.specs.Tabulate.{every, allBelow}
-use Rattle.table_file.proofs.Laws.{follow-step, follow-end, decided-step, decided-now, decided-end, end-any, end-is}
-use Rattle.table_file.proofs.Form.{verdict-else, signals-few, checked-table, checked-rows, checked-header, run-refused, run-table}
-use Rattle.meaning.specs.declared.Decided.{Decided}
-use Rattle.meaning.specs.declared.Decided.the-variants.{After, Never}
+use Rattle.sequences.proofs.Loops.{Missed, missed-none, missed-more, missed-found, missed-end}
+use lib.Dec.{leb}
+use lib.ListN.{length, getD}
 use Rattle.table_file.proofs.first_bad.Statement.{statement}
 use Rattle.table_file.proofs.first_bad.Tie as tie
-use Rattle.table_file.proofs.first_bad.Reads as reads
-use Rattle.table_file.proofs.first_bad.Lts as lts
-use Rattle.table_file.proofs.width.Reads as width-reads
-use Rattle.wire.proofs.wide.Reads as wide-reads
 
 abbrev bad : ℕ → List ℕ → ℕ → Bool
 bad P es i = leb (2 ^ P) (getD es i 0)

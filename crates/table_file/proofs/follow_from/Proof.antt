@@ -1,26 +1,15 @@
+-- `table_file::follow_from` meets its contract.
 use native.Mathlib.Omega.{arith}
 use borrow.Author.Needs.{needs}
-use mathlib.Core.Path.{_≡_, refl, sym, _∙_, ap, ap₂}
-use borrow.Author.Tests.{lt-leb, le-leb, eq-eqb, ne-eqb, lt-ltb, le-ltb}
-use Rattle.sequences.proofs.Tests.{fails, last}
-use Prim.Native.Nat.{ℕ, _+_, _-_, _*_, _^_, _≤_, _<_}
-use mathlib.Core.List.{List}
-use mathlib.Core.Bool.{Bool, true, false, cond}
+use mathlib.Core.Path.{_≡_, refl, _∙_}
+use Prim.Native.Nat.{_-_, _≤_}
 use denote.Ref.{now}
-use Rattle.meaning.specs.Bytes.{u16At}
-use Rattle.sequences.proofs.Loops.{Passed, passed-none, passed-more, passed-all, all-not, Missed, missed-none, missed-more, missed-found, missed-end}
-use Rattle.table_file.proofs.Laws.{follow-step, follow-end, decided-step, decided-now, decided-end, end-any}
+use Rattle.table_file.proofs.Laws.{follow-step, follow-end}
 use Rattle.meaning.specs.Monitors.{follow}
-use Rattle.meaning.specs.TableFiles.{rowAt, rowTests, headerTests, signalsIn, statesIn, verdictOf, verdictByte, successor, monitorIn, isTable}
-use Rattle.meaning.specs.Runs.{decides, decidedFrom, endOf, firstBad}
-use lib.Dec.{leb, ltb, eqb}
-use lib.ListN.{length, getD, drop}
-use Rattle.sequences.specs.Tabulate.{every, allBelow}
+use Rattle.meaning.specs.TableFiles.{monitorIn}
+use lib.ListN.{length, drop}
 use Rattle.table_file.proofs.follow_from.Statement.{statement}
 use Rattle.table_file.proofs.follow_from.Tie as tie
-use Rattle.table_file.proofs.follow_from.Reads as reads
-use Rattle.table_file.proofs.follow_from.Lts as lts
-use Rattle.table_file.proofs.successor_at.Reads as successor-at-reads
 
 abbrev Inv-loop : tie.InvT-loop
 Inv-loop t signals state events from s₀ i₀ s i = (i ≤ length events) × (follow (monitorIn t signals 0) s (drop i events) ≡ follow (monitorIn t signals 0) state (drop «from» events))

@@ -1,3 +1,4 @@
+-- `table_file::header_fits` meets its contract.
 use native.Mathlib.Omega.{arith}
 use mathlib.Core.Path.{_≡_, sym, _∙_, ap, ap₂}
 use borrow.Author.Tests.{lt-leb, le-leb, eq-eqb, ne-eqb}
@@ -5,18 +6,13 @@ use Rattle.sequences.proofs.Tests.{fails, last}
 use Rattle.meaning.specs.TableFiles.{headerTests, rowAt, signalsIn, statesIn, tableLength}
 use Rattle.meaning.specs.Bytes.{u16At}
 use mathlib.Core.Bool.{true}
-use Prim.Native.Nat.{ℕ, _+_, _*_}
+use Prim.Native.Nat.{ℕ}
 use lib.Dec.{leb, eqb}
 use lib.ListN.{length}
 use denote.Ref.{now}
 use borrow.Author.Needs.{needs}
 use Rattle.table_file.proofs.header_fits.Statement.{statement}
 use Rattle.table_file.proofs.header_fits.Tie as tie
-use Rattle.table_file.proofs.header_fits.Reads as reads
-use Rattle.table_file.proofs.header_fits.Lts as lts
-use Rattle.table_file.proofs.row_at.Reads as row-at-reads
-use Rattle.wire.proofs.byte_at.Reads as byte-at-reads
-use Rattle.wire.proofs.u16_at.Reads as u16-at-reads
 
 returns : tie.Need-returns
 returns c = let l = now (c .before .before .args .t) in sym (fails (headerTests l) 0 (lt-leb _ _ (c .if1 .taken)))

@@ -1,31 +1,19 @@
+-- `table_file::row_fits` meets its contract.
 use native.Mathlib.Omega.{arith}
-use mathlib.Core.Path.{_≡_, refl, sym, _∙_, ap, ap₂}
-use borrow.Author.Tests.{lt-leb, le-leb, eq-eqb, ne-eqb, lt-ltb, le-ltb}
+use mathlib.Core.Path.{_≡_, sym, _∙_, ap, ap₂}
+use borrow.Author.Tests.{lt-leb, le-leb, eq-eqb, ne-eqb}
 use Rattle.sequences.proofs.Tests.{fails, last}
-use Prim.Native.Nat.{ℕ, _+_, _-_, _*_, _^_, _≤_, _<_}
-use mathlib.Core.List.{List}
-use mathlib.Core.Bool.{Bool, true, false, cond}
+use Prim.Native.Nat.{ℕ, _+_, _-_, _*_, _^_}
+use mathlib.Core.Bool.{true}
 use denote.Ref.{now}
 use Rattle.meaning.specs.Bytes.{u16At}
-use Rattle.sequences.proofs.Loops.{Passed, passed-none, passed-more, passed-all, all-not, Missed, missed-none, missed-more, missed-found, missed-end}
-use Rattle.table_file.proofs.Laws.{follow-step, follow-end, decided-step, decided-now, decided-end, end-any}
-use Rattle.meaning.specs.Monitors.{follow}
-use Rattle.meaning.specs.TableFiles.{rowAt, rowTests, headerTests, signalsIn, statesIn, verdictOf, verdictByte, successor, monitorIn, isTable}
-use Rattle.meaning.specs.Runs.{decides, decidedFrom, endOf, firstBad}
+use Rattle.meaning.specs.TableFiles.{rowAt, rowTests, verdictByte}
 use lib.Dec.{leb, ltb, eqb}
-use lib.ListN.{length, getD, drop}
-use Rattle.sequences.specs.Tabulate.{every, allBelow}
+use lib.ListN.{getD}
+use Rattle.sequences.specs.Tabulate.{allBelow}
 use borrow.Author.Needs.{needs}
 use Rattle.table_file.proofs.row_fits.Statement.{statement}
 use Rattle.table_file.proofs.row_fits.Tie as tie
-use Rattle.table_file.proofs.row_fits.Reads as reads
-use Rattle.table_file.proofs.row_fits.Lts as lts
-use Rattle.table_file.proofs.row_at.Reads as row-at-reads
-use Rattle.table_file.proofs.successors_fit.Reads as successors-fit-reads
-use Rattle.table_file.proofs.width.Reads as width-reads
-use Rattle.wire.proofs.byte_at.Reads as byte-at-reads
-use Rattle.wire.proofs.u16_at.Reads as u16-at-reads
-use Rattle.wire.proofs.wide16.Reads as wide16-reads
 
 row-at-requires : tie.Need-row-at-requires
 row-at-requires c κs = search needs

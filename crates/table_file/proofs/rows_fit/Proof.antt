@@ -1,26 +1,16 @@
+-- `table_file::rows_fit` meets its contract.
 use native.Mathlib.Omega.{arith}
 use borrow.Author.Needs.{needs}
-use mathlib.Core.Path.{_≡_, refl, sym, _∙_, ap, ap₂}
-use borrow.Author.Tests.{lt-leb, le-leb, eq-eqb, ne-eqb, lt-ltb, le-ltb}
-use Rattle.sequences.proofs.Tests.{fails, last}
-use Prim.Native.Nat.{ℕ, _+_, _-_, _*_, _^_, _≤_, _<_}
+use mathlib.Core.Path.{sym, _∙_}
+use Prim.Native.Nat.{ℕ, _-_, _≤_}
 use mathlib.Core.List.{List}
-use mathlib.Core.Bool.{Bool, true, false, cond}
+use mathlib.Core.Bool.{Bool}
 use denote.Ref.{now}
-use Rattle.meaning.specs.Bytes.{u16At}
-use Rattle.sequences.proofs.Loops.{Passed, passed-none, passed-more, passed-all, all-not, Missed, missed-none, missed-more, missed-found, missed-end}
-use Rattle.table_file.proofs.Laws.{follow-step, follow-end, decided-step, decided-now, decided-end, end-any}
-use Rattle.meaning.specs.Monitors.{follow}
-use Rattle.meaning.specs.TableFiles.{rowAt, rowTests, headerTests, signalsIn, statesIn, verdictOf, verdictByte, successor, monitorIn, isTable}
-use Rattle.meaning.specs.Runs.{decides, decidedFrom, endOf, firstBad}
-use lib.Dec.{leb, ltb, eqb}
-use lib.ListN.{length, getD, drop}
-use Rattle.sequences.specs.Tabulate.{every, allBelow}
+use Rattle.sequences.proofs.Loops.{Passed, passed-none, passed-more, passed-all, all-not}
+use Rattle.meaning.specs.TableFiles.{rowTests}
+use Rattle.sequences.specs.Tabulate.{every}
 use Rattle.table_file.proofs.rows_fit.Statement.{statement}
 use Rattle.table_file.proofs.rows_fit.Tie as tie
-use Rattle.table_file.proofs.rows_fit.Reads as reads
-use Rattle.table_file.proofs.rows_fit.Lts as lts
-use Rattle.table_file.proofs.row_fits.Reads as row-fits-reads
 
 abbrev test : List ℕ → ℕ → ℕ → ℕ → Bool
 test t P S s = every (rowTests t P S s)

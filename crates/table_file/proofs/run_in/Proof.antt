@@ -1,30 +1,15 @@
+-- `table_file::run_in` meets its contract.
 use native.Mathlib.Omega.{arith}
-use mathlib.Core.Path.{_≡_, refl, sym, _∙_, ap, ap₂}
-use borrow.Author.Tests.{lt-leb, le-leb, eq-eqb, ne-eqb, lt-ltb, le-ltb}
-use Rattle.sequences.proofs.Tests.{fails, last}
-use Prim.Native.Nat.{ℕ, _+_, _-_, _*_, _^_, _≤_, _<_}
-use mathlib.Core.List.{List}
-use mathlib.Core.Bool.{Bool, true, false, cond}
+use mathlib.Core.Path.{_≡_, _∙_}
+use borrow.Author.Tests.{lt-leb, le-leb, lt-ltb, le-ltb}
+use Prim.Native.Nat.{_-_}
 use denote.Ref.{now}
-use Rattle.meaning.specs.Bytes.{u16At}
-use Rattle.sequences.proofs.Loops.{Passed, passed-none, passed-more, passed-all, all-not, Missed, missed-none, missed-more, missed-found, missed-end}
-use Rattle.meaning.specs.Monitors.{follow}
-use Rattle.meaning.specs.TableFiles.{rowAt, rowTests, headerTests, signalsIn, statesIn, verdictOf, verdictByte, successor, monitorIn, isTable}
-use Rattle.meaning.specs.Runs.{decides, decidedFrom, endOf, firstBad}
-use lib.Dec.{leb, ltb, eqb}
-use lib.ListN.{length, getD, drop}
-use Rattle.sequences.specs.Tabulate.{every, allBelow}
-use Rattle.table_file.proofs.Laws.{follow-step, follow-end, decided-step, decided-now, decided-end, end-any, end-is}
-use Rattle.table_file.proofs.Form.{verdict-else, signals-few, checked-table, checked-rows, checked-header, run-refused, run-table}
-use Rattle.meaning.specs.declared.Decided.{Decided}
-use Rattle.meaning.specs.declared.Decided.the-variants.{After, Never}
+use Rattle.meaning.specs.Runs.{firstBad}
+use lib.ListN.{length}
+use Rattle.table_file.proofs.Laws.{end-any}
 use borrow.Author.Needs.{needs}
 use Rattle.table_file.proofs.run_in.Statement.{statement}
 use Rattle.table_file.proofs.run_in.Tie as tie
-use Rattle.table_file.proofs.run_in.Reads as reads
-use Rattle.table_file.proofs.run_in.Lts as lts
-use Rattle.table_file.proofs.ended.Reads as ended-reads
-use Rattle.table_file.proofs.first_bad.Reads as first-bad-reads
 
 returns : tie.Need-returns
 returns c = let l = now (c .before .before .before .args .t) in let P = c .before .before .before .args .signals in let S = c .before .before .before .args .states in let s = c .before .before .before .args .state in let es = now (c .before .before .before .args .events) in rw (lt-leb P 4 (c .if1 .taken))

@@ -1,19 +1,17 @@
+-- `table_file::successors_fit` meets its contract.
 use native.Mathlib.Omega.{arith}
 use borrow.Author.Needs.{needs}
-use mathlib.Core.Path.{_≡_, sym, _∙_, ap, ap₂}
-use borrow.Author.Tests.{lt-leb, le-leb, eq-eqb, ne-eqb, lt-ltb, le-ltb}
+use mathlib.Core.Path.{sym}
+use borrow.Author.Tests.{lt-ltb, le-ltb}
 use mathlib.Core.List.{List}
 use mathlib.Core.Bool.{Bool}
-use Prim.Native.Nat.{ℕ, _+_, _-_, _*_, _≤_, _<_}
+use Prim.Native.Nat.{ℕ, _+_, _-_, _*_, _≤_}
 use lib.Dec.{ltb}
 use denote.Ref.{now}
 use Rattle.meaning.specs.Bytes.{u16At}
 use Rattle.sequences.proofs.Loops.{Passed, passed-none, passed-more, passed-all, all-not}
 use Rattle.table_file.proofs.successors_fit.Statement.{statement}
 use Rattle.table_file.proofs.successors_fit.Tie as tie
-use Rattle.table_file.proofs.successors_fit.Reads as reads
-use Rattle.table_file.proofs.successors_fit.Lts as lts
-use Rattle.wire.proofs.u16_at.Reads as u16-at-reads
 
 abbrev test : List ℕ → ℕ → ℕ → ℕ → Bool
 test t at states e = ltb (u16At t (at + 2 * e)) states

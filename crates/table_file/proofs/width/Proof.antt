@@ -1,10 +1,9 @@
+-- `table_file::width` meets its contract.
 use native.Mathlib.Omega.{arith}
 use mathlib.Core.Path.{_≡_, sym, ap}
 use Prim.Native.Nat.{ℕ, _^_}
 use Rattle.table_file.proofs.width.Statement.{statement}
 use Rattle.table_file.proofs.width.Tie as tie
-use Rattle.table_file.proofs.width.Reads as reads
-use Rattle.table_file.proofs.width.Lts as lts
 
 -- src/lib.rt:20:1
 returns : tie.Need-returns

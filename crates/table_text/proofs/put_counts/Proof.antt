@@ -1,3 +1,4 @@
+-- `table_text::put_counts` meets its contract.
 use native.Mathlib.Omega.{arith}
 use Rattle.table_text.proofs.Laws.{put-more}
 use borrow.Author.Needs.{needs}

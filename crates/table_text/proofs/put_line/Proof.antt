@@ -1,3 +1,4 @@
+-- `table_text::put_line` meets its contract.
 use native.Mathlib.Omega.{arith}
 use mathlib.Core.Path.{ap}
 use denote.Ref.{now}

@@ -1,3 +1,4 @@
+-- `table_text::put_number` meets its contract.
 use native.Mathlib.Omega.{arith}
 use mathlib.Core.Path.{ap}
 use Rattle.table_text.specs.Text.{decimal}

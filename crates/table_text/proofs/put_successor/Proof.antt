@@ -1,3 +1,4 @@
+-- `table_text::put_successor` meets its contract.
 use native.Mathlib.Omega.{arith}
 use mathlib.Core.Path.{refl, _∙_}
 use denote.Ref.{now}

@@ -1,3 +1,4 @@
+-- `table_text::put_word` meets its contract.
 use native.Mathlib.Omega.{arith}
 use mathlib.Core.Path.{sym, ap}
 use Rattle.table_text.specs.Text.{word}

@@ -1,3 +1,4 @@
+-- `table_text::refusal_text` meets its contract.
 use native.Mathlib.Omega.{arith}
 use native.Mathlib.Nat.{zero-add}
 use mathlib.Core.Path.{_∙_, ap}

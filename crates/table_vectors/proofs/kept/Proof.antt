@@ -1,12 +1,9 @@
-use native.Mathlib.Omega.{arith}
+-- `table_vectors::kept` meets its contract.
 use borrow.Author.Needs.{needs}
-use Prim.Native.Nat.{_≤_, _<_, _-_}
-use lib.ListN.{length, length-set}
+use Prim.Native.Nat.{_≤_, _-_}
+use lib.ListN.{length}
 use Rattle.table_vectors.proofs.kept.Statement.{statement}
 use Rattle.table_vectors.proofs.kept.Tie as tie
-use Rattle.table_vectors.proofs.kept.Reads as reads
-use Rattle.table_vectors.proofs.kept.Lts as lts
-use Rattle.wire.proofs.byte_at.Reads as byte-at-reads
 
 abbrev Inv-loop : tie.InvT-loop
 Inv-loop a b i₀ i = i ≤ length a

@@ -1,15 +1,10 @@
-use native.Mathlib.Omega.{arith}
+-- `table_vectors::main` meets its contract.
 use borrow.Author.Needs.{needs}
-use Prim.Native.Nat.{_≤_, _<_, _-_}
-use lib.ListN.{length, length-set}
-use mathlib.Core.Path.{_≡_, refl, sym, _∙_}
+use Prim.Native.Nat.{_≤_, _-_}
+use lib.ListN.{length}
+use mathlib.Core.Path.{_≡_}
 use Rattle.table_vectors.proofs.main.Statement.{statement}
 use Rattle.table_vectors.proofs.main.Tie as tie
-use Rattle.table_vectors.proofs.main.Reads as reads
-use Rattle.table_vectors.proofs.main.Lts as lts
-use Rattle.io.proofs.buffer.Reads as buffer-reads
-use Rattle.table_vectors.proofs.case.Reads as case-reads
-use Rattle.table_vectors.proofs.room.Reads as room-reads
 
 abbrev Inv-loop : tie.InvT-loop
 Inv-loop table₀ events₀ left₀ table events left = (left ≤ 100000) × (9600 ≡ length table) × (4096 ≡ length events)

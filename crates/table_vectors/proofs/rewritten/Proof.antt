@@ -1,19 +1,10 @@
-use native.Mathlib.Omega.{arith}
+-- `table_vectors::rewritten` meets its contract.
 use borrow.Author.Needs.{needs}
-use Prim.Native.Nat.{_≤_, _<_, _-_}
-use lib.ListN.{length, length-set}
-use mathlib.Core.Path.{_≡_, refl, _∙_}
+use Prim.Native.Nat.{_≤_, _-_}
+use lib.ListN.{length}
+use mathlib.Core.Path.{_≡_}
 use Rattle.table_vectors.proofs.rewritten.Statement.{statement}
 use Rattle.table_vectors.proofs.rewritten.Tie as tie
-use Rattle.table_vectors.proofs.rewritten.Reads as reads
-use Rattle.table_vectors.proofs.rewritten.Lts as lts
-use Rattle.table_file.proofs.row_at.Reads as row-at-reads
-use Rattle.table_vectors.proofs.kept.Reads as kept-reads
-use Rattle.table_vectors.proofs.room.Reads as room-reads
-use Rattle.table_vectors.proofs.row_of.Reads as row-of-reads
-use Rattle.table_writer.proofs.write.Reads as write-reads
-use Rattle.wire.proofs.byte_at.Reads as byte-at-reads
-use Rattle.wire.proofs.wide16.Reads as wide16-reads
 
 abbrev Inv-loop : tie.InvT-loop
 Inv-loop t signals states rows₀ verdicts₀ s₀ rows verdicts s = (s ≤ states) × (length rows ≡ 256) × (length verdicts ≡ 256)

@@ -1,14 +1,10 @@
-use native.Mathlib.Omega.{arith}
+-- `table_vectors::row_of` meets its contract.
 use borrow.Author.Needs.{needs}
-use Prim.Native.Nat.{_≤_, _<_, _-_}
-use lib.ListN.{length, length-set}
-use mathlib.Core.Path.{_≡_, refl, _∙_}
+use Prim.Native.Nat.{_≤_, _-_}
+use lib.ListN.{length}
+use mathlib.Core.Path.{_≡_}
 use Rattle.table_vectors.proofs.row_of.Statement.{statement}
 use Rattle.table_vectors.proofs.row_of.Tie as tie
-use Rattle.table_vectors.proofs.row_of.Reads as reads
-use Rattle.table_vectors.proofs.row_of.Lts as lts
-use Rattle.table_file.proofs.successor_at.Reads as successor-at-reads
-use Rattle.wire.proofs.wide.Reads as wide-reads
 
 abbrev Inv-loop : tie.InvT-loop
 Inv-loop t signals state row₀ e₀ row e = (e ≤ 16) × (length row ≡ 16)

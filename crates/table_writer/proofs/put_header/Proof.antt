@@ -1,22 +1,11 @@
+-- `table_writer::put_header` meets its contract.
 use native.Mathlib.Omega.{arith}
-use mathlib.Core.Path.{_≡_, refl, sym, _∙_, ap, ap₂}
-use borrow.Author.Tests.{lt-leb, le-leb}
-use Prim.Native.Nat.{ℕ, _+_, _-_, _*_, _^_, _≤_, _<_}
-use mathlib.Core.List.{List, []}
-use denote.Ref.{now}
-use lib.ListN.{length, getD, length-set}
-use Rattle.sequences.proofs.Stores.{Stored, stored-none, stored-length}
-use Rattle.table_writer.proofs.Laws.{successors-more, row-stored, rows-more, table-stored, row-within}
-use Rattle.table_bytes.specs.Written.{headerBytes, successorBytes, rowBytes, rowsBytes, tableBytes}
-use Rattle.meaning.specs.TableFiles.{rowLength, rowAt, tableLength}
-use Rattle.wire.specs.Wire.{u16Bytes}
-use lib.Seq.{sets, length-sets}
+use mathlib.Core.Path.{_∙_}
+use Prim.Native.Nat.{_-_}
+use lib.ListN.{length-set}
 use borrow.Author.Needs.{needs}
 use Rattle.table_writer.proofs.put_header.Statement.{statement}
 use Rattle.table_writer.proofs.put_header.Tie as tie
-use Rattle.table_writer.proofs.put_header.Reads as reads
-use Rattle.table_writer.proofs.put_header.Lts as lts
-use Rattle.wire.proofs.put_u16.Reads as put-u16-reads
 
 slice-write-out : tie.Need-slice-write-out
 slice-write-out c = search needs

@@ -1,24 +1,13 @@
+-- `table_writer::put_row` meets its contract.
 use native.Mathlib.Omega.{arith}
-use mathlib.Core.Path.{_≡_, refl, sym, _∙_, ap, ap₂}
-use borrow.Author.Tests.{lt-leb, le-leb}
-use Prim.Native.Nat.{ℕ, _+_, _-_, _*_, _^_, _≤_, _<_}
-use mathlib.Core.List.{List, []}
+use mathlib.Core.Path.{refl, _∙_}
+use Prim.Native.Nat.{_-_}
 use denote.Ref.{now}
-use lib.ListN.{length, getD, length-set}
-use Rattle.sequences.proofs.Stores.{Stored, stored-none, stored-length}
-use Rattle.table_writer.proofs.Laws.{successors-more, row-stored, rows-more, table-stored, row-within}
-use Rattle.table_bytes.specs.Written.{headerBytes, successorBytes, rowBytes, rowsBytes, tableBytes}
-use Rattle.meaning.specs.TableFiles.{rowLength, rowAt, tableLength}
-use Rattle.wire.specs.Wire.{u16Bytes}
-use lib.Seq.{sets, length-sets}
+use lib.ListN.{length-set}
+use Rattle.table_writer.proofs.Laws.{row-stored}
 use borrow.Author.Needs.{needs}
 use Rattle.table_writer.proofs.put_row.Statement.{statement}
 use Rattle.table_writer.proofs.put_row.Tie as tie
-use Rattle.table_writer.proofs.put_row.Reads as reads
-use Rattle.table_writer.proofs.put_row.Lts as lts
-use Rattle.table_file.proofs.width.Reads as width-reads
-use Rattle.table_writer.proofs.put_successors.Reads as put-successors-reads
-use Rattle.wire.proofs.put_u16.Reads as put-u16-reads
 
 width-requires : tie.Need-width-requires
 width-requires c κs = search needs

@@ -1,24 +1,17 @@
+-- `table_writer::put_rows` meets its contract.
 use native.Mathlib.Omega.{arith}
 use borrow.Author.Needs.{needs}
-use mathlib.Core.Path.{_≡_, refl, sym, _∙_, ap, ap₂}
-use borrow.Author.Tests.{lt-leb, le-leb}
-use Prim.Native.Nat.{ℕ, _+_, _-_, _*_, _^_, _≤_, _<_}
-use mathlib.Core.List.{List, []}
+use mathlib.Core.Path.{_≡_, refl, _∙_, ap}
+use Prim.Native.Nat.{ℕ, _-_, _≤_}
+use mathlib.Core.List.{[]}
 use denote.Ref.{now}
-use lib.ListN.{length, getD, length-set}
+use lib.ListN.{length, getD}
 use Rattle.sequences.proofs.Stores.{Stored, stored-none, stored-length}
-use Rattle.table_writer.proofs.Laws.{successors-more, row-stored, rows-more, table-stored, row-within}
-use Rattle.table_bytes.specs.Written.{headerBytes, successorBytes, rowBytes, rowsBytes, tableBytes}
-use Rattle.meaning.specs.TableFiles.{rowLength, rowAt, tableLength}
-use Rattle.wire.specs.Wire.{u16Bytes}
-use lib.Seq.{sets, length-sets}
+use Rattle.table_writer.proofs.Laws.{rows-more, row-within}
+use Rattle.table_bytes.specs.Written.{rowBytes, rowsBytes}
+use lib.Seq.{sets}
 use Rattle.table_writer.proofs.put_rows.Statement.{statement}
 use Rattle.table_writer.proofs.put_rows.Tie as tie
-use Rattle.table_writer.proofs.put_rows.Reads as reads
-use Rattle.table_writer.proofs.put_rows.Lts as lts
-use Rattle.table_file.proofs.row_at.Reads as row-at-reads
-use Rattle.table_writer.proofs.put_row.Reads as put-row-reads
-use Rattle.wire.proofs.wide16.Reads as wide16-reads
 
 abbrev Inv-loop : tie.InvT-loop
 Inv-loop out₀ signals states verdicts rows s₀ out s = (s ≤ states) × (length out ≡ length out₀) × Stored out₀ 7 (rowsBytes signals s verdicts rows) out

@@ -1,22 +1,16 @@
+-- `table_writer::put_successors` meets its contract.
 use native.Mathlib.Omega.{arith}
 use borrow.Author.Needs.{needs}
-use mathlib.Core.Path.{_≡_, refl, sym, _∙_, ap, ap₂}
-use borrow.Author.Tests.{lt-leb, le-leb}
-use Prim.Native.Nat.{ℕ, _+_, _-_, _*_, _^_, _≤_, _<_}
-use mathlib.Core.List.{List, []}
+use mathlib.Core.Path.{_≡_, refl, _∙_, ap}
+use Prim.Native.Nat.{ℕ, _-_, _≤_}
 use denote.Ref.{now}
-use lib.ListN.{length, getD, length-set}
+use lib.ListN.{length}
 use Rattle.sequences.proofs.Stores.{Stored, stored-none, stored-length}
-use Rattle.table_writer.proofs.Laws.{successors-more, row-stored, rows-more, table-stored, row-within}
-use Rattle.table_bytes.specs.Written.{headerBytes, successorBytes, rowBytes, rowsBytes, tableBytes}
-use Rattle.meaning.specs.TableFiles.{rowLength, rowAt, tableLength}
-use Rattle.wire.specs.Wire.{u16Bytes}
-use lib.Seq.{sets, length-sets}
+use Rattle.table_writer.proofs.Laws.{successors-more}
+use Rattle.table_bytes.specs.Written.{successorBytes}
+use lib.Seq.{sets}
 use Rattle.table_writer.proofs.put_successors.Statement.{statement}
 use Rattle.table_writer.proofs.put_successors.Tie as tie
-use Rattle.table_writer.proofs.put_successors.Reads as reads
-use Rattle.table_writer.proofs.put_successors.Lts as lts
-use Rattle.wire.proofs.put_u16.Reads as put-u16-reads
 
 abbrev Inv-loop : tie.InvT-loop
 Inv-loop out₀ at events row e₀ out e = (e ≤ events) × (length out ≡ length out₀) × Stored out₀ at (successorBytes e row) out

@@ -1,24 +1,15 @@
+-- `table_writer::write` meets its contract.
 use native.Mathlib.Omega.{arith}
-use mathlib.Core.Path.{_≡_, refl, sym, _∙_, ap, ap₂}
+use mathlib.Core.Path.{_∙_}
 use borrow.Author.Tests.{lt-leb, le-leb}
-use Prim.Native.Nat.{ℕ, _+_, _-_, _*_, _^_, _≤_, _<_}
-use mathlib.Core.List.{List, []}
+use Prim.Native.Nat.{_-_, _≤_}
 use denote.Ref.{now}
-use lib.ListN.{length, getD, length-set}
-use Rattle.sequences.proofs.Stores.{Stored, stored-none, stored-length}
-use Rattle.table_writer.proofs.Laws.{successors-more, row-stored, rows-more, table-stored, row-within}
-use Rattle.table_bytes.specs.Written.{headerBytes, successorBytes, rowBytes, rowsBytes, tableBytes}
-use Rattle.meaning.specs.TableFiles.{rowLength, rowAt, tableLength}
-use Rattle.wire.specs.Wire.{u16Bytes}
-use lib.Seq.{sets, length-sets}
+use lib.ListN.{length}
+use Rattle.table_writer.proofs.Laws.{table-stored}
+use Rattle.meaning.specs.TableFiles.{tableLength}
 use borrow.Author.Needs.{needs}
 use Rattle.table_writer.proofs.write.Statement.{statement}
 use Rattle.table_writer.proofs.write.Tie as tie
-use Rattle.table_writer.proofs.write.Reads as reads
-use Rattle.table_writer.proofs.write.Lts as lts
-use Rattle.table_file.proofs.row_at.Reads as row-at-reads
-use Rattle.table_writer.proofs.put_header.Reads as put-header-reads
-use Rattle.table_writer.proofs.put_rows.Reads as put-rows-reads
 
 row-at-requires : tie.Need-row-at-requires
 row-at-requires c κs = search needs

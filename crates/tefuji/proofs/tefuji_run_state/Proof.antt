@@ -1,13 +1,10 @@
+-- `tefuji::tefuji_run_state` meets its contract.
 use mathlib.Core.Path.{sym, ap, _∙_}
 use Prim.Native.Nat.{ℕ, _+_}
 use Rattle.tefuji.specs.Codes.{stateCode}
 use borrow.Author.Needs.{needs}
 use Rattle.tefuji.proofs.tefuji_run_state.Statement.{statement}
 use Rattle.tefuji.proofs.tefuji_run_state.Tie as tie
-use Rattle.tefuji.proofs.tefuji_run_state.Reads as reads
-use Rattle.tefuji.proofs.tefuji_run_state.Lts as lts
-use Rattle.meaning.proofs.Refusal.number.Reads as number-reads
-use Rattle.table_file.proofs.run.Reads as run-reads
 
 run-requires : tie.Need-run-requires
 run-requires c κs = search needs

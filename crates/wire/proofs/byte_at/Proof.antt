@@ -1,10 +1,9 @@
+-- `wire::byte_at` meets its contract.
 use lib.ListN.{List·getD-eq-default}
 use mathlib.Core.Path.{sym}
 use borrow.Author.Needs.{needs}
 use Rattle.wire.proofs.byte_at.Statement.{statement}
 use Rattle.wire.proofs.byte_at.Tie as tie
-use Rattle.wire.proofs.byte_at.Reads as reads
-use Rattle.wire.proofs.byte_at.Lts as lts
 
 -- src/lib.rt:32:16
 shared-slice-read-result : tie.Need-shared-slice-read-result

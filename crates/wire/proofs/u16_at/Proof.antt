@@ -1,3 +1,4 @@
+-- `wire::u16_at` meets its contract.
 use lib.ListN.{List·getD-eq-default}
 use native.Mathlib.Omega.{arith}
 use mathlib.Core.Path.{ap}
@@ -5,10 +6,6 @@ use Prim.Native.Nat.{ℕ, _*_}
 use borrow.Author.Needs.{needs}
 use Rattle.wire.proofs.u16_at.Statement.{statement}
 use Rattle.wire.proofs.u16_at.Tie as tie
-use Rattle.wire.proofs.u16_at.Reads as reads
-use Rattle.wire.proofs.u16_at.Lts as lts
-use Rattle.wire.proofs.byte_at.Reads as byte-at-reads
-use Rattle.wire.proofs.half.Reads as half-reads
 
 -- src/lib.rt:42:8
 add-if1 : tie.Need-add-if1
