@@ -13,7 +13,7 @@ use Rattle.meaning.specs.declared.Built.{Built}
 use Rattle.meaning.specs.declared.Built.the-variants as Built
 use Rattle.walk.specs.Explore.{Explored, within, beyond}
 use Rattle.moore.specs.Grouping.{Machine}
-use Rattle.moore.proofs.Extensional.{Agree}
+use Rattle.smallest.proofs.Extensional.{Agree}
 use Rattle.table_bytes.specs.Written.{tableBytes}
 use Rattle.smallest.specs.Table.{Outcome, Table, TooMany, reducedBytes}
 use Rattle.smallest.proofs.Accepted.{Signals, Formed}

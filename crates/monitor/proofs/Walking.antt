@@ -16,7 +16,7 @@ use Rattle.walk.specs.Explore.{within, beyond}
 use Rattle.walk.proofs.Closed.{Closed}
 use Rattle.walk.proofs.Ends.{closed-if}
 use Rattle.moore.specs.Grouping.{entry, Machine}
-use Rattle.moore.proofs.Extensional.{Agree}
+use Rattle.smallest.proofs.Extensional.{Agree}
 use Rattle.smallest.specs.Table.{Table, TooMany, reducedBytes, classOf, classesOf}
 use Rattle.smallest.proofs.Accepted.{Signals}
 use Rattle.smallest.proofs.Tables.{over-signals}

@@ -13,7 +13,7 @@ use Rattle.meaning.specs.declared.Built.the-variants as Built
 use Rattle.meaning.specs.declared.Refusal.the-variants.{ShortOutput}
 use Rattle.moore.specs.Grouping.{entry, grouping}
 use Rattle.moore.specs.Quotient.{size, verdicts, quotientRows}
-use Rattle.moore.proofs.Extensional.{Agree, grouping-same, verdicts-same, rows-same}
+use Rattle.smallest.proofs.Extensional.{Agree, grouping-same, verdicts-same, rows-same}
 use Rattle.table_bytes.specs.Written.{tableBytes, writtenOf, tableAfter}
 use Rattle.table_bytes.proofs.RoundTrip.{length-back, same-bytes}
 use Rattle.smallest.specs.Table.{Outcome, Table, reducedBytes}

@@ -10,4 +10,3 @@ pub mod Ascending
 pub mod Ordered
 pub mod Order
 pub mod Reduction
-pub mod Extensional

@@ -7,3 +7,4 @@ pub mod Reducing
 pub mod Smallest
 pub mod Canonical
 pub mod Demands
+pub mod Extensional
