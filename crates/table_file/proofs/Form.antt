@@ -31,6 +31,10 @@ module _ (t : List ℕ) where
   pub signals-few : every (headerTests t) ≡ true → signalsIn t ≤ 4
   signals-few h = leb-true (signalsIn t) 4 (holds (headerTests t) h 4)
 
+  -- and at least one state
+  pub states-some : every (headerTests t) ≡ true → 1 ≤ statesIn t
+  states-some h = leb-true 1 (statesIn t) (holds (headerTests t) h 5)
+
   table-header : isTable t ≡ true → every (headerTests t) ≡ true
   unfolding isTable
   table-header h = go (every (headerTests t)) h
@@ -75,5 +79,5 @@ module _ (t : List ℕ) where
             let f = rw e at h in
             let p : P ≡ signalsIn t = cc in
             let q : S ≡ statesIn t = cc in
-            rw (p, q, e, le-leb (signalsIn t) 4 (signals-few (table-header e)))
+            rw (p, q, e, le-leb (signalsIn t) 4 (signals-few (table-header e)), le-leb 1 (statesIn t) (states-some (table-header e)))
         go false e = let f = rw e at h in let z : _≡_ {A = ℕ} 0 1 = cc in absurd (omega arith)

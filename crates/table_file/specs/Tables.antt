@@ -1,7 +1,7 @@
 -- What running over a slice and its counts finds.
 use mathlib.Core.Path.{_≡_}
 use mathlib.Core.List.{List}
-use mathlib.Core.Bool.{cond}
+use mathlib.Core.Bool.{cond, _&&_}
 use Prim.Native.Nat.{ℕ, _≤_}
 use lib.ListN.{length, drop}
 use lib.Dec.{leb}
@@ -14,9 +14,9 @@ use Rattle.meaning.specs.declared.Ran.{Ran}
 use Rattle.meaning.specs.declared.Ran.the-variants as Ran
 use Rattle.table_file.specs.declared.Stop.{Stop}
 
--- the run over the bytes t of a table of S states over P signals, where P can be a table's
+-- the run over the bytes t of a table of S states over P signals, where P and S can be a table's; no table has 0 states
 abbrev pub ranIn : List ℕ → ℕ → ℕ → ℕ → List ℕ → Ran
-ranIn t P S s es = cond (leb P 4) (ranOf (monitorIn t P S) P s es) (Ran.Refused WrongTable)
+ranIn t P S s es = cond (leb P 4 && leb 1 S) (ranOf (monitorIn t P S) P s es) (Ran.Refused WrongTable)
 
 -- A run stopped where it first showed a verdict other than undecided, or at its end: what is left of it ends as the whole does.
 pub record Stops (t : List ℕ) (P s : ℕ) (es : List ℕ) (r : Stop) : Type 0 where

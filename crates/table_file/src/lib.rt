@@ -258,11 +258,15 @@ fn ended(t: &[u8], signals: u8, state: u16, events: &[u8]) -> Ran
     }
 }
 
-// A run over the bytes of a table and its counts, for any bytes and counts: what an opened table calls.
+// A run over the bytes of a table and its counts, for any bytes and counts: what an opened table calls. Counts that no table has are refused
+// by 14, so that a refused opening, which has 0 states, runs nowhere.
 pub fn run_in(t: &[u8], signals: u8, states: u16, state: u16, events: &[u8]) -> Ran
     ensures { λ r. ⌜ r ≡ ranIn (now (t .entry)) signals states state (now (events .entry)) ⌝ }
 {
     if 4 < signals {
+        return Ran::Refused(Refusal::WrongTable);
+    }
+    if states < 1 {
         return Ran::Refused(Refusal::WrongTable);
     }
     if states <= state {
