@@ -2,12 +2,19 @@
 use mathlib.Core.Path.{_≡_, refl, ap}
 use mathlib.Core.List.{List, [], _∷_}
 use mathlib.Core.Bool.{Bool, true, false, cond}
-use Prim.Native.Nat.{ℕ, suc, _+_, _≤_, _<_}
+use Prim.Native.Nat.{ℕ, suc, _+_, _^_, _≤_, _<_}
 use native.Mathlib.Numerals.{add-one}
-use lib.ListN.{length, getD, drop, drop-of-length-le}
+use native.Mathlib.Omega.{arith}
+use native.Mathlib.Decide.{decLt}
+use borrow.Author.Tests.{lt-leb}
+use lib.Dec.{leb}
+use Rattle.sequences.specs.Tabulate.{tabulate}
+use Rattle.sequences.proofs.Loops.{Missed, Filled, filled-to, length-tab, getD-tab}
+use Rattle.table_file.specs.Tables.{NoneAbove, Copied}
+use lib.ListN.{length, getD, drop, drop-of-length-le, List·getD-append}
 use lib.Seq.{drop-cons}
 use Rattle.meaning.specs.Monitors.{Monitor, follow}
-use Rattle.meaning.specs.TableFiles.{monitorIn}
+use Rattle.meaning.specs.TableFiles.{successor, monitorIn}
 use Rattle.meaning.specs.Runs.{decides, decidedFrom, endOf}
 use Rattle.meaning.specs.declared.Verdict.{Verdict}
 use Rattle.meaning.specs.declared.Decided.{Decided}
@@ -56,3 +63,30 @@ module _ (t : List ℕ) (P S R : ℕ) where
 pub end-is : (m : Monitor) (s : ℕ) (es : List ℕ) (last : ℕ) (v : Verdict) (d : Decided) → last ≡ follow m s es → v ≡ m .verdict last → d ≡ decidedFrom m 0 s es
     → Ended last v d ≡ endOf m s es
 end-is m s es last v d p q r = rw (q, r, p)
+
+-- events that are not above a number
+pub above-none : {es : List ℕ} {m : ℕ} → NoneAbove 0 es m
+above-none = record { under = λ i l. absurd (omega (arith, l)) }
+
+pub above-more : {n : ℕ} {es : List ℕ} {m : ℕ} (k : ℕ) → NoneAbove n es m → m ≤ k → getD es n 0 ≤ k → NoneAbove (n + 1) es k
+above-more {n} {es} k h p q = record { under = λ i l. go i (decLt i n) l }
+  where
+    go : (i : ℕ) → Dec (i < n) → i < n + 1 → getD es i 0 ≤ k
+    go i (yes a) l = omega (arith, h .under i a, p)
+    go i (no a) l = let e : i ≡ n = omega (arith, a, l) in rw e q
+
+pub above-missed : {n : ℕ} {es : List ℕ} {m : ℕ} (P : ℕ) → NoneAbove n es m → m < 2 ^ P → Missed n (λ i. leb (2 ^ P) (getD es i 0))
+above-missed {n} {es} P h l = record { none = λ i b. lt-leb (2 ^ P) (getD es i 0) (omega (arith, h .under i b, l)) }
+
+-- rows copied from the bytes
+abbrev row : List ℕ → ℕ → ℕ → List ℕ
+row t P s = tabulate 16 (successor t P s)
+
+module _ {t : List ℕ} {P n : ℕ} {d rows : List (List ℕ)} where
+  pub copied : Filled n (λ s. row t P s) d rows → (m : ℕ) → n ≡ m → Copied t P m rows
+  copied h m e = record { there = there }
+    where
+      there : (s k : ℕ) → s < m → k < 16 → getD (getD rows s []) k 0 ≡ successor t P s k
+      there s k l b =
+          rw (filled-to m h e, List·getD-append (tabulate m (λ s. row t P s)) (drop m d) [] s (rw (length-tab m (λ s. row t P s)) l), getD-tab m (λ s. row t P s) s [] l)
+          (getD-tab 16 (successor t P s) k 0 b)

@@ -4,12 +4,12 @@ ghost use mathlib.Core.Path.{_≡_};
 ghost use Prim.Native.Nat.{_+_, _*_, _^_, _≤_, _<_};
 ghost use lib.ListN.{length, getD, drop};
 ghost use lib.Dec.{ltb};
-ghost use Rattle.sequences.specs.Tabulate.{every, allBelow};
+ghost use Rattle.sequences.specs.Tabulate.{every, allBelow, tabulate};
 ghost use Rattle.meaning.specs.Bytes.{u16At};
 ghost use Rattle.meaning.specs.Monitors.{follow};
 ghost use Rattle.meaning.specs.TableFiles.{rowAt, rowTests, headerTests, checkedOf, verdictOf, verdictByte, successor, monitorIn};
 ghost use Rattle.meaning.specs.Runs.{decides, firstBad, endOf, runOf};
-ghost use Rattle.table_file.specs.Tables.{Stops, ranIn};
+ghost use Rattle.table_file.specs.Tables.{NoneAbove, Copied, Stops, ranIn};
 use meaning::Checked;
 use meaning::Decided;
 use meaning::Ran;
@@ -173,12 +173,38 @@ pub fn successor_at(t: &[u8], signals: u8, state: u16, event: u8) -> u16
     u16_at(t, row_at(signals, state) + 5 + 2 * wide(event))
 }
 
-// The index of the first event that is none, or the length.
+fn larger(a: u8, b: u8) -> u8
+    ensures { λ r. ⌜ (a ≤ r) × (b ≤ r) ⌝ }
+{
+    if a < b {
+        return b;
+    }
+    a
+}
+
+// A number that no event is above.
+fn most(events: &[u8]) -> u8
+    ensures { λ r. ⌜ NoneAbove (length (now (events .entry))) (now (events .entry)) r ⌝ }
+{
+    let mut top: u8 = 0;
+    let mut i: usize = 0;
+    while i < events.len() {
+        top = larger(top, events[i]);
+        i += 1;
+    }
+    top
+}
+
+// The index of the first event that is none, or the length. Most lists have none, which the first test finds without stopping at
+// each.
 fn first_bad(signals: u8, events: &[u8]) -> usize
     requires { ⌜ signals ≤ 4 ⌝ }
     ensures { λ r. ⌜ (r ≡ firstBad signals (now (events .entry))) × (r ≤ length (now (events .entry))) ⌝ }
 {
     let n = width(signals);
+    if wide(most(events)) < n {
+        return events.len();
+    }
     let mut i: usize = 0;
     while i < events.len() {
         if n <= wide(events[i]) {
@@ -189,6 +215,57 @@ fn first_bad(signals: u8, events: &[u8]) -> usize
     i
 }
 
+// The successors of a state for each event that a table can have.
+fn row_of(t: &[u8], signals: u8, state: u16) -> [u16; 16]
+    requires { ⌜ signals ≤ 4 ⌝ }
+    ensures { λ r. ⌜ r ≡ tabulate 16 (successor (now (t .entry)) signals state) ⌝ }
+{
+    let at = row_at(signals, state) + 5;
+    let mut row: [u16; 16] = [0; 16];
+    let mut e: usize = 0;
+    while e < 16 {
+        row[e] = u16_at(t, at + 2 * e);
+        e += 1;
+    }
+    row
+}
+
+// The successors of the states below a count, copied out of the bytes: a long run finds them faster here.
+fn rows_of(t: &[u8], signals: u8, count: u16) -> [[u16; 16]; 256]
+    requires { ⌜ (signals ≤ 4) × (count ≤ 256) ⌝ }
+    ensures { λ r. ⌜ Copied (now (t .entry)) signals count r ⌝ }
+{
+    let mut rows: [[u16; 16]; 256] = [[0; 16]; 256];
+    let mut s: u16 = 0;
+    while s < count {
+        let row = row_of(t, signals, s);
+        rows[wide16(s)] = row;
+        s += 1;
+    }
+    rows
+}
+
+// The successor of a state for an event, from the copied rows where they have it.
+fn successor_in(
+    t: &[u8],
+    rows: &[[u16; 16]; 256],
+    count: u16,
+    signals: u8,
+    state: u16,
+    event: u8,
+) -> u16
+    requires { ⌜ (signals ≤ 4) × (count ≤ 256) ⌝ }
+    requires { ⌜ Copied (now t) signals count (now rows) ⌝ }
+    ensures { λ r. ⌜ r ≡ successor (now (t .entry)) signals state event ⌝ }
+{
+    if state < count {
+        if event < 16 {
+            return rows[wide16(state)][wide(event)];
+        }
+    }
+    successor_at(t, signals, state, event)
+}
+
 // Where a run stands when it first shows a verdict other than undecided, or at its end.
 struct Stop {
     at: usize,
@@ -196,8 +273,16 @@ struct Stop {
     decided: bool,
 }
 
-fn advance(t: &[u8], signals: u8, state: u16, events: &[u8]) -> Stop
-    requires { ⌜ signals ≤ 4 ⌝ }
+fn advance(
+    t: &[u8],
+    rows: &[[u16; 16]; 256],
+    count: u16,
+    signals: u8,
+    state: u16,
+    events: &[u8],
+) -> Stop
+    requires { ⌜ (signals ≤ 4) × (count ≤ 256) ⌝ }
+    requires { ⌜ Copied (now t) signals count (now rows) ⌝ }
     ensures { λ r. ⌜ Stops (now (t .entry)) signals state (now (events .entry)) r ⌝ }
 {
     let mut s = state;
@@ -210,7 +295,7 @@ fn advance(t: &[u8], signals: u8, state: u16, events: &[u8]) -> Stop
                 decided: true,
             };
         }
-        s = successor_at(t, signals, s, events[i]);
+        s = successor_in(t, rows, count, signals, s, events[i]);
         i += 1;
     }
     let decided = decides_at(t, signals, s);
@@ -222,26 +307,47 @@ fn advance(t: &[u8], signals: u8, state: u16, events: &[u8]) -> Stop
 }
 
 // The state after the events from an index on.
-fn follow_from(t: &[u8], signals: u8, state: u16, events: &[u8], from: usize) -> u16
-    requires { ⌜ (signals ≤ 4) × (from ≤ length (now events)) ⌝ }
+fn follow_from(
+    t: &[u8],
+    rows: &[[u16; 16]; 256],
+    count: u16,
+    signals: u8,
+    state: u16,
+    events: &[u8],
+    from: usize,
+) -> u16
+    requires { ⌜ (signals ≤ 4) × (count ≤ 256) × (from ≤ length (now events)) ⌝ }
+    requires { ⌜ Copied (now t) signals count (now rows) ⌝ }
     ensures { λ r. ⌜ r ≡ follow (monitorIn (now (t .entry)) signals 0) state (drop from (now (events .entry))) ⌝ }
 {
     let mut s = state;
     let mut i: usize = from;
     while i < events.len() {
-        s = successor_at(t, signals, s, events[i]);
+        s = successor_in(t, rows, count, signals, s, events[i]);
         i += 1;
     }
     s
+}
+
+// How many states' rows are worth copying for so many events: all or none.
+fn worth(events: usize) -> u16
+    ensures { λ r. ⌜ r ≤ 256 ⌝ }
+{
+    if 4096 <= events {
+        return 256;
+    }
+    0
 }
 
 fn ended(t: &[u8], signals: u8, state: u16, events: &[u8]) -> Ran
     requires { ⌜ signals ≤ 4 ⌝ }
     ensures { λ r. ⌜ r ≡ endOf (monitorIn (now (t .entry)) signals 0) state (now (events .entry)) ⌝ }
 {
-    let stop = advance(t, signals, state, events);
+    let count = worth(events.len());
+    let rows = rows_of(t, signals, count);
+    let stop = advance(t, &rows, count, signals, state, events);
     let at = stop.at;
-    let last = follow_from(t, signals, stop.state, events, at);
+    let last = follow_from(t, &rows, count, signals, stop.state, events, at);
     let verdict = verdict_at(t, signals, last);
     let found = stop.decided;
     if found {

@@ -1,7 +1,7 @@
 -- `table_file::first_bad` meets its contract.
 use native.Mathlib.Omega.{arith}
 use borrow.Author.Needs.{needs}
-use mathlib.Core.Path.{_≡_, sym, _∙_}
+use mathlib.Core.Path.{_≡_, refl, sym, _∙_}
 use borrow.Author.Tests.{lt-leb, le-leb}
 use Prim.Native.Nat.{ℕ, _-_, _^_, _≤_}
 use mathlib.Core.List.{List}
@@ -10,14 +10,12 @@ use denote.Ref.{now}
 use Rattle.sequences.proofs.Loops.{Missed, missed-none, missed-more, missed-found, missed-end}
 use lib.Dec.{leb}
 use lib.ListN.{length, getD}
+use Rattle.table_file.proofs.Laws.{above-missed}
 use Rattle.table_file.proofs.first_bad.Statement.{statement}
 use Rattle.table_file.proofs.first_bad.Tie as tie
 
-abbrev bad : ℕ → List ℕ → ℕ → Bool
-bad P es i = leb (2 ^ P) (getD es i 0)
-
 abbrev Inv-loop : tie.InvT-loop
-Inv-loop signals events n i₀ i = (i ≤ length events) × Missed i (bad signals events)
+Inv-loop signals events n i₀ i = (i ≤ length events) × Missed i (λ k. leb (2 ^ signals) (getD events k 0))
 
 abbrev μ-loop : tie.MeasureT-loop
 μ-loop signals events n i₀ i = length events - i
@@ -25,17 +23,32 @@ abbrev μ-loop : tie.MeasureT-loop
 width-requires : tie.Need-width-requires Inv-loop μ-loop
 width-requires c κs = search needs
 
+most-requires : tie.Need-most-requires Inv-loop μ-loop
+most-requires c κs = search needs
+
+wide-requires : tie.Need-wide-requires Inv-loop μ-loop
+wide-requires c κs = search needs
+
+returns : tie.Need-returns Inv-loop μ-loop
+returns c =
+    let es = now (c .before .before .before .before .before .args .events) in
+    let n = length es in
+    (sym (missed-end (above-missed (c .before .before .before .before .before .args .signals) (c .before .before .most .ensures) (omega (arith, c .if1 .taken, c .before .before .before .width .ensures .0, c .before .wide .ensures .0))) n refl), omega arith)
+
 loop-holds : tie.Need-loop-holds Inv-loop μ-loop
 loop-holds c = (omega arith, missed-none)
 
 shared-slice-read-wide : tie.Need-shared-slice-read-wide Inv-loop μ-loop
 shared-slice-read-wide c = search needs
 
-wide-requires : tie.Need-wide-requires Inv-loop μ-loop
-wide-requires c κs = search needs
+wide-requires-2 : tie.Need-wide-requires-2 Inv-loop μ-loop
+wide-requires-2 c κs = search needs
 
-returns : tie.Need-returns Inv-loop μ-loop
-returns c = (sym (missed-found (c .before .before .before .before .loop .inv .1) (length (now (c .before .before .before .before .before .before .before .args .events))) (c .before .before .before .loop-test .taken) (le-leb (2 ^ c .before .before .before .before .before .before .before .args .signals) (getD (now (c .before .before .before .before .before .before .before .args .events)) (c .before .before .before .before .loop .i) 0) (omega (arith, c .if1 .taken, c .before .before .before .before .before .width .ensures .0, c .before .wide .ensures .0)))), omega arith)
+returns-2 : tie.Need-returns-2 Inv-loop μ-loop
+returns-2 c =
+    let es = now (c .before .before .before .before .before .before .before .before .before .before .args .events) in
+    let n = length es in
+    (sym (missed-found (c .before .before .before .before .loop .inv .1) n (c .before .before .before .loop-test .taken) (le-leb (2 ^ c .before .before .before .before .before .before .before .before .before .before .args .signals) (getD es (c .before .before .before .before .loop .i) 0) (omega (arith, c .if2 .taken, c .before .before .before .before .before .before .before .before .width .ensures .0, c .before .wide2 .ensures .0)))), omega arith)
 
 add-i : tie.Need-add-i Inv-loop μ-loop
 add-i c = search needs
@@ -44,10 +57,14 @@ loop-less : tie.Need-loop-less Inv-loop μ-loop
 loop-less c = search needs
 
 loop-again : tie.Need-loop-again Inv-loop μ-loop
-loop-again c = (omega arith, missed-more (c .before .before .before .before .loop .inv .1) (lt-leb (2 ^ c .before .before .before .before .before .before .before .args .signals) (getD (now (c .before .before .before .before .before .before .before .args .events)) (c .before .before .before .before .loop .i) 0) (omega (arith, c .if1 .left, c .before .before .before .before .before .width .ensures .0, c .before .wide .ensures .0))))
+loop-again c = (omega arith, missed-more (c .before .before .before .before .loop .inv .1) (lt-leb (2 ^ c .before .before .before .before .before .before .before .before .before .before .args .signals) (getD (now (c .before .before .before .before .before .before .before .before .before .before .args .events)) (c .before .before .before .before .loop .i) 0) (omega (arith, c .if2 .left, c .before .before .before .before .before .before .before .before .width .ensures .0, c .before .wide2 .ensures .0))))
 
-returns-2 : tie.Need-returns-2 Inv-loop μ-loop
-returns-2 c = let n : c .before .loop .i ≡ length (now (c .before .before .before .before .args .events)) = omega arith in (n ∙ sym (missed-end (c .before .loop .inv .1) (length (now (c .before .before .before .before .args .events))) n), omega arith)
+returns-3 : tie.Need-returns-3 Inv-loop μ-loop
+returns-3 c =
+    let es = now (c .before .before .before .before .before .before .before .args .events) in
+    let n = length es in
+    let e : c .before .loop .i ≡ n = omega arith in
+    (e ∙ sym (missed-end (c .before .loop .inv .1) n e), omega arith)
 
 pub first-bad-spec : {M : Type 1} → statement M
 first-bad-spec =
@@ -56,11 +73,14 @@ first-bad-spec =
     Inv-loop
     μ-loop
     width-requires
-    loop-holds
-    shared-slice-read-wide
+    most-requires
     wide-requires
     returns
+    loop-holds
+    shared-slice-read-wide
+    wide-requires-2
+    returns-2
     add-i
     loop-less
     loop-again
-    returns-2)
+    returns-3)
