@@ -1,22 +1,38 @@
 -- What running over a slice and its counts finds.
 use mathlib.Core.Path.{_≡_}
 use mathlib.Core.List.{List, []}
-use mathlib.Core.Bool.{cond, _&&_}
+use mathlib.Core.Bool.{Bool, cond, _&&_}
 use Prim.Native.Nat.{ℕ, _≤_, _<_}
 use lib.ListN.{length, getD, drop}
-use lib.Dec.{leb}
+use lib.Dec.{leb, ltb}
 use Rattle.meaning.specs.Monitors.{follow}
-use Rattle.meaning.specs.TableFiles.{successor, monitorIn}
-use Rattle.meaning.specs.Runs.{decidedFrom, ranOf}
-use Rattle.meaning.specs.declared.Refusal.the-variants.{WrongTable}
+use Rattle.meaning.specs.TableFiles.{verdictOf, verdictByte, successor, monitorIn}
+use Rattle.meaning.specs.Runs.{decides, decidedFrom, ranOf}
+use Rattle.meaning.specs.declared.Refusal.the-variants.{WrongState, WrongTable}
+use Rattle.meaning.specs.declared.Decided.{Decided}
 use Rattle.meaning.specs.declared.Decided.the-variants.{After, Never}
 use Rattle.meaning.specs.declared.Ran.{Ran}
 use Rattle.meaning.specs.declared.Ran.the-variants as Ran
 use Rattle.table_file.specs.declared.Stop.{Stop}
+use Rattle.table_file.specs.declared.Admission.{Admission}
+use Rattle.table_file.specs.declared.Admission.the-variants as Adm
+use Rattle.table_file.specs.declared.Admission.the-variants.{Granted}
 
--- the run over the bytes t of a table of S states over P signals, where P and S can be a table's; no table has 0 states
+-- whether a run over P signals and S states may start at s; no table has 0 states
+abbrev pub admission : ℕ → ℕ → ℕ → Admission
+admission P S s = cond (leb P 4 && leb 1 S) (cond (ltb s S) Granted (Adm.Refused WrongState)) (Adm.Refused WrongTable)
+
+-- the run over the bytes t of a table of S states over P signals, where P and S can be a table's
 abbrev pub ranIn : List ℕ → ℕ → ℕ → ℕ → List ℕ → Ran
 ranIn t P S s es = cond (leb P 4 && leb 1 S) (ranOf (monitorIn t P S) P s es) (Ran.Refused WrongTable)
+
+-- whether a state shows a verdict other than undecided
+abbrev pub shows : List ℕ → ℕ → ℕ → Bool
+shows t P s = decides (verdictOf (verdictByte t P s))
+
+-- the count on the way from s to r by one event
+abbrev pub shownBy : List ℕ → ℕ → ℕ → ℕ → Decided
+shownBy t P s r = cond (shows t P s) (After 0) (cond (shows t P r) (After 1) Never)
 
 -- None of the first n events is above a number.
 pub record NoneAbove (n : ℕ) (es : List ℕ) (top : ℕ) : Type 0 where

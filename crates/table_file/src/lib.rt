@@ -1,15 +1,16 @@
 // Table files: checked, run, and written. A public function here takes any bytes; those over a slice and its counts are what an opened
 // table calls.
 ghost use mathlib.Core.Path.{_≡_};
+ghost use mathlib.Core.List.{[], _∷_};
 ghost use Prim.Native.Nat.{_+_, _*_, _^_, _≤_, _<_};
-ghost use lib.ListN.{length, getD, drop};
+ghost use lib.ListN.{length, drop};
 ghost use lib.Dec.{ltb};
 ghost use Rattle.sequences.specs.Tabulate.{every, allBelow, tabulate};
 ghost use Rattle.meaning.specs.Bytes.{u16At};
 ghost use Rattle.meaning.specs.Monitors.{follow};
 ghost use Rattle.meaning.specs.TableFiles.{rowAt, rowTests, headerTests, checkedOf, verdictOf, verdictByte, successor, monitorIn};
-ghost use Rattle.meaning.specs.Runs.{decides, firstBad, endOf, runOf};
-ghost use Rattle.table_file.specs.Tables.{NoneAbove, Copied, Stops, ranIn};
+ghost use Rattle.meaning.specs.Runs.{firstBad, endOf, runOf};
+ghost use Rattle.table_file.specs.Tables.{NoneAbove, Copied, Stops, admission, shows, shownBy, ranIn};
 use meaning::Checked;
 use meaning::Decided;
 use meaning::Ran;
@@ -154,7 +155,7 @@ pub fn verdict_at(t: &[u8], signals: u8, state: u16) -> Verdict
 // Whether a state shows a verdict other than undecided.
 fn decides_at(t: &[u8], signals: u8, state: u16) -> bool
     requires { ⌜ signals ≤ 4 ⌝ }
-    ensures { λ r. ⌜ r ≡ decides (verdictOf (verdictByte (now (t .entry)) signals state)) ⌝ }
+    ensures { λ r. ⌜ r ≡ shows (now (t .entry)) signals state ⌝ }
 {
     let v = verdict_at(t, signals, state);
     match v {
@@ -364,25 +365,76 @@ fn ended(t: &[u8], signals: u8, state: u16, events: &[u8]) -> Ran
     }
 }
 
-// A run over the bytes of a table and its counts, for any bytes and counts: what an opened table calls. Counts that no table has are refused
-// by 14, so that a refused opening, which has 0 states, runs nowhere.
+// Whether a run may start.
+enum Admission {
+    Granted,
+    Refused(Refusal),
+}
+
+// Counts that no table has are refused by 14, so that a refused opening, which has 0 states, runs nowhere; then a state by 13.
+fn admit(signals: u8, states: u16, state: u16) -> Admission
+    ensures { λ r. ⌜ r ≡ admission signals states state ⌝ }
+{
+    if 4 < signals {
+        return Admission::Refused(Refusal::WrongTable);
+    }
+    if states < 1 {
+        return Admission::Refused(Refusal::WrongTable);
+    }
+    if states <= state {
+        return Admission::Refused(Refusal::WrongState);
+    }
+    Admission::Granted
+}
+
+// A run over the bytes of a table and its counts, for any bytes and counts: what an opened table calls.
 pub fn run_in(t: &[u8], signals: u8, states: u16, state: u16, events: &[u8]) -> Ran
     ensures { λ r. ⌜ r ≡ ranIn (now (t .entry)) signals states state (now (events .entry)) ⌝ }
 {
-    if 4 < signals {
-        return Ran::Refused(Refusal::WrongTable);
-    }
-    if states < 1 {
-        return Ran::Refused(Refusal::WrongTable);
-    }
-    if states <= state {
-        return Ran::Refused(Refusal::WrongState);
+    let admitted = admit(signals, states, state);
+    if let Admission::Refused(why) = admitted {
+        return Ran::Refused(why);
     }
     let bad = first_bad(signals, events);
     if bad < events.len() {
         return Ran::Refused(Refusal::WrongEvent(bad));
     }
     ended(t, signals, state, events)
+}
+
+// When the first verdict other than undecided was shown on a way of one event.
+fn first_shown(t: &[u8], signals: u8, state: u16, to: u16) -> Decided
+    requires { ⌜ signals ≤ 4 ⌝ }
+    ensures { λ r. ⌜ r ≡ shownBy (now (t .entry)) signals state to ⌝ }
+{
+    if decides_at(t, signals, state) {
+        return Decided::After(0);
+    }
+    if decides_at(t, signals, to) {
+        return Decided::After(1);
+    }
+    Decided::Never
+}
+
+// A run over one event, with no list.
+pub fn step_in(t: &[u8], signals: u8, states: u16, state: u16, event: u8) -> Ran
+    ensures { λ r. ⌜ r ≡ ranIn (now (t .entry)) signals states state (event ∷ []) ⌝ }
+{
+    let admitted = admit(signals, states, state);
+    if let Admission::Refused(why) = admitted {
+        return Ran::Refused(why);
+    }
+    if width(signals) <= wide(event) {
+        return Ran::Refused(Refusal::WrongEvent(0));
+    }
+    let to = successor_at(t, signals, state, event);
+    let verdict = verdict_at(t, signals, to);
+    let decided = first_shown(t, signals, state, to);
+    Ran::Ended {
+        state: to,
+        verdict,
+        decided,
+    }
 }
 
 // A run over any bytes: 14 where they are no table, then 13, then 12 at the first such event, and otherwise the end state, its verdict and

@@ -3,9 +3,7 @@ use native.Mathlib.Omega.{arith}
 use borrow.Author.Needs.{needs}
 use mathlib.Core.Path.{_≡_, refl, sym, _∙_}
 use borrow.Author.Tests.{lt-leb, le-leb}
-use Prim.Native.Nat.{ℕ, _-_, _^_, _≤_}
-use mathlib.Core.List.{List}
-use mathlib.Core.Bool.{Bool}
+use Prim.Native.Nat.{_-_, _^_, _≤_}
 use denote.Ref.{now}
 use Rattle.sequences.proofs.Loops.{Missed, missed-none, missed-more, missed-found, missed-end}
 use lib.Dec.{leb}

@@ -1,7 +1,7 @@
 -- `table_file::row_of` meets its contract.
 use native.Mathlib.Omega.{arith}
 use borrow.Author.Needs.{needs}
-use mathlib.Core.Path.{_≡_, _∙_, ap}
+use mathlib.Core.Path.{_∙_, ap}
 use denote.Ref.{now}
 use Prim.Native.Nat.{ℕ, _-_, _+_, _*_, _≤_}
 use Rattle.meaning.specs.Bytes.{u16At}

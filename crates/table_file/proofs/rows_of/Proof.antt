@@ -1,8 +1,7 @@
 -- `table_file::rows_of` meets its contract.
 use native.Mathlib.Omega.{arith}
 use borrow.Author.Needs.{needs}
-use mathlib.Core.Path.{_≡_}
-use Prim.Native.Nat.{ℕ, _-_, _+_, _≤_}
+use Prim.Native.Nat.{_-_, _≤_}
 use Rattle.meaning.specs.TableFiles.{successor}
 use Rattle.sequences.specs.Tabulate.{tabulate}
 use Rattle.sequences.proofs.Loops.{Filled, filled-none, filled-more}

@@ -1,7 +1,5 @@
 -- `table_file::successor_in` meets its contract.
-use native.Mathlib.Omega.{arith}
 use borrow.Author.Needs.{needs}
-use Prim.Native.Nat.{ℕ}
 use Rattle.table_file.proofs.successor_in.Statement.{statement}
 use Rattle.table_file.proofs.successor_in.Tie as tie
 
