@@ -87,7 +87,7 @@ fn say_table(t: &[u8], events: &[u8]) {
                 say_rows(t, signals, states);
             }
             say(b" run ");
-            say_run(table_file::run(t, 0, events));
+            say_run(opened::open_and_run(t, 0, events));
         }
     }
 }

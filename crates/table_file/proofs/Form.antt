@@ -31,11 +31,14 @@ module _ (t : List ℕ) where
   pub signals-few : every (headerTests t) ≡ true → signalsIn t ≤ 4
   signals-few h = leb-true (signalsIn t) 4 (holds (headerTests t) h 4)
 
-  -- and at least one state
+  -- and from 1 to 256 states
   pub states-some : every (headerTests t) ≡ true → 1 ≤ statesIn t
   states-some h = leb-true 1 (statesIn t) (holds (headerTests t) h 5)
 
-  table-header : isTable t ≡ true → every (headerTests t) ≡ true
+  pub states-few : every (headerTests t) ≡ true → statesIn t ≤ 256
+  states-few h = leb-true (statesIn t) 256 (holds (headerTests t) h 6)
+
+  pub table-header : isTable t ≡ true → every (headerTests t) ≡ true
   unfolding isTable
   table-header h = go (every (headerTests t)) h
     where

@@ -1,5 +1,4 @@
-// Table files: checked, run, and written. A public function here takes any bytes; those over a slice and its counts are what an opened
-// table calls.
+// Table files: their form, and runs over a slice and its counts, which are what an opened table calls.
 ghost use mathlib.Core.Path.{_≡_};
 ghost use mathlib.Core.List.{[], _∷_};
 ghost use Prim.Native.Nat.{_+_, _*_, _^_, _≤_, _<_};
@@ -9,7 +8,7 @@ ghost use Rattle.sequences.specs.Tabulate.{every, allBelow, tabulate};
 ghost use Rattle.meaning.specs.Bytes.{u16At};
 ghost use Rattle.meaning.specs.Monitors.{follow};
 ghost use Rattle.meaning.specs.TableFiles.{rowAt, rowTests, headerTests, checkedOf, verdictOf, verdictByte, successor, monitorIn};
-ghost use Rattle.meaning.specs.Runs.{firstBad, endOf, runOf};
+ghost use Rattle.meaning.specs.Runs.{firstBad, endOf};
 ghost use Rattle.table_file.specs.Tables.{NoneAbove, Copied, Stops, admission, shows, shownBy, ranIn};
 use meaning::Checked;
 use meaning::Decided;
@@ -435,16 +434,4 @@ pub fn step_in(t: &[u8], signals: u8, states: u16, state: u16, event: u8) -> Ran
         verdict,
         decided,
     }
-}
-
-// A run over any bytes: 14 where they are no table, then 13, then 12 at the first such event, and otherwise the end state, its verdict and
-// the count of events read when a verdict other than undecided was first shown.
-pub fn run(t: &[u8], state: u16, events: &[u8]) -> Ran
-    ensures { λ r. ⌜ r ≡ runOf (now (t .entry)) state (now (events .entry)) ⌝ }
-{
-    let checked = check(t);
-    let Checked::Table { signals, states } = checked else {
-        return Ran::Refused(Refusal::WrongTable);
-    };
-    run_in(t, signals, states, state, events)
 }

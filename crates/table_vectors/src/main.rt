@@ -69,7 +69,7 @@ fn say_case(t: &[u8], state: u16, events: &[u8]) {
             say(b" ");
             say_number(wire::wide16(states));
             say(b": ");
-            say_run(table_file::run(t, state, events));
+            say_run(opened::open_and_run(t, state, events));
             if signals <= 4 {
                 if states <= 256 {
                     if rewritten(t, signals, states) {

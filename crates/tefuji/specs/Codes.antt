@@ -1,10 +1,68 @@
--- Answers as one number.
-use Prim.Native.Nat.{ℕ, _+_}
+-- Answers as one number. Below 2^56 it is what was asked for; a refusal has its number, 1 to 14, in the top byte, and its place below that.
+use mathlib.Core.Bool.{cond}
+use mathlib.Core.List.{List, [], _∷_}
+use Prim.Native.Nat.{ℕ, _+_, _-_, _*_, _^_, _/_, _%_}
+use lib.Dec.{ltb}
 use Rattle.meaning.specs.Refusals.{codeOf}
+use Rattle.meaning.specs.declared.Refusal.{Refusal}
+use Rattle.meaning.specs.declared.Verdict.{Verdict}
+use Rattle.meaning.specs.declared.Verdict.the-variants.{Undecided, Satisfied, Violated, Moot}
+use Rattle.meaning.specs.declared.Built.{Built}
+use Rattle.meaning.specs.declared.Built.the-variants as Built
+use Rattle.meaning.specs.declared.Checked.{Checked}
+use Rattle.meaning.specs.declared.Checked.the-variants as Checked
+use Rattle.meaning.specs.declared.Decided.{Decided}
+use Rattle.meaning.specs.declared.Decided.the-variants.{After, Never}
 use Rattle.meaning.specs.declared.Ran.{Ran}
-use Rattle.meaning.specs.declared.Ran.the-variants.{Ended, Refused}
+use Rattle.meaning.specs.declared.Ran.the-variants as Ran
+use Rattle.table_file.specs.Tables.{ranIn}
+use Rattle.table_text.specs.declared.Text.{Text}
+use Rattle.table_text.specs.declared.Text.the-variants as Text
 
--- the end state, or 65,536 and the number of the refusal
-abbrev pub stateCode : Ran → ℕ
-stateCode (Ended s v d) = s
-stateCode (Refused r) = 65536 + codeOf r .0
+-- "Every refusal returns a number and a place." A place of 2^56 or more, which no memory holds, is shown as 2^56 - 1.
+abbrev pub placeCode : ℕ → ℕ
+placeCode p = cond (ltb p (2 ^ 56)) p (2 ^ 56 - 1)
+
+abbrev pub refusalCode : Refusal → ℕ
+refusalCode r = codeOf r .0 * 2 ^ 56 + placeCode (codeOf r .1)
+
+-- the length of the table in bytes
+abbrev pub builtCode : Built → ℕ
+builtCode (Built.Table n) = n
+builtCode (Built.Refused r) = refusalCode r
+
+-- the counts of a table: its signals times 65,536, and its states
+abbrev pub countsCode : Checked → ℕ
+countsCode (Checked.Table P S) = P * 65536 + S
+countsCode (Checked.Refused r) = refusalCode r
+
+-- "Verdict bytes: 0 undecided, 1 satisfied, 2 violated, 3 moot."
+abbrev pub verdictNumber : Verdict → ℕ
+verdictNumber Undecided = 0
+verdictNumber Satisfied = 1
+verdictNumber Violated = 2
+verdictNumber Moot = 3
+
+-- the verdict times 65,536, and the end state
+abbrev pub ranCode : Ran → ℕ
+ranCode (Ran.Ended s v d) = verdictNumber v * 65536 + s
+ranCode (Ran.Refused r) = refusalCode r
+
+-- the count of events, or 2^64 - 1 for "none"
+abbrev pub countCode : Decided → ℕ
+countCode (After n) = n
+countCode Never = 2 ^ 64 - 1
+
+-- what a run leaves where the count goes: the count, or on a refusal what was there
+abbrev pub countAfter : Ran → ℕ → ℕ
+countAfter (Ran.Ended s v d) was = countCode d
+countAfter (Ran.Refused r) was = was
+
+-- one event from a state of the table whose counts are c: what a run over that event alone answers
+abbrev pub stepOf : List ℕ → ℕ → ℕ → ℕ → Ran
+stepOf t c s e = ranIn t (c / 65536) (c % 65536) s (e ∷ [])
+
+-- the length of the text in bytes
+abbrev pub textCode : Text → ℕ
+textCode (Text.Written n) = n
+textCode (Text.Refused r) = refusalCode r

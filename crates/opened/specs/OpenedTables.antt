@@ -1,0 +1,38 @@
+-- "Opening and running", of a table that is opened once.
+use mathlib.Core.List.{List, [], _∷_}
+use mathlib.Core.Bool.{cond}
+use Prim.Native.Nat.{ℕ}
+use lib.Dec.{leb}
+use denote.Ref.{RefT, now}
+use Rattle.meaning.specs.TableFiles.{checkedOf}
+use Rattle.meaning.specs.declared.Refusal.the-variants.{WrongTable}
+use Rattle.meaning.specs.declared.Checked.{Checked}
+use Rattle.meaning.specs.declared.Checked.the-variants as Checked
+use Rattle.meaning.specs.declared.Ran.{Ran}
+use Rattle.table_file.specs.Tables.{ranIn}
+use Rattle.opened.specs.declared.Counts.{Counts}
+use Rattle.opened.specs.declared.Opened.{Opened}
+
+-- "Opening checks the bytes and refuses by 14": what checking found as two counts, 0 and 0 where it refused
+abbrev pub countsOf : Checked → Counts
+countsOf (Checked.Table P S) = record { signals = P; states = S }
+countsOf (Checked.Refused x) = record { signals = 0; states = 0 }
+
+-- "A checked table is opened once and stepped many times from the caller's own bytes."
+abbrev pub openedOf : RefT (List ℕ) → Opened
+openedOf x = record { bytes = x; signals = countsOf (checkedOf (now x)) .signals; states = countsOf (checkedOf (now x)) .states }
+
+-- what checking found, from its counts: "S (two bytes), the number of states, 1 to 256"
+abbrev pub outcomeIn : ℕ → ℕ → Checked
+outcomeIn P S = cond (leb 1 S) (Checked.Table P S) (Checked.Refused WrongTable)
+
+abbrev pub outcomeBy : Opened → Checked
+outcomeBy t = outcomeIn (t .signals) (t .states)
+
+-- "A run takes an opened table, a state and a list of events."
+abbrev pub ranBy : Opened → ℕ → List ℕ → Ran
+ranBy t s es = ranIn (now (t .bytes)) (t .signals) (t .states) s es
+
+-- a step is a run over one event
+abbrev pub steppedBy : Opened → ℕ → ℕ → Ran
+steppedBy t s e = ranBy t s (e ∷ [])

@@ -1,0 +1,98 @@
+// A table is opened once and stepped many times from the caller's own bytes; every public function takes any input.
+ghost use mathlib.Core.Path.{_≡_};
+ghost use mathlib.Core.List.{_∷_, []};
+ghost use Rattle.meaning.specs.TableFiles.{checkedOf};
+ghost use Rattle.meaning.specs.Runs.{runOf};
+ghost use Rattle.opened.specs.OpenedTables.{countsOf, openedOf, outcomeIn, outcomeBy, steppedBy, ranBy};
+use meaning::Checked;
+use meaning::Ran;
+use meaning::Refusal;
+
+// ---- over a slice and its counts
+
+// The counts of a table, 0 and 0 where the bytes are none.
+struct Counts {
+    signals: u8,
+    states: u16,
+}
+
+fn counted(bytes: &[u8]) -> Counts
+    ensures { λ r. ⌜ r ≡ countsOf (checkedOf (now (bytes .entry))) ⌝ }
+{
+    let checked = table_file::check(bytes);
+    let Checked::Table { signals, states } = checked else {
+        return Counts {
+            signals: 0,
+            states: 0,
+        };
+    };
+    Counts { signals, states }
+}
+
+// What counts say of the bytes that they were found in: no table has 0 states.
+fn outcome_in(signals: u8, states: u16) -> Checked
+    ensures { λ r. ⌜ r ≡ outcomeIn signals states ⌝ }
+{
+    if states < 1 {
+        return Checked::Refused(Refusal::WrongTable);
+    }
+    Checked::Table { signals, states }
+}
+
+// ---- over an opened table
+
+// An opened table: the caller's bytes and the counts that opening found, in private fields, so that only `open` makes one.
+pub struct Opened<'a> {
+    bytes: &'a [u8],
+    signals: u8,
+    states: u16,
+}
+
+// Checks the bytes, once; a refused opening has 0 states and runs nowhere.
+pub fn open<'a>(bytes: &'a [u8]) -> Opened<'a>
+    ensures { λ r. ⌜ r ≡ openedOf (bytes .entry) ⌝ }
+{
+    let found = counted(bytes);
+    Opened {
+        bytes,
+        signals: found.signals,
+        states: found.states,
+    }
+}
+
+// What opening found: the counts, or refusal 14.
+pub fn outcome<'a>(t: Opened<'a>) -> Checked
+    ensures { λ r. ⌜ r ≡ outcomeBy (t .entry) ⌝ }
+{
+    outcome_in(t.signals, t.states)
+}
+
+// One event: 14 where opening refused, then 13, then 12, and otherwise the successor with its verdict.
+pub fn step<'a>(t: Opened<'a>, state: u16, event: u8) -> Ran
+    ensures { λ r. ⌜ r ≡ steppedBy (t .entry) state event ⌝ }
+{
+    table_file::step_in(t.bytes, t.signals, t.states, state, event)
+}
+
+// A run over a list of events: 14 where opening refused, then 13, then 12 at the first such event, and otherwise where the run ends.
+pub fn run<'a, 'e>(t: Opened<'a>, state: u16, events: &'e [u8]) -> Ran
+    ensures { λ r. ⌜ r ≡ ranBy (t .entry) state (now (events .entry)) ⌝ }
+{
+    table_file::run_in(t.bytes, t.signals, t.states, state, events)
+}
+
+// ---- with plain parameters
+
+// Opens and runs, for callers that hold no opened table.
+pub fn open_and_run(bytes: &[u8], state: u16, events: &[u8]) -> Ran
+    ensures { λ r. ⌜ r ≡ runOf (now (bytes .entry)) state (now (events .entry)) ⌝ }
+{
+    run(open(bytes), state, events)
+}
+
+// Opens and steps, for callers that hold no opened table.
+pub fn open_and_step(bytes: &[u8], state: u16, event: u8) -> Ran
+    ensures { λ r. ⌜ r ≡ runOf (now (bytes .entry)) state (event ∷ []) ⌝ }
+{
+    step(open(bytes), state, event)
+}
