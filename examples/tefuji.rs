@@ -1,0 +1,135 @@
+//! A safe wrapper over libtefuji.a: copy this file into a program and link the library.
+//! The declarations below are those of include/tefuji.h. Nothing checks them against the library; the harness compares its answers with a
+//! second implementation.
+#![allow(dead_code)]
+
+mod library {
+    extern "C" {
+        pub fn tefuji_build(rule: *const u8, rule_length: usize, table: *mut u8, table_length: usize) -> u64;
+        pub fn tefuji_check(table: *const u8, table_length: usize) -> u64;
+        pub fn tefuji_run(
+            table: *const u8,
+            table_length: usize,
+            state: u16,
+            events: *const u8,
+            events_length: usize,
+            count: *mut u64,
+        ) -> u64;
+        pub fn tefuji_step(table: *const u8, table_length: usize, counts: u64, state: u16, event: u8) -> u64;
+        pub fn tefuji_text(table: *const u8, table_length: usize, text: *mut u8, text_length: usize) -> u64;
+    }
+}
+
+/// The largest table in bytes.
+pub const TABLE_MAX: usize = 9479;
+
+/// The bytes that `text` needs.
+pub const TEXT_ROOM: usize = 32768;
+
+/// A refusal: its number, 1 to 14, and its place. What was lent keeps every byte.
+#[derive(Clone, Copy, Debug, PartialEq, Eq)]
+pub struct Refusal {
+    pub number: u8,
+    pub place: u64,
+}
+
+#[derive(Clone, Copy, Debug, PartialEq, Eq)]
+pub enum Verdict {
+    Undecided,
+    Satisfied,
+    Violated,
+    Moot,
+}
+
+/// Where an event or a list of events leads.
+#[derive(Clone, Copy, Debug, PartialEq, Eq)]
+pub struct Reached {
+    pub state: u16,
+    pub verdict: Verdict,
+}
+
+/// Where a run ends, and how many events had been read when a verdict other than undecided was first shown.
+#[derive(Clone, Copy, Debug, PartialEq, Eq)]
+pub struct Ended {
+    pub reached: Reached,
+    pub count: Option<u64>,
+}
+
+fn answered(answer: u64) -> Result<u64, Refusal> {
+    match (answer >> 56) as u8 {
+        0 => Ok(answer),
+        number => Err(Refusal { number, place: answer & ((1 << 56) - 1) }),
+    }
+}
+
+fn reached(answer: u64) -> Reached {
+    let verdict = match answer >> 16 {
+        0 => Verdict::Undecided,
+        1 => Verdict::Satisfied,
+        2 => Verdict::Violated,
+        _ => Verdict::Moot,
+    };
+    Reached { state: answer as u16, verdict }
+}
+
+/// Builds the smallest table of a rule file into the front of `table` and returns its length.
+pub fn build(rule: &[u8], table: &mut [u8]) -> Result<usize, Refusal> {
+    // Both slices are good for their lengths during the call, and a `&mut` overlaps nothing.
+    let answer = unsafe { library::tefuji_build(rule.as_ptr(), rule.len(), table.as_mut_ptr(), table.len()) };
+    answered(answer).map(|length| length as usize)
+}
+
+/// Checks a table's bytes, and runs them from a state over a list of events.
+pub fn run(table: &[u8], state: u16, events: &[u8]) -> Result<Ended, Refusal> {
+    let mut count = 0;
+    // All three are lent for the call.
+    let answer = unsafe {
+        library::tefuji_run(table.as_ptr(), table.len(), state, events.as_ptr(), events.len(), &mut count)
+    };
+    let reached = answered(answer).map(reached)?;
+    Ok(Ended { reached, count: (count != u64::MAX).then_some(count) })
+}
+
+/// Writes a table as text into the front of `text`, which has at least `TEXT_ROOM` bytes, and returns the length.
+pub fn text(table: &[u8], text: &mut [u8]) -> Result<usize, Refusal> {
+    // Both slices are good for their lengths during the call, and a `&mut` overlaps nothing.
+    let answer = unsafe { library::tefuji_text(table.as_ptr(), table.len(), text.as_mut_ptr(), text.len()) };
+    answered(answer).map(|length| length as usize)
+}
+
+/// A table opened once and stepped many times. Only `open` makes one, so the counts are always those of the bytes.
+#[derive(Clone, Copy, Debug)]
+pub struct Opened<'a> {
+    bytes: &'a [u8],
+    counts: u64,
+}
+
+impl<'a> Opened<'a> {
+    pub fn open(bytes: &'a [u8]) -> Result<Self, Refusal> {
+        // The slice is lent for the call.
+        let answer = unsafe { library::tefuji_check(bytes.as_ptr(), bytes.len()) };
+        answered(answer).map(|counts| Opened { bytes, counts })
+    }
+
+    pub fn signals(self) -> u8 {
+        (self.counts >> 16) as u8
+    }
+
+    pub fn states(self) -> u16 {
+        self.counts as u16
+    }
+
+    pub fn step(self, state: u16, event: u8) -> Result<Reached, Refusal> {
+        // The slice is lent for the call.
+        let answer =
+            unsafe { library::tefuji_step(self.bytes.as_ptr(), self.bytes.len(), self.counts, state, event) };
+        answered(answer).map(reached)
+    }
+}
+
+/// One step with counts of any value, as a C program could pass them.
+pub fn step_with(table: &[u8], counts: u64, state: u16, event: u8) -> Result<Reached, Refusal> {
+    // The slice is lent for the call, and the library takes any counts.
+    let answer = unsafe { library::tefuji_step(table.as_ptr(), table.len(), counts, state, event) };
+    answered(answer).map(reached)
+}

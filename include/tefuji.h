@@ -1,0 +1,84 @@
+/* Tefuji: from a rule in linear temporal logic to the smallest monitor table, and runs over it.
+ *
+ * Every function takes any bytes and any numbers and always returns; it keeps nothing and allocates nothing. All state is the caller's:
+ * the table's bytes and a state number. The functions may be called from several threads at once.
+ *
+ * Pointers. Each goes with its length in bytes and must be good for that many bytes; it must not be null, not even where the length is 0.
+ * A buffer that is written must not overlap one that is read. A buffer that is only read is not changed.
+ *
+ * Answers. An answer is one number. Below 2^56 it is what was asked for. From there on it is a refusal: the top byte is its number, 1 to 14,
+ * and the lower 56 bits are its place. On a refusal every byte that was lent keeps its value.
+ *
+ *   number  when                                                          place
+ *   1       the rule file ends within a record or before its last node    start of that record
+ *   2       a record's length is below 2, or not what its kind has        start of the record
+ *   3       the first kind is not 256, or a later one is above 13         start of the record
+ *   4       the signals are not 1 to 4                                    0
+ *   5       the nodes are not 1 to 64                                     0
+ *   6       an operand is not below the node's own number                 start of the record
+ *   7       a signal, mask or count is out of range                       start of the record
+ *   8       an eighth temporal node                                       start of its record
+ *   9       bytes after the last node                                     the first such byte
+ *   10      the output is shorter than the table (or the text's room)     0
+ *   11      more than 256 different remaining properties                  0
+ *   12      an event is not below 2^signals                               its index, from 0
+ *   13      a state is not below the number of states                     0
+ *   14      the bytes are not a table                                     0
+ *
+ * Link with libtefuji.a (`rt staticlib tefuji`). x86-64.
+ */
+#ifndef TEFUJI_H
+#define TEFUJI_H
+
+#include <stddef.h>
+#include <stdint.h>
+
+#ifdef __cplusplus
+extern "C" {
+#endif
+
+/* The largest table in bytes, and what tefuji_text needs. */
+#define TEFUJI_TABLE_MAX 9479
+#define TEFUJI_TEXT_ROOM 32768
+
+/* A count of events that says "none". */
+#define TEFUJI_NONE UINT64_MAX
+
+/* Verdicts. Violated: no continuation satisfies the rule. Satisfied: all do. Moot: neither, and no further event will tell. */
+enum { TEFUJI_UNDECIDED = 0, TEFUJI_SATISFIED = 1, TEFUJI_VIOLATED = 2, TEFUJI_MOOT = 3 };
+
+/* Builds the smallest table of a rule file into the front of `table`. Bytes past the table keep their values.
+ * Answers the table's length in bytes, or refuses by 1 to 9, then 11, then 10. Needs about 100 KiB of stack. */
+uint64_t tefuji_build(const uint8_t *rule, size_t rule_length, uint8_t *table, size_t table_length);
+
+/* Checks that the bytes are exactly a table; not its order, nor that it is the smallest.
+ * Answers its counts, signals * 65536 + states, which tefuji_step takes; or refuses by 14. */
+uint64_t tefuji_check(const uint8_t *table, size_t table_length);
+
+/* Checks the table and runs it from a state over a list of events.
+ * Answers verdict * 65536 + end state, and stores in `count` how many events had been read when a verdict other than undecided was first
+ * shown: 0 if the given state shows one, TEFUJI_NONE if never. Refuses by 14, then 13, then 12, and leaves `count` as it was. */
+uint64_t tefuji_run(const uint8_t *table, size_t table_length, uint16_t state, const uint8_t *events, size_t events_length, uint64_t *count);
+
+/* Reads one event, at a cost that does not grow with the table. `counts` is what tefuji_check answered for the same bytes; with it a step
+ * is a run over that one event, and a refusal handed on as counts is refused by 14. With other counts it still returns, and means nothing.
+ * Answers verdict * 65536 + successor, or refuses by 14, 13, 12. */
+uint64_t tefuji_step(const uint8_t *table, size_t table_length, uint64_t counts, uint16_t state, uint8_t event);
+
+/* Writes the table as text, a line for its counts and one for each state, into the front of `text`, which has at least TEFUJI_TEXT_ROOM bytes.
+ * Answers the text's length, or refuses by 14, then 10. No zero byte is added. */
+uint64_t tefuji_text(const uint8_t *table, size_t table_length, uint8_t *text, size_t text_length);
+
+/* The parts of an answer. */
+static inline unsigned tefuji_refusal(uint64_t answer) { return (unsigned)(answer >> 56); } /* 0: not a refusal */
+static inline uint64_t tefuji_place(uint64_t answer) { return answer & (((uint64_t)1 << 56) - 1); }
+static inline uint16_t tefuji_state(uint64_t answer) { return (uint16_t)answer; }
+static inline unsigned tefuji_verdict(uint64_t answer) { return (unsigned)(answer >> 16) & 255; }
+static inline unsigned tefuji_signals(uint64_t counts) { return (unsigned)(counts >> 16) & 255; }
+static inline uint16_t tefuji_states(uint64_t counts) { return (uint16_t)counts; }
+
+#ifdef __cplusplus
+}
+#endif
+
+#endif
