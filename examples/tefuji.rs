@@ -5,7 +5,12 @@
 
 mod library {
     extern "C" {
-        pub fn tefuji_build(rule: *const u8, rule_length: usize, table: *mut u8, table_length: usize) -> u64;
+        pub fn tefuji_build(
+            rule: *const u8,
+            rule_length: usize,
+            table: *mut u8,
+            table_length: usize,
+        ) -> u64;
         pub fn tefuji_check(table: *const u8, table_length: usize) -> u64;
         pub fn tefuji_run(
             table: *const u8,
@@ -15,8 +20,19 @@ mod library {
             events_length: usize,
             count: *mut u64,
         ) -> u64;
-        pub fn tefuji_step(table: *const u8, table_length: usize, counts: u64, state: u16, event: u8) -> u64;
-        pub fn tefuji_text(table: *const u8, table_length: usize, text: *mut u8, text_length: usize) -> u64;
+        pub fn tefuji_step(
+            table: *const u8,
+            table_length: usize,
+            counts: u64,
+            state: u16,
+            event: u8,
+        ) -> u64;
+        pub fn tefuji_text(
+            table: *const u8,
+            table_length: usize,
+            text: *mut u8,
+            text_length: usize,
+        ) -> u64;
     }
 }
 
@@ -75,7 +91,9 @@ fn reached(answer: u64) -> Reached {
 /// Builds the smallest table of a rule file into the front of `table` and returns its length.
 pub fn build(rule: &[u8], table: &mut [u8]) -> Result<usize, Refusal> {
     // Both slices are good for their lengths during the call, and a `&mut` overlaps nothing.
-    let answer = unsafe { library::tefuji_build(rule.as_ptr(), rule.len(), table.as_mut_ptr(), table.len()) };
+    let answer = unsafe {
+        library::tefuji_build(rule.as_ptr(), rule.len(), table.as_mut_ptr(), table.len())
+    };
     answered(answer).map(|length| length as usize)
 }
 
@@ -84,7 +102,14 @@ pub fn run(table: &[u8], state: u16, events: &[u8]) -> Result<Ended, Refusal> {
     let mut count = 0;
     // All three are lent for the call.
     let answer = unsafe {
-        library::tefuji_run(table.as_ptr(), table.len(), state, events.as_ptr(), events.len(), &mut count)
+        library::tefuji_run(
+            table.as_ptr(),
+            table.len(),
+            state,
+            events.as_ptr(),
+            events.len(),
+            &mut count,
+        )
     };
     let reached = answered(answer).map(reached)?;
     Ok(Ended { reached, count: (count != u64::MAX).then_some(count) })
@@ -93,7 +118,8 @@ pub fn run(table: &[u8], state: u16, events: &[u8]) -> Result<Ended, Refusal> {
 /// Writes a table as text into the front of `text`, which has at least `TEXT_ROOM` bytes, and returns the length.
 pub fn text(table: &[u8], text: &mut [u8]) -> Result<usize, Refusal> {
     // Both slices are good for their lengths during the call, and a `&mut` overlaps nothing.
-    let answer = unsafe { library::tefuji_text(table.as_ptr(), table.len(), text.as_mut_ptr(), text.len()) };
+    let answer =
+        unsafe { library::tefuji_text(table.as_ptr(), table.len(), text.as_mut_ptr(), text.len()) };
     answered(answer).map(|length| length as usize)
 }
 
@@ -121,8 +147,9 @@ impl<'a> Opened<'a> {
 
     pub fn step(self, state: u16, event: u8) -> Result<Reached, Refusal> {
         // The slice is lent for the call.
-        let answer =
-            unsafe { library::tefuji_step(self.bytes.as_ptr(), self.bytes.len(), self.counts, state, event) };
+        let answer = unsafe {
+            library::tefuji_step(self.bytes.as_ptr(), self.bytes.len(), self.counts, state, event)
+        };
         answered(answer).map(reached)
     }
 }

@@ -1,23 +1,20 @@
-//! A second reading of document 01, written apart from the watcher, and the
-//! maker of the stored test vectors.
-
-mod record;
-mod refusal;
-mod rng;
-mod rule;
-mod table;
-mod vectors;
+//! The oracle as a program.
 
 use std::path::Path;
 use std::process::ExitCode;
 
+use oracle::vectors;
+
 const HELP: &str = "\
 usage: oracle vectors DIR
 
-Writes the test vectors for rule files and table files:
+Writes the test vectors for rule files, table files and built tables:
   DIR/rule_vectors/stdin    DIR/rule_vectors/stdout
   DIR/table_vectors/stdin   DIR/table_vectors/stdout
-Missing folders are made. Every run writes the same bytes.";
+  DIR/build_vectors/stdin   DIR/build_vectors/stdout
+Missing folders are made. Every run writes the same bytes. Built tables are
+certified by a search for traces first, and a summary of it is printed; if one
+fails, nothing is written and the exit status is 1.";
 
 fn main() -> ExitCode {
     let arguments: Vec<String> = std::env::args().skip(1).collect();
@@ -36,9 +33,12 @@ fn main() -> ExitCode {
 
 fn write_vectors(folder: &Path) -> ExitCode {
     match vectors::write_all(folder) {
-        Ok(()) => ExitCode::SUCCESS,
-        Err(error) => {
-            eprintln!("cannot write the vectors to {}: {error}", folder.display());
+        Ok(summary) => {
+            println!("{summary}");
+            ExitCode::SUCCESS
+        }
+        Err(reason) => {
+            eprintln!("no vectors: {reason}");
             ExitCode::FAILURE
         }
     }

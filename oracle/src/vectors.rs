@@ -1,16 +1,19 @@
 //! The stored test vectors: an input stream and the lines expected for it.
 
+mod build_answers;
 mod build_cases;
+mod build_samples;
 mod rule_cases;
 mod rule_faults;
-mod rule_samples;
+pub mod rule_samples;
 mod table_cases;
 mod table_faults;
 mod table_samples;
 
 use std::fs;
-use std::io;
 use std::path::Path;
+
+use crate::certify::Summary;
 
 /// One case of an input stream and the line expected for it.
 trait Case {
@@ -18,14 +21,17 @@ trait Case {
     fn expected_line(&self) -> String;
 }
 
-/// Writes the folders of vectors under `folder`.
-pub fn write_all(folder: &Path) -> io::Result<()> {
+/// Writes the folders of vectors under `folder`. The tables among them are
+/// certified before anything is written; the summary says what was certified.
+pub fn write_all(folder: &Path) -> Result<Summary, String> {
+    let (build_cases, summary) = build_cases::all()?;
     write_stream(&folder.join("rule_vectors"), &rule_cases::all())?;
     write_stream(&folder.join("table_vectors"), &table_cases::all())?;
-    write_stream(&folder.join("build_vectors"), &build_cases::all())
+    write_stream(&folder.join("build_vectors"), &build_cases)?;
+    Ok(summary)
 }
 
-fn write_stream(folder: &Path, cases: &[impl Case]) -> io::Result<()> {
+fn write_stream(folder: &Path, cases: &[impl Case]) -> Result<(), String> {
     let mut stream = Vec::new();
     let mut lines = String::new();
     for case in cases {
@@ -33,9 +39,10 @@ fn write_stream(folder: &Path, cases: &[impl Case]) -> io::Result<()> {
         lines.push_str(&case.expected_line());
         lines.push('\n');
     }
-    fs::create_dir_all(folder)?;
-    fs::write(folder.join("stdin"), stream)?;
-    fs::write(folder.join("stdout"), lines)
+    let written = fs::create_dir_all(folder)
+        .and_then(|()| fs::write(folder.join("stdin"), stream))
+        .and_then(|()| fs::write(folder.join("stdout"), lines));
+    written.map_err(|error| format!("cannot write to {}: {error}", folder.display()))
 }
 
 /// Appends a two-byte count and then the bytes.

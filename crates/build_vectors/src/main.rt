@@ -58,13 +58,10 @@ fn say_row(t: &[u8], signals: u8, state: u16)
     }
 }
 
-// The rows of a table, unless it has more than ten.
+// The rows of a table.
 fn say_rows(t: &[u8], signals: u8, states: u16)
     requires { ⌜ signals ≤ 4 ⌝ }
 {
-    if 10 < states {
-        return;
-    }
     let mut s: u16 = 0;
     while s < states {
         say_row(t, signals, s);

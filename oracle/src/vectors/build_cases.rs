@@ -1,23 +1,35 @@
-//! Document 01's table of known rules, with the results that it states. Nothing here is computed: each expected line is written out from
-//! the document, or, for seven nexts, counted by hand.
+//! The cases of the build stream: document 01's table of known rules, and rules
+//! made at random. The results of the known rules are written out by hand from
+//! the document, or, for seven nexts, counted; only the rows of the table with
+//! 244 states, and the lines of the random rules, come from certified tables.
 
+use super::build_answers::Answers;
+use super::build_samples;
 use super::rule_samples::{nexts, p12, p3, p9, rule, shared_nexts, NodeBytes, P, Q};
 use super::{append_counted, Case};
+use crate::certify::Summary;
 use crate::rule::{kind, Rule};
 
-/// A rule to build into an output of so many bytes, the events of a run over its table, and the line expected.
+/// A rule to build into an output of so many bytes and the events of a run over
+/// its table.
+#[derive(Clone, Debug)]
+pub struct Question {
+    pub rule: Rule,
+    pub output: u16,
+    pub events: Vec<u8>,
+}
+
+/// A question and the line expected for it.
 pub struct BuildCase {
-    rule: Rule,
-    output: u16,
-    events: Vec<u8>,
+    question: Question,
     expected: String,
 }
 
 impl Case for BuildCase {
     fn append_to(&self, stream: &mut Vec<u8>) {
-        append_counted(stream, &self.rule.to_bytes());
-        stream.extend(self.output.to_le_bytes());
-        append_counted(stream, &self.events);
+        append_counted(stream, &self.question.rule.to_bytes());
+        stream.extend(self.question.output.to_le_bytes());
+        append_counted(stream, &self.question.events);
     }
 
     fn expected_line(&self) -> String {
@@ -25,27 +37,85 @@ impl Case for BuildCase {
     }
 }
 
-const ROOM: u16 = 9600;
+/// Room for any table.
+pub const ROOM: u16 = 9600;
 
-fn case(rule: Rule, output: u16, events: &[u8], expected: &str) -> BuildCase {
-    BuildCase { rule, output, events: events.to_vec(), expected: expected.to_string() }
+/// Every case, if all tables are certified and the lines written by hand are
+/// those of the certified tables.
+pub fn all() -> Result<(Vec<BuildCase>, Summary), String> {
+    let known = known_rules();
+    let random = build_samples::random_questions();
+    let questions: Vec<&Question> =
+        known.iter().map(|case| &case.question).chain(&random).collect();
+    let answers = Answers::certified(&questions)?;
+    let mut cases = Vec::new();
+    for case in known {
+        let expected = answers.line(&case.question);
+        if !case.is_answered_by(&expected) {
+            return Err(format!("document 01 has {:?}, and not {expected:?}", case.written));
+        }
+        cases.push(BuildCase { question: case.question, expected });
+    }
+    cases.extend(random.into_iter().map(|question| {
+        let expected = answers.line(&question);
+        BuildCase { question, expected }
+    }));
+    Ok((cases, answers.summary))
+}
+
+/// A known rule and what document 01 says of it.
+struct KnownCase {
+    question: Question,
+    written: Written,
+}
+
+#[derive(Debug)]
+enum Written {
+    /// The whole line.
+    Line(String),
+    /// The line without the rows.
+    LineAroundRows { before: String, after: String },
+}
+
+impl KnownCase {
+    fn is_answered_by(&self, line: &str) -> bool {
+        match &self.written {
+            Written::Line(written) => line == written,
+            Written::LineAroundRows { before, after } => {
+                line.starts_with(before) && line.ends_with(after)
+            }
+        }
+    }
+}
+
+fn case(rule: Rule, output: u16, events: &[u8], line: &str) -> KnownCase {
+    let question = Question { rule, output, events: events.to_vec() };
+    KnownCase { question, written: Written::Line(line.to_string()) }
 }
 
 /// A rule whose table the document gives row by row, run on the empty list.
-fn known(rule: Rule, rows: &[&str], end: &str) -> BuildCase {
+fn known(rule: Rule, rows: &[&str], end: &str) -> KnownCase {
     let signals = rule.signals;
     let length = 7 + rows.len() * (5 + 2 * (1 << signals));
+    let count = rows.len();
     let rows: String = rows.iter().map(|row| format!(" | {row} ")).collect();
-    let expected =
-        format!("built {length} signals {signals} states {}{rows} run state 0 {end} kept", rows.matches('|').count());
-    case(rule, ROOM, &[], &expected)
+    let start = format!("built {length} signals {signals} states {count}");
+    case(rule, ROOM, &[], &format!("{start}{rows} run state 0 {end} kept"))
+}
+
+/// The five shared nexts: the document gives their size and not their rows.
+fn five_nexts(output: u16) -> KnownCase {
+    let before = "built 5131 signals 3 states 244 | 0 undecided ".to_string();
+    let after = " run state 0 undecided none kept".to_string();
+    let question = Question { rule: shared_nexts(5), output, events: Vec::new() };
+    KnownCase { question, written: Written::LineAroundRows { before, after } }
 }
 
 fn next_p_or_next_not_p() -> Rule {
     rule(1, &[P, (kind::NEXT, 0, 0), (kind::NOT, 0, 0), (kind::NEXT, 2, 0), (kind::OR, 1, 3)])
 }
 
-fn one_signal() -> Vec<BuildCase> {
+fn one_signal() -> Vec<KnownCase> {
     let always = (kind::ALWAYS, 0, 0);
     let eventually = (kind::EVENTUALLY, 0, 0);
     vec![
@@ -60,18 +130,34 @@ fn one_signal() -> Vec<BuildCase> {
     ]
 }
 
-fn two_signals() -> Vec<BuildCase> {
+fn two_signals() -> Vec<KnownCase> {
     let violated = "1 violated 1 1 1 1";
     let until = (kind::UNTIL, 0, 1);
     let fair = [P, Q, (kind::EVENTUALLY, 0, 0), (kind::ALWAYS, 2, 0), (kind::AND, 1, 3)];
     let always_either = ["0 undecided 1 0 0 0", violated];
     vec![
         known(p9(), &["0 undecided 1 0 2 2", violated, "2 satisfied 2 2 2 2"], "undecided none"),
-        known(rule(2, &[P, Q, (kind::OR, 0, 1), (kind::ALWAYS, 2, 0)]), &always_either, "undecided none"),
+        known(
+            rule(2, &[P, Q, (kind::OR, 0, 1), (kind::ALWAYS, 2, 0)]),
+            &always_either,
+            "undecided none",
+        ),
         known(rule(2, &[P, Q, until, (kind::ALWAYS, 2, 0)]), &always_either, "undecided none"),
-        known(p12(), &["0 undecided 0 1 0 1", "1 undecided 1 2 0 1", "2 violated 2 2 2 2"], "undecided none"),
-        known(rule(2, &fair), &["0 undecided 1 1 2 2", violated, "2 moot 2 2 2 2"], "undecided none"),
-        known(eventually_either_next(), &["0 undecided 0 1 0 1", "1 satisfied 1 1 1 1"], "undecided none"),
+        known(
+            p12(),
+            &["0 undecided 0 1 0 1", "1 undecided 1 2 0 1", "2 violated 2 2 2 2"],
+            "undecided none",
+        ),
+        known(
+            rule(2, &fair),
+            &["0 undecided 1 1 2 2", violated, "2 moot 2 2 2 2"],
+            "undecided none",
+        ),
+        known(
+            eventually_either_next(),
+            &["0 undecided 0 1 0 1", "1 satisfied 1 1 1 1"],
+            "undecided none",
+        ),
         known(three_residuals(), &["0 moot 0 0 0 0"], "moot 0"),
     ]
 }
@@ -94,25 +180,31 @@ fn eventually_either_next() -> Rule {
 /// (p and always eventually q) or (not p and eventually always q): three remaining properties, one state
 fn three_residuals() -> Rule {
     let first = [P, Q, (kind::EVENTUALLY, 1, 0), (kind::ALWAYS, 2, 0), (kind::AND, 0, 3)];
-    let second = [(kind::NOT, 0, 0), (kind::ALWAYS, 1, 0), (kind::EVENTUALLY, 6, 0), (kind::AND, 5, 7), (kind::OR, 4, 8)];
+    let second = [
+        (kind::NOT, 0, 0),
+        (kind::ALWAYS, 1, 0),
+        (kind::EVENTUALLY, 6, 0),
+        (kind::AND, 5, 7),
+        (kind::OR, 4, 8),
+    ];
     rule(2, &[first, second].concat())
 }
 
 /// Seven nexts over p look at the eighth event: eight states wait, one is satisfied and one violated.
-fn seven_nexts() -> BuildCase {
-    let mut rows: Vec<String> = (0..7).map(|s| format!("{s} undecided {} {}", s + 1, s + 1)).collect();
+fn seven_nexts() -> KnownCase {
+    let mut rows: Vec<String> =
+        (0..7).map(|s| format!("{s} undecided {} {}", s + 1, s + 1)).collect();
     rows.extend(["7 undecided 8 9", "8 violated 8 8", "9 satisfied 9 9"].map(String::from));
     let rows: Vec<&str> = rows.iter().map(String::as_str).collect();
     known(nexts(7), &rows, "undecided none")
 }
 
-fn limits() -> Vec<BuildCase> {
-    let built = "built 5131 signals 3 states 244 run state 0 undecided none kept";
+fn limits() -> Vec<KnownCase> {
     vec![
+        five_nexts(5131),
+        five_nexts(5132),
         seven_nexts(),
         case(nexts(8), ROOM, &[], "refused 8 at 46 kept"),
-        case(shared_nexts(5), 5131, &[], built),
-        case(shared_nexts(5), 5132, &[], built),
         case(shared_nexts(5), 5130, &[], "refused 10 at 0 kept"),
         case(shared_nexts(6), ROOM, &[], "refused 11 at 0 kept"),
         case(shared_nexts(6), 0, &[], "refused 11 at 0 kept"),
@@ -121,7 +213,7 @@ fn limits() -> Vec<BuildCase> {
 }
 
 /// "P12 run on 1, 0, 1 ends violated, count 3. Run on 1, 2, 1 it ends undecided, count none."
-fn runs() -> Vec<BuildCase> {
+fn runs() -> Vec<KnownCase> {
     let table = "built 46 signals 2 states 3 | 0 undecided 0 1 0 1  | 1 undecided 1 2 0 1  | 2 violated 2 2 2 2 ";
     vec![
         case(p12(), 46, &[1, 0, 1], &format!("{table} run state 2 violated 3 kept")),
@@ -129,6 +221,34 @@ fn runs() -> Vec<BuildCase> {
     ]
 }
 
-pub fn all() -> Vec<BuildCase> {
+fn known_rules() -> Vec<KnownCase> {
     [one_signal(), two_signals(), limits(), runs()].into_iter().flatten().collect()
+}
+
+#[cfg(test)]
+mod tests {
+    use super::*;
+
+    #[test]
+    fn known_rules_are_answered_as_document_01_says() {
+        let known = known_rules();
+        let questions: Vec<&Question> = known.iter().map(|case| &case.question).collect();
+        let answers = Answers::certified(&questions).unwrap();
+        for case in &known {
+            let line = answers.line(&case.question);
+            assert!(case.is_answered_by(&line), "{:?} and not {line}", case.written);
+        }
+        assert_eq!(answers.summary.rules(), 17);
+    }
+
+    #[test]
+    fn another_line_is_no_answer() {
+        let whole = case(p3(), 33, &[], "refused 10 at 0 kept");
+        assert!(!whole.is_answered_by("refused 10 at 0"));
+        let around = five_nexts(5131);
+        let rows = "| 0 undecided 0 0 0 0 0 0 0 0  run state 0 undecided none kept";
+        let line = |states| format!("built 5131 signals 3 states {states} {rows}");
+        assert!(around.is_answered_by(&line(244)));
+        assert!(!around.is_answered_by(&line(243)));
+    }
 }

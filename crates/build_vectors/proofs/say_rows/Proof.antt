@@ -10,9 +10,6 @@ Inv-loop t signals states s₀ s = s ≤ states
 abbrev μ-loop : tie.MeasureT-loop
 μ-loop t signals states s₀ s = states - s
 
-returns : tie.Need-returns Inv-loop μ-loop
-returns c = search needs
-
 loop-holds : tie.Need-loop-holds Inv-loop μ-loop
 loop-holds c = search needs
 
@@ -28,8 +25,8 @@ loop-less c = search needs
 loop-again : tie.Need-loop-again Inv-loop μ-loop
 loop-again c = search needs
 
-returns-2 : tie.Need-returns-2 Inv-loop μ-loop
-returns-2 c = search needs
+returns : tie.Need-returns Inv-loop μ-loop
+returns c = search needs
 
 pub say-rows-spec : {M : Type 1} → statement M
 say-rows-spec =
@@ -37,10 +34,9 @@ say-rows-spec =
     (tie.spec
     Inv-loop
     μ-loop
-    returns
     loop-holds
     say-row-requires
     add-s
     loop-less
     loop-again
-    returns-2)
+    returns)

@@ -1,0 +1,17 @@
+//! What building, opening and running cost in the proved library, beside plain Rust that does the same job. `bench/run` builds and runs it.
+mod building;
+mod clock;
+mod running;
+mod stack;
+#[path = "../../examples/tefuji.rs"]
+mod tefuji;
+
+use clock::Work;
+
+fn main() {
+    let is_smoke = std::env::args().nth(1).as_deref() == Some("smoke");
+    let work = if is_smoke { Work::smoke() } else { Work::full() };
+    building::report(&work);
+    running::report(&work);
+    stack::report();
+}

@@ -1,0 +1,139 @@
+//! Running and opening tables: the proved library beside plain loops.
+
+use std::hint::black_box;
+
+use oracle::rng::Rng;
+use oracle::table::{Monitor, MonitorState, Verdict};
+
+use crate::clock::Work;
+use crate::tefuji::{self, Opened};
+
+const SEED: u64 = 0x5eed_0000_0000_0009;
+
+/// A table whose states are all undecided, so that a run looks at every verdict.
+fn random_table(rng: &mut Rng, signals: u8, states: u16) -> Vec<u8> {
+    let successors =
+        |rng: &mut Rng| (0..1 << signals).map(|_| rng.below(states.into()) as u16).collect();
+    let states = (0..states)
+        .map(|_| MonitorState { verdict: Verdict::Undecided, successors: successors(rng) })
+        .collect();
+    Monitor { signals, states }.to_bytes()
+}
+
+fn u16_at(bytes: &[u8], place: usize) -> u16 {
+    u16::from_le_bytes([bytes[place], bytes[place + 1]])
+}
+
+/// The successors, one row after the other, and the verdicts.
+struct Decoded {
+    successors: Vec<u16>,
+    verdicts: Vec<u8>,
+    events: usize,
+}
+
+impl Decoded {
+    fn of(table: &[u8]) -> Self {
+        let events = 1 << table[4];
+        let rows = table[7..].chunks(5 + 2 * events);
+        let successors =
+            rows.clone().flat_map(|row| (0..events).map(|event| u16_at(row, 5 + 2 * event)));
+        Decoded {
+            successors: successors.collect(),
+            verdicts: rows.clone().map(|row| row[4]).collect(),
+            events,
+        }
+    }
+
+    /// Follows the events and does nothing else.
+    fn follow(&self, events: &[u8]) -> u16 {
+        let mut state = 0;
+        for &event in events {
+            state = self.successors[usize::from(state) * self.events + usize::from(event)];
+        }
+        state
+    }
+
+    /// The same job as a run: refuses a wrong event, and counts up to the first verdict.
+    fn run(&self, events: &[u8]) -> Option<(u16, u8, Option<usize>)> {
+        let mut state = 0u16;
+        let mut count = (self.verdicts[0] != 0).then_some(0);
+        for (index, &event) in events.iter().enumerate() {
+            if usize::from(event) >= self.events {
+                return None;
+            }
+            state = self.successors[usize::from(state) * self.events + usize::from(event)];
+            if count.is_none() && self.verdicts[usize::from(state)] != 0 {
+                count = Some(index + 1);
+            }
+        }
+        Some((state, self.verdicts[usize::from(state)], count))
+    }
+}
+
+/// Follows the events over the table's own bytes and does nothing else.
+fn bare_walk(table: &[u8], events: &[u8]) -> u16 {
+    let row = 5 + (2 << table[4]);
+    let mut state = 0;
+    for &event in events {
+        state = u16_at(table, 12 + usize::from(state) * row + 2 * usize::from(event));
+    }
+    state
+}
+
+fn steps(opened: Opened, events: &[u8]) -> u16 {
+    let mut state = 0;
+    for &event in events {
+        state = opened.step(state, event).expect("the event is below 2^signals").state;
+    }
+    state
+}
+
+fn report_runs(work: &Work, rng: &mut Rng, signals: u8) {
+    let table = random_table(rng, signals, 244);
+    let events: Vec<u8> = (0..work.events).map(|_| rng.byte_below(1 << signals)).collect();
+    let decoded = Decoded::of(&table);
+    let opened = Opened::open(&table).expect("the table is well-formed");
+    let end = tefuji::run(&table, 0, &events).expect("the run is good").reached.state;
+    assert_eq!(end, decoded.follow(&events));
+    assert_eq!(end, bare_walk(&table, &events));
+    assert_eq!(end, steps(opened, &events));
+    assert_eq!(Some((end, 0, None)), decoded.run(&events));
+    let per_event = |total: f64| total / work.events as f64;
+    let proved =
+        per_event(work.nanoseconds(|| tefuji::run(black_box(&table), 0, black_box(&events))));
+    let plain = per_event(work.nanoseconds(|| decoded.follow(black_box(&events))));
+    let same_job = per_event(work.nanoseconds(|| decoded.run(black_box(&events))));
+    let bare = per_event(work.nanoseconds(|| bare_walk(black_box(&table), black_box(&events))));
+    let stepped = per_event(work.nanoseconds(|| steps(opened, black_box(&events))));
+    println!(
+        "| {signals} signals | {proved:.2} | {plain:.2} ({:.2}) | {same_job:.2} ({:.2}) | {bare:.2} ({:.2}) | {stepped:.2} |",
+        proved / plain,
+        proved / same_job,
+        proved / bare
+    );
+}
+
+pub fn report(work: &Work) {
+    let mut rng = Rng::new(SEED);
+    println!(
+        "\nRunning {} events over 244 undecided states, ns an event; in brackets proved ÷ this.\n",
+        work.events
+    );
+    println!("| table | proved run | decoded u16 loop | decoded, same job | bare two-byte walk | proved steps, a call each |");
+    println!("|---|---|---|---|---|---|");
+    for signals in [1, 2, 3, 4] {
+        report_runs(work, &mut rng, signals);
+    }
+    println!(
+        "\n| opening (every byte checked) | bytes | µs | oracle's reader, µs |\n|---|---|---|---|"
+    );
+    for (signals, states) in [(1, 3), (3, 28), (3, 82), (3, 244), (4, 256)] {
+        let table = random_table(&mut rng, signals, states);
+        let proved = work.nanoseconds(|| Opened::open(black_box(&table)).is_ok()) / 1000.0;
+        let plain = work.nanoseconds(|| Monitor::open(black_box(&table)).is_ok()) / 1000.0;
+        println!(
+            "| {states} states, {signals} signals | {} | {proved:.2} | {plain:.2} |",
+            table.len()
+        );
+    }
+}

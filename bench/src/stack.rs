@@ -1,0 +1,67 @@
+//! How much stack each call needs: the stack below the caller is painted first, and looked at after the call.
+
+use std::hint::black_box;
+use std::ptr;
+
+use oracle::vectors::rule_samples::shared_nexts;
+
+use crate::tefuji::{self, Opened};
+
+/// How far down the stack is painted.
+const DEPTH: usize = 1 << 20;
+/// What is left alone for the frames of the functions here.
+const FRAMES: usize = 1 << 10;
+const PAINT: u8 = 0xa5;
+
+/// The thread's stack has room for all that is painted, and nothing lives there while it is.
+#[inline(never)]
+fn paint(top: *mut u8) {
+    for depth in FRAMES..DEPTH {
+        unsafe { ptr::write_volatile(top.wrapping_sub(depth), PAINT) };
+    }
+}
+
+/// The depth of the lowest byte that has another value than the paint's.
+#[inline(never)]
+fn touched(top: *const u8) -> usize {
+    let is_painted =
+        |depth: &usize| unsafe { ptr::read_volatile(top.wrapping_sub(*depth)) } == PAINT;
+    DEPTH - (FRAMES..DEPTH).rev().take_while(is_painted).count()
+}
+
+#[inline(never)]
+fn stack_of(call: &mut dyn FnMut()) -> usize {
+    let mut top = 0;
+    let top: *mut u8 = black_box(&mut top);
+    paint(top);
+    call();
+    touched(top)
+}
+
+fn print(name: &str, mut call: impl FnMut()) {
+    println!("| {name} | {} |", stack_of(&mut call));
+}
+
+fn measure() {
+    let rule = shared_nexts(5).to_bytes();
+    let mut table = vec![0; tefuji::TABLE_MAX];
+    let length = tefuji::build(&rule, &mut table).expect("244 states");
+    let mut spare = table.clone();
+    let table = &table[..length];
+    let events = vec![0; 5000];
+    let mut text = vec![0; tefuji::TEXT_ROOM];
+    let opened = Opened::open(table).expect("a table");
+    println!("\n| call (at most {FRAMES}: not told apart) | stack, bytes |\n|---|---|");
+    print("build, 244 states", || _ = black_box(tefuji::build(&rule, &mut spare)));
+    print("check", || _ = black_box(Opened::open(table)));
+    print("run, 10 events", || _ = black_box(tefuji::run(table, 0, &events[..10])));
+    print("run, 5,000 events", || _ = black_box(tefuji::run(table, 0, &events)));
+    print("step", || _ = black_box(opened.step(0, 0)));
+    print("text", || _ = black_box(tefuji::text(table, &mut text)));
+}
+
+/// On a thread of its own, with room to paint.
+pub fn report() {
+    let thread = std::thread::Builder::new().stack_size(8 * DEPTH).spawn(measure);
+    thread.expect("a thread can be started").join().expect("the measurement ends");
+}

@@ -1,0 +1,14 @@
+//! A second reading of document 01, written apart from the watcher: readers, a
+//! search for traces, a builder of tables, and the maker of the stored test vectors.
+
+pub mod builder;
+pub mod certify;
+pub mod lasso;
+pub mod random_rules;
+pub mod record;
+pub mod refusal;
+pub mod rng;
+pub mod rule;
+pub mod search;
+pub mod table;
+pub mod vectors;

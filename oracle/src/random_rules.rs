@@ -1,0 +1,210 @@
+//! Rules made at random, the same for the same seed.
+
+use std::ops::RangeInclusive;
+
+use crate::builder;
+use crate::rng::Rng;
+use crate::rule::{kind, FormulaNode, Rule, TEMPORAL_LIMIT};
+use crate::table::{Monitor, Verdict};
+
+/// What a random rule may be.
+#[derive(Clone, Debug)]
+pub struct Shape {
+    pub signals: RangeInclusive<u8>,
+    pub temporal: RangeInclusive<usize>,
+    /// The most nodes; at least three, and more than the temporal ones.
+    pub nodes: usize,
+}
+
+impl Shape {
+    /// The rules that the search can judge.
+    pub fn searchable() -> Self {
+        Shape { signals: 1..=3, temporal: 0..=3, nodes: 12 }
+    }
+
+    /// A good rule. It often uses a node several times, and sometimes not at all.
+    pub fn draw(&self, rng: &mut Rng) -> Rule {
+        let signals =
+            rng.between((*self.signals.start()).into(), (*self.signals.end()).into()) as u8;
+        let temporal = rng.between(*self.temporal.start(), *self.temporal.end());
+        assert!(temporal <= TEMPORAL_LIMIT && temporal + 2 < self.nodes);
+        let count = rng.between((temporal + 1).max(2), self.nodes);
+        let mut drawing = Drawing { signals, nodes: Vec::new(), unused: Vec::new() };
+        let mut due = temporal;
+        for number in 0..count {
+            let takes_temporal = number > 0 && rng.below(count - number) < due;
+            due -= usize::from(takes_temporal);
+            drawing.add_node(rng, takes_temporal);
+        }
+        Rule { signals, nodes: drawing.nodes }
+    }
+
+    /// A rule whose table has what seldom comes by itself: at least one up to
+    /// eight states, each as often, or a moot state. After many vain draws, and
+    /// if its table is refused, it is any rule.
+    pub fn draw_interesting(&self, rng: &mut Rng) -> Rule {
+        let wants_moot = rng.chance(15);
+        let wanted_states = rng.between(1, if wants_moot { 3 } else { 8 });
+        let is_wanted = |monitor: Monitor| {
+            let has_moot = monitor.states.iter().any(|state| state.verdict == Verdict::Moot);
+            monitor.states.len() >= wanted_states && (has_moot || !wants_moot)
+        };
+        let mut rule = self.draw(rng);
+        for _ in 0..5000 {
+            if table_of(&rule).is_none_or(is_wanted) {
+                break;
+            }
+            rule = self.draw(rng);
+        }
+        rule
+    }
+}
+
+/// The table of a rule; none if it is refused.
+fn table_of(rule: &Rule) -> Option<Monitor> {
+    let mut output = [0; 9479];
+    let length = builder::build(&rule.to_bytes(), &mut output).ok()?;
+    Monitor::open(&output[..length]).ok()
+}
+
+const TEMPORAL_KINDS: [u8; 4] = [kind::NEXT, kind::UNTIL, kind::EVENTUALLY, kind::ALWAYS];
+
+/// A rule that is being drawn, with the nodes that none uses so far.
+struct Drawing {
+    signals: u8,
+    nodes: Vec<FormulaNode>,
+    unused: Vec<u8>,
+}
+
+impl Drawing {
+    fn add_node(&mut self, rng: &mut Rng, temporal: bool) {
+        let kind = match temporal {
+            true => *rng.pick(&TEMPORAL_KINDS),
+            false => self.plain_kind(rng),
+        };
+        let (first, second) = match kind {
+            kind::FALSE | kind::TRUE => (0, 0),
+            kind::SIGNAL => (rng.byte_below(self.signals.into()), 0),
+            kind::AT_LEAST => (rng.byte_below(1 << self.signals), self.count(rng)),
+            kind::NOT | kind::NEXT | kind::EVENTUALLY | kind::ALWAYS => (self.operand(rng), 0),
+            _ => (self.operand(rng), self.operand(rng)),
+        };
+        self.unused.push(self.nodes.len() as u8);
+        self.nodes.push(FormulaNode::new(kind, first, second));
+    }
+
+    /// Leaves while few nodes wait to be used, operators while many do.
+    fn plain_kind(&self, rng: &mut Rng) -> u8 {
+        let leaf_chance = [100, 55, 30, 10][self.unused.len().min(3)];
+        if self.nodes.is_empty() || rng.chance(leaf_chance) {
+            return match rng.below(20) {
+                0 => kind::FALSE,
+                1 => kind::TRUE,
+                2..=6 => kind::AT_LEAST,
+                _ => kind::SIGNAL,
+            };
+        }
+        match rng.chance(25) {
+            true => kind::NOT,
+            false => kind::AND + rng.byte_below(5),
+        }
+    }
+
+    /// A count for "at least", seldom one that no event meets.
+    fn count(&self, rng: &mut Rng) -> u8 {
+        match rng.chance(85) {
+            true => 1 + rng.byte_below(self.signals.into()),
+            false => rng.byte_below(5),
+        }
+    }
+
+    /// An earlier node, mostly one that waits to be used.
+    fn operand(&mut self, rng: &mut Rng) -> u8 {
+        if !self.unused.is_empty() && rng.chance(80) {
+            let place = self.unused.len() - 1 - rng.below(self.unused.len().min(3));
+            return self.unused.remove(place);
+        }
+        let operand = rng.byte_below(self.nodes.len());
+        self.unused.retain(|&number| number != operand);
+        operand
+    }
+}
+
+#[cfg(test)]
+mod tests {
+    use super::*;
+    use crate::rule::{temporal_count, BodyShape};
+
+    fn sample() -> Vec<Rule> {
+        let mut rng = Rng::new(31);
+        (0..500).map(|_| Shape::searchable().draw_interesting(&mut rng)).collect()
+    }
+
+    fn uses(rule: &Rule, operand: usize) -> usize {
+        let users = rule.nodes.iter().map(|node| match node.shape() {
+            BodyShape::OneOperand => usize::from(usize::from(node.first) == operand),
+            BodyShape::TwoOperands => {
+                usize::from(usize::from(node.first) == operand)
+                    + usize::from(usize::from(node.second) == operand)
+            }
+            _ => 0,
+        });
+        users.sum()
+    }
+
+    #[test]
+    fn drawn_rules_are_good_and_have_the_shape() {
+        for rule in sample() {
+            assert_eq!(Rule::read(&rule.to_bytes()), Ok(rule.clone()));
+            assert!((1..=3).contains(&rule.signals) && rule.nodes.len() <= 12);
+            assert!(temporal_count(&rule.nodes) <= 3);
+        }
+        let large = Shape { signals: 4..=4, temporal: 7..=7, nodes: 20 };
+        let mut rng = Rng::new(32);
+        for _ in 0..100 {
+            let rule = large.draw(&mut rng);
+            assert_eq!(Rule::read(&rule.to_bytes()), Ok(rule.clone()));
+            assert_eq!((rule.signals, temporal_count(&rule.nodes)), (4, 7));
+        }
+    }
+
+    #[test]
+    fn every_kind_number_of_signals_and_of_temporal_nodes_is_drawn_often() {
+        let rules = sample();
+        let often =
+            |test: &dyn Fn(&Rule) -> bool| rules.iter().filter(|rule| test(rule)).count() >= 20;
+        for kind in kind::FALSE..=kind::ALWAYS {
+            assert!(often(&|rule| rule.nodes.iter().any(|node| node.kind == kind)), "kind {kind}");
+        }
+        for signals in 1..=3 {
+            assert!(often(&|rule| rule.signals == signals));
+        }
+        for temporal in 0..=3 {
+            assert!(often(&|rule| temporal_count(&rule.nodes) == temporal));
+        }
+    }
+
+    #[test]
+    fn nodes_are_shared_and_left_unused() {
+        let rules = sample();
+        let some = |rule: &Rule, test: &dyn Fn(usize) -> bool| {
+            (0..rule.nodes.len() - 1).any(|number| test(uses(rule, number)))
+        };
+        assert!(rules.iter().filter(|rule| some(rule, &|uses| uses > 1)).count() >= 100);
+        assert!(rules.iter().filter(|rule| some(rule, &|uses| uses == 0)).count() >= 50);
+    }
+
+    #[test]
+    fn many_rules_have_several_states() {
+        let tables: Vec<Monitor> = sample().iter().map(|rule| table_of(rule).unwrap()).collect();
+        let counts: Vec<usize> = tables.iter().map(|monitor| monitor.states.len()).collect();
+        assert!(counts.iter().filter(|&&count| count >= 3).count() >= 250);
+        assert!(counts.iter().filter(|&&count| count >= 8).count() >= 50);
+        assert!(counts.iter().filter(|&&count| count == 1).count() >= 20);
+        let has_moot = |monitor: &&Monitor| {
+            monitor.states.len() > 1
+                && monitor.states.iter().any(|state| state.verdict == Verdict::Moot)
+        };
+        assert!(tables.iter().filter(has_moot).count() >= 30);
+    }
+}

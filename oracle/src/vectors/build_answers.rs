@@ -1,0 +1,120 @@
+//! The lines expected for the build stream, from tables that were certified.
+
+use std::collections::BTreeMap;
+use std::fmt::Write;
+
+use super::build_cases::{Question, ROOM};
+use crate::builder;
+use crate::certify::{certify_all, different_residuals, Summary};
+use crate::refusal::Refusal;
+use crate::rule::Rule;
+use crate::table::Monitor;
+
+/// The value of an output byte before building.
+const PAINT: u8 = 165;
+
+/// The right to write lines: made only by certifying every table in question.
+pub struct Answers {
+    pub summary: Summary,
+}
+
+impl Answers {
+    pub fn certified(questions: &[&Question]) -> Result<Self, String> {
+        let rules: BTreeMap<Vec<u8>, &Rule> =
+            questions.iter().map(|question| (question.rule.to_bytes(), &question.rule)).collect();
+        let mut tables = Vec::new();
+        for (file, rule) in rules {
+            let mut output = vec![PAINT; ROOM.into()];
+            match builder::build(&file, &mut output) {
+                Ok(length) => tables.push((rule, output[..length].to_vec())),
+                Err(Refusal { number: 11, .. }) => confirm_refusal_11(rule)?,
+                Err(refusal) if Rule::read(&file) == Err(refusal) => {}
+                Err(refusal) => return Err(format!("{rule}: {refusal}")),
+            }
+        }
+        tables.sort_by_key(|(_, table)| std::cmp::Reverse(table.len()));
+        Ok(Answers { summary: certify_all(&tables)? })
+    }
+
+    /// The line for a question that was among those certified.
+    pub fn line(&self, question: &Question) -> String {
+        let mut output = vec![PAINT; question.output.into()];
+        let built = builder::build(&question.rule.to_bytes(), &mut output);
+        let mut line = match built {
+            Ok(length) => built_line(&output[..length], &question.events),
+            Err(refusal) => refusal.to_string(),
+        };
+        if output[built.unwrap_or(0)..].iter().all(|&byte| byte == PAINT) {
+            line.push_str(" kept");
+        }
+        line
+    }
+}
+
+fn built_line(table: &[u8], events: &[u8]) -> String {
+    let monitor = Monitor::open(table).expect("the builder writes a table");
+    let counts = format!("signals {} states {}", monitor.signals, monitor.states.len());
+    let mut line = format!("built {} {counts}", table.len());
+    for (number, state) in monitor.states.iter().enumerate() {
+        write!(line, " | {number} {} ", state.verdict).expect("a string takes all");
+        for successor in &state.successors {
+            write!(line, "{successor} ").expect("a string takes all");
+        }
+    }
+    let outcome = match monitor.run(0, events) {
+        Ok(run) => run.to_string(),
+        Err(refusal) => refusal.to_string(),
+    };
+    line + " run " + &outcome
+}
+
+/// Finds more than 256 lists that leave different properties: six events, each
+/// of them none, signal 0 or signal 1, told apart by what signal 2 does in the
+/// six events behind them. These are the lists for document 01's six nexts.
+fn confirm_refusal_11(rule: &Rule) -> Result<(), String> {
+    let count = different_residuals(rule, &lists_over(&[0, 1, 2], 6), &lists_over(&[0, 4], 6));
+    match count > 256 {
+        true => Ok(()),
+        false => Err(format!("{rule}: refused by 11, and {count} remaining properties found")),
+    }
+}
+
+/// Every list of this length over these events.
+fn lists_over(events: &[u8], length: usize) -> Vec<Vec<u8>> {
+    (0..length).fold(vec![Vec::new()], |lists, _| {
+        let longer = |list: &Vec<u8>| -> Vec<Vec<u8>> {
+            events.iter().map(|&event| [&list[..], &[event]].concat()).collect()
+        };
+        lists.iter().flat_map(longer).collect()
+    })
+}
+
+#[cfg(test)]
+mod tests {
+    use super::super::rule_samples::{p12, p3, shared_nexts};
+    use super::*;
+
+    fn line(rule: Rule, output: u16, events: &[u8]) -> String {
+        let question = Question { rule, output, events: events.to_vec() };
+        Answers::certified(&[&question]).unwrap().line(&question)
+    }
+
+    #[test]
+    fn lines_have_their_form() {
+        let table =
+            "built 34 signals 1 states 3 | 0 undecided 1 2  | 1 violated 1 1  | 2 satisfied 2 2 ";
+        assert_eq!(line(p3(), 40, &[1]), format!("{table} run state 2 satisfied 1 kept"));
+        assert_eq!(line(p3(), 34, &[1, 2]), format!("{table} run refused 12 at 1 kept"));
+        assert_eq!(line(p3(), 33, &[]), "refused 10 at 0 kept");
+        assert!(line(p12(), ROOM, &[1, 0, 1]).ends_with("run state 2 violated 3 kept"));
+    }
+
+    #[test]
+    fn six_nexts_leave_729_properties_and_the_violated_one() {
+        let (lists, stems) = (lists_over(&[0, 1, 2], 6), lists_over(&[0, 4], 6));
+        assert_eq!((lists.len(), stems.len()), (729, 64));
+        assert_eq!(different_residuals(&shared_nexts(6), &lists, &stems), 729);
+        assert!(confirm_refusal_11(&shared_nexts(6)).is_ok());
+        assert!(confirm_refusal_11(&shared_nexts(5)).is_err());
+    }
+}
