@@ -4,11 +4,11 @@ mod build_answers;
 mod build_cases;
 mod build_samples;
 mod rule_cases;
-mod rule_faults;
+pub mod rule_faults;
 pub mod rule_samples;
 mod table_cases;
-mod table_faults;
-mod table_samples;
+pub mod table_faults;
+pub mod table_samples;
 
 use std::fs;
 use std::path::Path;

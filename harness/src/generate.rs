@@ -1,0 +1,125 @@
+//! The generator of cases. A case depends on the seed and its number only.
+
+mod events;
+mod planned;
+mod rules;
+mod spoil;
+mod tables;
+
+use oracle::rng::Rng;
+
+use crate::case::{Case, Input, Room};
+use crate::tefuji::TEXT_ROOM;
+use rules::Rules;
+use tables::Tables;
+
+/// Bytes and the name of the way in which they were made.
+pub struct Made {
+    pub origin: &'static str,
+    pub bytes: Vec<u8>,
+}
+
+impl Made {
+    fn new(origin: &'static str, bytes: Vec<u8>) -> Self {
+        Made { origin, bytes }
+    }
+}
+
+/// What is made once, for cases to pick from.
+pub struct Generator {
+    rules: Rules,
+    tables: Tables,
+}
+
+impl Generator {
+    pub fn new(rng: &mut Rng) -> Self {
+        Generator { rules: Rules::new(rng), tables: Tables::new(rng) }
+    }
+
+    pub fn case(&self, rng: &mut Rng) -> Case {
+        match rng.below(100) {
+            0..=34 => self.build(rng),
+            35..=49 => self.check(rng),
+            50..=74 => self.run(rng),
+            75..=89 => self.step(rng),
+            _ => self.text(rng),
+        }
+    }
+
+    fn build(&self, rng: &mut Rng) -> Case {
+        let paint = rng.byte_below(256);
+        // One rule in ten is large, and is built once only.
+        if rng.below(10) == 0 {
+            let Made { origin, bytes } = self.rules.large(rng);
+            let rooms = vec![one_room(rng)];
+            return Case { origin, input: Input::Build { rule: bytes, rooms, paint } };
+        }
+        let Made { origin, bytes } = self.rules.any(rng);
+        let rooms = vec![Room::Empty, Room::ShortBy(1), Room::Exact, one_room(rng)];
+        Case { origin, input: Input::Build { rule: bytes, rooms, paint } }
+    }
+
+    fn check(&self, rng: &mut Rng) -> Case {
+        let made = if rng.chance(30) { self.tables.good(rng) } else { self.tables.spoilt(rng) };
+        Case { origin: made.origin, input: Input::Check { table: made.bytes } }
+    }
+
+    fn run(&self, rng: &mut Rng) -> Case {
+        // The library runs over long lists in another way.
+        if rng.below(50) == 0 {
+            return self.long_run(rng);
+        }
+        let Made { origin, bytes: table } = self.mostly_good(rng);
+        let state = events::state(rng, &table);
+        let events = events::list(rng, &table);
+        let cell = events::number(rng);
+        Case { origin, input: Input::Run { table, state, events, cell } }
+    }
+
+    fn long_run(&self, rng: &mut Rng) -> Case {
+        let table = if rng.chance(50) { tables::chain(rng) } else { self.mostly_good(rng).bytes };
+        let state = events::state(rng, &table);
+        let events = events::long_list(rng, &table);
+        let cell = events::number(rng);
+        Case { origin: "long", input: Input::Run { table, state, events, cell } }
+    }
+
+    fn step(&self, rng: &mut Rng) -> Case {
+        let Made { origin, bytes: table } = self.mostly_good(rng);
+        let steps = (0..4).map(|_| events::step(rng, &table)).collect();
+        let strays = (0..6).map(|_| events::stray(rng, &table)).collect();
+        Case { origin, input: Input::Step { table, steps, strays } }
+    }
+
+    fn text(&self, rng: &mut Rng) -> Case {
+        let Made { origin, bytes: table } = self.mostly_good(rng);
+        let length = match rng.below(10) {
+            0 => rng.below(64),
+            1 => TEXT_ROOM - 1,
+            2 => rng.below(TEXT_ROOM),
+            3..=7 => TEXT_ROOM,
+            _ => TEXT_ROOM + rng.between(1, 100),
+        };
+        let paint = rng.byte_below(256);
+        Case { origin, input: Input::Text { table, length, paint } }
+    }
+
+    fn mostly_good(&self, rng: &mut Rng) -> Made {
+        if rng.chance(85) {
+            self.tables.good(rng)
+        } else {
+            self.tables.spoilt(rng)
+        }
+    }
+}
+
+fn one_room(rng: &mut Rng) -> Room {
+    match rng.below(10) {
+        0 => Room::Empty,
+        1 => Room::ShortBy(1),
+        2 => Room::ShortBy(rng.between(2, 60)),
+        3 => Room::Exact,
+        4 => Room::Largest,
+        _ => Room::LongerBy(rng.between(1, 100)),
+    }
+}

@@ -1,0 +1,115 @@
+//! States, events and counts to run a table with. The table need not be good.
+
+use oracle::rng::Rng;
+
+use crate::case::Step;
+
+/// The lengths about which the library starts to copy rows.
+const LONG: [usize; 3] = [4095, 4096, 4097];
+
+/// The number of signals that the table claims, or any.
+fn signals(rng: &mut Rng, table: &[u8]) -> u8 {
+    match table.get(4) {
+        Some(signals @ 1..=4) => *signals,
+        _ => 1 + rng.byte_below(4),
+    }
+}
+
+/// The number of states that the table claims.
+fn states(table: &[u8]) -> u16 {
+    match table {
+        [_, _, _, _, _, low, high, ..] => u16::from_le_bytes([*low, *high]),
+        _ => 0,
+    }
+}
+
+/// Any number, or one near a bound.
+pub fn number(rng: &mut Rng) -> u64 {
+    let (high, low) = (rng.below(1 << 32) as u64, rng.below(1 << 32) as u64);
+    *rng.pick(&[0, 1, u64::MAX, low, high << 32 | low])
+}
+
+/// Mostly a state of the table, now and then one that it has not.
+pub fn state(rng: &mut Rng, table: &[u8]) -> u16 {
+    let states = states(table);
+    match rng.below(20) {
+        0 => *rng.pick(&[states, states.wrapping_add(1), states.wrapping_add(256), 256, 65535]),
+        1 => rng.below(65536) as u16,
+        _ => rng.below(usize::from(states).max(1)) as u16,
+    }
+}
+
+fn event(rng: &mut Rng, signals: u8) -> u8 {
+    rng.byte_below(1 << signals)
+}
+
+/// A byte that is no event.
+fn no_event(rng: &mut Rng, signals: u8) -> u8 {
+    let first = 1 << signals;
+    let any = first + rng.byte_below(256 - usize::from(first));
+    *rng.pick(&[first, first + 1, any, any, 255])
+}
+
+/// At most 64 events, in one list of five with some that are none.
+pub fn list(rng: &mut Rng, table: &[u8]) -> Vec<u8> {
+    let signals = signals(rng, table);
+    let count = if rng.chance(50) { rng.below(12) } else { rng.between(0, 64) };
+    let mut events: Vec<u8> = (0..count).map(|_| event(rng, signals)).collect();
+    if count > 0 && rng.chance(20) {
+        for _ in 0..rng.between(1, 3) {
+            let place = rng.below(count);
+            events[place] = no_event(rng, signals);
+        }
+    }
+    events
+}
+
+/// Thousands of events: any, or few other than 0, the first of them late, so that a verdict may
+/// come late.
+pub fn long_list(rng: &mut Rng, table: &[u8]) -> Vec<u8> {
+    let signals = signals(rng, table);
+    let count = if rng.chance(50) { *rng.pick(&LONG) } else { rng.between(5000, 9000) };
+    let mut events = vec![0; count];
+    if rng.chance(50) {
+        events.iter_mut().for_each(|place| *place = event(rng, signals));
+    } else {
+        let first = rng.below(count);
+        for _ in 0..rng.below(300) {
+            let place = rng.between(first, count - 1);
+            events[place] = event(rng, signals);
+        }
+    }
+    if rng.chance(20) {
+        let anywhere = rng.below(count);
+        let place = *rng.pick(&[0, count - 1, anywhere]);
+        events[place] = no_event(rng, signals);
+    }
+    events
+}
+
+pub fn step(rng: &mut Rng, table: &[u8]) -> Step {
+    let signals = signals(rng, table);
+    let state = state(rng, table);
+    let event = if rng.chance(90) { event(rng, signals) } else { no_event(rng, signals) };
+    Step { state, event }
+}
+
+/// A step with counts that need not be the table's.
+pub fn stray(rng: &mut Rng, table: &[u8]) -> (u64, Step) {
+    let any = number(rng);
+    let refusal = rng.below(15) as u64 * (1 << 56) + rng.below(300) as u64;
+    let mut step = step(rng, table);
+    let counts = match rng.below(8) {
+        0 => any,
+        1 => refusal,
+        2 => 4 * 65536 + 65535,
+        3 => rng.between(0, 6) as u64 * 65536,
+        4 => 5 * 65536 + u64::from(states(table)),
+        5 => rng.between(0, 5) as u64 * 65536 + rng.below(65536) as u64,
+        _ => rng.between(0, 5) as u64 * 65536 + rng.below(300) as u64,
+    };
+    if rng.chance(30) {
+        step.state = rng.below(((counts % 65536) as usize).max(1)) as u16;
+    }
+    (counts, step)
+}

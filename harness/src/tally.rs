@@ -1,0 +1,55 @@
+//! What the cases met: how many of each kind and origin, how many answers and refusals.
+
+use std::collections::BTreeMap;
+use std::fmt;
+
+const KINDS: [&str; 5] = ["build", "check", "run", "step", "text"];
+const REFUSALS: std::ops::RangeInclusive<u8> = 1..=14;
+
+#[derive(Default)]
+pub struct Tally {
+    origins: BTreeMap<(&'static str, &'static str), u64>,
+    accepted: BTreeMap<&'static str, u64>,
+    refused: BTreeMap<u8, u64>,
+}
+
+impl Tally {
+    pub fn add_case(&mut self, kind: &'static str, origin: &'static str) {
+        *self.origins.entry((kind, origin)).or_default() += 1;
+    }
+
+    /// Adds an answer in which both sides agree: a refusal's number, or none.
+    pub fn add_answer(&mut self, kind: &'static str, refused_by: Option<u8>) {
+        match refused_by {
+            Some(number) => *self.refused.entry(number).or_default() += 1,
+            None => *self.accepted.entry(kind).or_default() += 1,
+        }
+    }
+
+    /// What has to be met at least once and was not.
+    pub fn missing(&self) -> Vec<String> {
+        let kinds = KINDS.iter().filter(|kind| !self.accepted.contains_key(*kind));
+        let numbers = REFUSALS.filter(|number| !self.refused.contains_key(number));
+        let kinds = kinds.map(|kind| format!("an answer of {kind} other than a refusal"));
+        kinds.chain(numbers.map(|number| format!("refusal {number}"))).collect()
+    }
+
+    fn write_kind(&self, out: &mut fmt::Formatter<'_>, kind: &str) -> fmt::Result {
+        let origins = || self.origins.iter().filter(|((of, _), _)| *of == kind);
+        let cases: u64 = origins().map(|(_, count)| count).sum();
+        let listed: Vec<String> =
+            origins().map(|((_, origin), count)| format!("{origin} {count}")).collect();
+        let accepted = self.accepted.get(kind).unwrap_or(&0);
+        write!(out, "{kind} {cases} ({}), accepted {accepted}; ", listed.join(", "))
+    }
+}
+
+impl fmt::Display for Tally {
+    fn fmt(&self, out: &mut fmt::Formatter<'_>) -> fmt::Result {
+        for kind in KINDS {
+            self.write_kind(out, kind)?;
+        }
+        let refused = self.refused.iter().map(|(number, count)| format!("{number}: {count}"));
+        write!(out, "refused {}", refused.collect::<Vec<_>>().join(", "))
+    }
+}
