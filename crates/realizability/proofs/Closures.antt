@@ -1,6 +1,5 @@
 -- The closure by passes over a matrix, and that it is crate ltl's closure of rows.
 use mathlib.Core.Path.{_≡_, refl, sym, ap, _∙_, subst}
-use mathlib.Core.Logic.{_⊎_, inl, inr}
 use mathlib.Core.Bool.{Bool, true, false, _||_}
 use mathlib.Core.List.{List}
 use Prim.Native.Nat.{ℕ, zero, suc, _+_, _≤_, _<_}
@@ -8,13 +7,11 @@ use native.Mathlib.Numerals.{add-one}
 use native.Mathlib.Omega.{arith}
 use lib.ListN.{length}
 use lib.Bits.{bitOr}
-use lib.Dec.{T}
 use Rattle.ltl.specs.Sets.{on}
 use Rattle.ltl.specs.Closure.{row, closure}
-use Rattle.ltl.proofs.Truth.{t-equal}
-use Rattle.ltl.proofs.Sets.{in-or, or-in}
 use Rattle.ltl.proofs.Closure.{row-pass}
 use Rattle.realizability.specs.Relations.{entry, Matrix, through, closed}
+use Rattle.realizability.proofs.Words.{on-or}
 
 abbrev joins : Bool → Bool → Bool → Bool
 joins a b c = elim a [ true ↦ b || c | false ↦ c ]
@@ -27,14 +24,14 @@ through-agree : {n : ℕ} {r s : ℕ → ℕ → Bool} → Agree n r s → (k : 
 through-agree h k l = record { is = λ x y a b. λ i. joins (h .is x k a l i) (h .is k y l b i) (h .is x y a b i) }
 
 -- the matrix m holds the ways through the numbers below k of the one from which it started
-pub record Closing (k n : ℕ) (old m : List (List Bool)) : Type 0 where
-  pub long : length m ≡ 128
+pub record Closing (k n : ℕ) (old m : List ℕ) : Type 0 where
+  pub long : length m ≡ 256
   pub holds : Matrix n (closed k (entry old)) m
 
-pub closing-none : {n : ℕ} {old : List (List Bool)} → length old ≡ 128 → Closing 0 n old old
+pub closing-none : {n : ℕ} {old : List ℕ} → length old ≡ 256 → Closing 0 n old old
 closing-none l = record { long = l; holds = record { is = λ x y a b. refl } }
 
-pub closing-more : {k n : ℕ} {old m : List (List Bool)} → Closing k n old m → (m′ : List (List Bool)) → k < n → length m′ ≡ 128 → Matrix n (through k (entry m)) m′
+pub closing-more : {k n : ℕ} {old m : List ℕ} → Closing k n old m → (m′ : List ℕ) → k < n → length m′ ≡ 256 → Matrix n (through k (entry m)) m′
     → Closing (k + 1) n old m′
 closing-more {k} {n} {old} {m} h m′ l long q = record {
   long = long;
@@ -42,22 +39,10 @@ closing-more {k} {n} {old} {m} h m′ l long q = record {
       (record { is = λ x y a b. q .is x y a b ∙ through-agree (record { is = h .holds .is }) k l .is x y a b });
 }
 
-pub closing-all : {k n : ℕ} {old m : List (List Bool)} → Closing k n old m → (j : ℕ) → k ≡ j → Matrix n (closed j (entry old)) m
+pub closing-all : {k n : ℕ} {old m : List ℕ} → Closing k n old m → (j : ℕ) → k ≡ j → Matrix n (closed j (entry old)) m
 closing-all {n = n} {old} {m} h j e = subst (λ (i : ℕ). Matrix n (closed i (entry old)) m) e (h .holds)
 
 -- ---- rows as numbers
-
-on-or : (A B i : ℕ) → on (bitOr A B) i ≡ (on A i || on B i)
-on-or A B i = t-equal (on (bitOr A B) i) (on A i || on B i) (λ t. into (on A i) (on B i) (in-or A B i t)) (λ t. or-in A B i (out (on A i) (on B i) t))
-  where
-    into : (a b : Bool) → T a ⊎ T b → T (a || b)
-    into true b t = tt
-    into false b (inl t) = absurd t
-    into false b (inr t) = t
-
-    out : (a b : Bool) → T (a || b) → T a ⊎ T b
-    out true b t = inl tt
-    out false b t = inr t
 
 -- the relation that rows of numbers hold
 abbrev pub related : List ℕ → ℕ → ℕ → Bool

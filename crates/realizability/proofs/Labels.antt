@@ -54,7 +54,7 @@ module _ (w n : ℕ) (places : List (List ℕ)) where
         ∙ on-set n (λ y. someEvent (below w) (λ e. eqb (labelAt n places e y) x)) y b);
   }
 
-  module _ (m : ℕ) (fairs : List (List ℕ)) (rows₀ rows : List (List Bool)) (core out : List Bool) where
+  module _ (m : ℕ) (fairs : List (List ℕ)) (rows₀ rows : List ℕ) (core out : List Bool) where
     pub found : 1 ≤ n → Matrix n (edge w n places) rows₀ → Matrix n (closed n (entry rows₀)) rows → Entries n (coreBy m w n (entry rows) (labelAt n places) (look fairs)) false core
         → Entries n (realizableBy n (entry rows) (λ i. getD core i false)) false out → Entries n (on (realizable (below w) n (before n (look places)) (look fairs) m)) false out
     unfolding realizable

@@ -1,5 +1,9 @@
 pub mod Searches
+pub mod Words
 pub mod Rows
 pub mod Closures
 pub mod Core
 pub mod Labels
+pub mod Gathers
+pub mod Parts
+pub mod Reach

@@ -1,52 +1,103 @@
--- Loops over the rows of a matrix.
-use mathlib.Core.Path.{_≡_, refl, sym, ap, _∙_, subst}
+-- Loops over the rows of a relation, and over its edges.
+use mathlib.Core.Path.{_≡_, refl, sym, ap, ap₂, _∙_, subst}
 use mathlib.Core.Bool.{Bool, true, false, _||_}
-use mathlib.Core.List.{List, []}
-use Prim.Native.Nat.{ℕ, _+_, _≤_, _<_}
+use mathlib.Core.List.{List}
+use Prim.Native.Nat.{ℕ, _+_, _*_, _/_, _%_, _≤_, _<_}
+use native.Mathlib.Numerals.{add-one}
 use native.Mathlib.Decide.{ℕ-discrete}
 use native.Mathlib.Omega.{arith}
-use lib.ListN.{length, getD, set, length-set}
-use lib.Seq.{getD-set-same, getD-set-other}
-use Rattle.valuation.specs.Entries.{Entries}
-use Rattle.realizability.specs.Relations.{entry, Matrix, throughRow, through}
+use lib.ListN.{length, getD, replicate, getD-replicate}
+use lib.Dec.{eqb}
+use borrow.Author.Tests.{eq-eqb, ne-eqb}
+use Rattle.ltl.specs.Sets.{on, someBelow}
+use Rattle.ltl.proofs.Sets.{on-zero}
+use Rattle.realizability.specs.Relations.{entry, Matrix, MarkedAt, Added, RowPassed, labelAt, edge, through}
+use Rattle.realizability.proofs.Words.{words-of}
+
+-- ---- the ways through k, row by row
 
 -- the rows below w are made, and the others are as they were
-pub record Made (w n : ℕ) (r : ℕ → ℕ → Bool) (old m : List (List Bool)) : Type 0 where
-  pub long : length m ≡ length old
+pub record Made (w n : ℕ) (r : ℕ → ℕ → Bool) (old m : List ℕ) : Type 0 where
+  pub long : length m ≡ 256
   pub done : (x y : ℕ) → x < w → y < n → entry m x y ≡ r x y
-  pub left : (x : ℕ) → w ≤ x → getD m x [] ≡ getD old x []
+  pub left : (x y : ℕ) → w ≤ x → y < n → entry m x y ≡ entry old x y
 
-pub made-none : {n : ℕ} {r : ℕ → ℕ → Bool} {old : List (List Bool)} → Made 0 n r old old
-made-none = record { long = refl; done = λ x y h l. absurd (omega arith); left = λ x h. refl }
+pub made-none : {n : ℕ} {r : ℕ → ℕ → Bool} {old : List ℕ} → length old ≡ 256 → Made 0 n r old old
+made-none l = record { long = l; done = λ x y h k. absurd (omega arith); left = λ x y h k. refl }
 
-pub made-more : {w n : ℕ} {r : ℕ → ℕ → Bool} {old m : List (List Bool)} {row : List Bool} → Made w n r old m → Entries n (r w) false row → w < length m → Made (w + 1) n r old (set m w row)
-made-more {w} {n} {r} {old} {m} {row} h q l = record {
-  long = length-set m w row ∙ h .long;
-  done = λ x y k j. go x y k j (ℕ-discrete x w);
-  left = λ x k. getD-set-other m w x row [] (omega arith) ∙ h .left x (omega arith);
-}
-  where
-    go : (x y : ℕ) → x < w + 1 → y < n → Dec (x ≡ w) → entry (set m w row) x y ≡ r x y
-    go x y k j (yes p) = rw (p, getD-set-same m w row [] l) (q .entry y j)
-    go x y k j (no p) = rw (getD-set-other m w x row [] p) (h .done x y (omega arith) j)
+abbrev joins : Bool → Bool → Bool → Bool
+joins a b c = elim a [ true ↦ b || c | false ↦ c ]
 
-pub made-all : {w n : ℕ} {r : ℕ → ℕ → Bool} {old m : List (List Bool)} → Made w n r old m → w ≡ n → Matrix n r m
+joins-same : {a b c a′ b′ c′ : Bool} → a ≡ a′ → b ≡ b′ → c ≡ c′ → joins a b c ≡ joins a′ b′ c′
+joins-same p q s i = joins (p i) (q i) (s i)
+
+module _ (k : ℕ) {w n : ℕ} {old m : List ℕ} (h : Made w n (through k (entry old)) old m) (few : n ≤ 128) (l : k < n) where
+  pub made-more : (new : List ℕ) → RowPassed (entry m w k) (getD old (2 * k) 0) (getD old (2 * k + 1) 0) w m new → Made (w + 1) n (through k (entry old)) old new
+  made-more new q = record {
+    long = q .long;
+    done = λ x y a b. go x y a b (ℕ-discrete x w);
+    left = λ x y a b. q .others x y (omega arith) (λ e. omega arith) ∙ h .left x y (omega arith) b;
+  }
+    where
+      here : (y : ℕ) → y < n → entry new w y ≡ through k (entry old) w y
+      here y b = q .row y (omega arith) ∙ joins-same (h .left w k (omega arith) l) (words-of old k y (omega arith)) (h .left w y (omega arith) b)
+
+      go : (x y : ℕ) → x < w + 1 → y < n → Dec (x ≡ w) → entry new x y ≡ through k (entry old) x y
+      go x y a b (yes e) = subst (λ (v : ℕ). entry new v y ≡ through k (entry old) v y) (sym e) (here y b)
+      go x y a b (no e) = q .others x y (omega arith) e ∙ h .done x y (omega arith) b
+
+pub made-all : {w n : ℕ} {r : ℕ → ℕ → Bool} {old m : List ℕ} → Made w n r old m → w ≡ n → Matrix n r m
 made-all h e = record { is = λ x y l k. h .done x y (omega arith) k }
 
--- ---- the ways through k
+-- ---- the edges of an event
 
-module _ (k n : ℕ) (via row : List Bool) where
-  abbrev test : ℕ → Bool → Bool
-  test y b = elim b [ true ↦ getD via y false || getD row y false | false ↦ getD row y false ]
+pub added-none : {n : ℕ} {r : ℕ → ℕ → Bool} {old : List ℕ} → length old ≡ 256 → Added 0 n r old old
+added-none l = record { long = l; done = λ x y a b c. absurd (omega arith); left = λ x y a b c. refl }
 
-  pub through-row : (next : List Bool) → getD row k false ≡ true → Entries n (λ y. getD via y false || getD row y false) false next → Entries n (throughRow k via row) false next
-  through-row next t h = record { entry = λ y l. h .entry y l ∙ sym (ap (test y) t) }
+abbrev or : Bool → Bool → Bool
+or a b = elim a [ true ↦ true | false ↦ b ]
 
-  pub past-row : getD row k false ≡ false → Entries n (throughRow k via row) false row
-  past-row t = record { entry = λ y l. sym (ap (test y) t) }
+module _ (f : ℕ → ℕ) {w n : ℕ} {old m : List ℕ} (h : Added w n (λ x y. eqb (f y) x) old m) (few : n ≤ 128) (x₁ : ℕ) (is : x₁ ≡ f w) where
+  pub added-more : (new : List ℕ) → MarkedAt x₁ w m new → Added (w + 1) n (λ x y. eqb (f y) x) old new
+  added-more new q = record {
+    long = q .long;
+    done = λ x y a b c. go x y a b c (ℕ-discrete y w) (ℕ-discrete x x₁);
+    left = λ x y a b c. q .column-else x y (omega arith) (λ e. omega arith) ∙ h .left x y a (omega arith) c;
+  }
+    where
+      go : (x y : ℕ) → x < n → y < w + 1 → y < n → Dec (y ≡ w) → Dec (x ≡ x₁) → entry new x y ≡ or (eqb (f y) x) (entry old x y)
+      go x y a b c (yes d) (yes e) =
+          ap₂ (entry new) e d ∙ q .there ∙ sym (ap (λ (t : Bool). or t (entry old x y)) (eq-eqb (f y) x (ap f d ∙ sym is ∙ sym e)))
+      go x y a b c (yes d) (no e) =
+          q .row-else x y (omega arith) e ∙ h .left x y a (omega arith) c
+          ∙ sym (ap (λ (t : Bool). or t (entry old x y)) (ne-eqb (f y) x (λ g. e (sym g ∙ ap f d ∙ sym is))))
+      go x y a b c (no d) e = q .column-else x y (omega arith) d ∙ h .done x y a (omega arith) c
 
--- the row of x, while those before it are made and it stands as it was
-pub through-made : (k : ℕ) {w n : ℕ} {old m : List (List Bool)} → Made w n (through k (entry old)) old m → (next : List Bool) → Entries n (throughRow k (getD old k []) (getD m w [])) false next
-    → Entries n (through k (entry old) w) false next
-through-made k {w} {n} {old} {m} h next q =
-    subst (λ (row : List Bool). Entries n (throughRow k (getD old k []) row) false next) (h .left w (omega arith)) q
+pub added-to : {w n : ℕ} {r : ℕ → ℕ → Bool} {old m : List ℕ} → Added w n r old m → (j : ℕ) → w ≡ j → Added j n r old m
+added-to {n = n} {r} {old} {m} h j e = subst (λ (k : ℕ). Added k n r old m) e h
+
+-- ---- the edges of all events
+
+pub record Edges (w n : ℕ) (places : List (List ℕ)) (m : List ℕ) : Type 0 where
+  pub long : length m ≡ 256
+  pub holds : Matrix n (edge w n places) m
+
+module _ {n : ℕ} {places : List (List ℕ)} where
+  pub edges-none : n ≤ 128 → Edges 0 n places (replicate 256 0)
+  edges-none few = record {
+    long = refl;
+    holds = record { is = λ x y a b. ap (λ (A : ℕ). on A (y % 64)) (getD-replicate 256 (2 * x + y / 64) 0 0 (omega arith)) ∙ on-zero (y % 64) };
+  }
+
+  pub edges-more : {e : ℕ} {m : List ℕ} → Edges e n places m → (new : List ℕ) → Added n n (λ x y. eqb (labelAt n places e y) x) m new → Edges (e + 1) n places new
+  edges-more {e} {m} h new q = record {
+    long = q .long;
+    holds = record {
+      is = λ x y a b.
+          q .done x y a b b ∙ ap (or (eqb (labelAt n places e y) x)) (h .holds .is x y a b)
+          ∙ ap (λ (j : ℕ). someBelow j (λ e. eqb (labelAt n places e y) x)) (sym (add-one e));
+    };
+  }
+
+  pub edges-to : {w : ℕ} {m : List ℕ} → Edges w n places m → (j : ℕ) → w ≡ j → Matrix n (edge j n places) m
+  edges-to {m = m} h j e = subst (λ (k : ℕ). Matrix n (edge k n places) m) e (h .holds)

@@ -1,4 +1,4 @@
--- Loops that look for a number, that test all of them, and that join the sets of all of them (specs/Sets of crate ltl).
+-- Loops that look for a number and that test all of them, and unions over the same sets (specs/Sets of crate ltl).
 use mathlib.Core.Path.{ap₂, _≡_, refl, sym, ap, _∙_, subst}
 use mathlib.Core.Bool.{Bool, true, false}
 use Prim.Native.Nat.{zero, suc, ℕ, _+_, _<_}
@@ -10,11 +10,11 @@ use lib.Bits.{bitOr}
 use Rattle.ltl.specs.Sets.{someBelow, everyBelow, unionBelow}
 use Rattle.ltl.proofs.Searches.{→some, every→}
 
-is-true : (b : Bool) → T b → b ≡ true
+pub is-true : (b : Bool) → T b → b ≡ true
 is-true true t = refl
 is-true false t = absurd t
 
-is-false : (b : Bool) → (T b → ⊥) → b ≡ false
+pub is-false : (b : Bool) → (T b → ⊥) → b ≡ false
 is-false true f = absurd (f tt)
 is-false false f = refl
 
@@ -49,19 +49,6 @@ all-all {f = f} h m e = sym (h .is) ∙ ap (λ (k : ℕ). everyBelow k f) e
 
 pub not-all : (m : ℕ) (f : ℕ → Bool) (i : ℕ) → i < m → f i ≡ false → false ≡ everyBelow m f
 not-all m f i h e = sym (is-false (everyBelow m f) (λ t. subst T e (every→ m f t i h)))
-
--- the union so far
-pub record Union (n : ℕ) (f : ℕ → ℕ) (A : ℕ) : Type 0 where
-  pub is : A ≡ unionBelow n f
-
-pub union-none : {f : ℕ → ℕ} → Union 0 f 0
-union-none = record { is = refl }
-
-pub union-more : {n : ℕ} {f : ℕ → ℕ} {A : ℕ} (B : ℕ) → Union n f A → B ≡ f n → Union (n + 1) f (bitOr B A)
-union-more {n} B h e = record { is = rw (h .is, e, add-one) }
-
-pub union-all : {n : ℕ} {f : ℕ → ℕ} {A : ℕ} → Union n f A → (m : ℕ) → n ≡ m → A ≡ unionBelow m f
-union-all {f = f} h m e = h .is ∙ ap (λ (k : ℕ). unionBelow k f) e
 
 -- ---- over the same tests, or the same sets
 

@@ -1,23 +1,38 @@
 -- The labels that some continuation has, as crate ltl finds them, over a relation between labels in the place of its rows.
 use mathlib.Core.Path.{_≡_}
-use mathlib.Core.Bool.{Bool, true, false, _||_}
-use mathlib.Core.List.{List, []}
-use Prim.Native.Nat.{ℕ, zero, suc, _≤_, _<_}
+use mathlib.Core.Bool.{Bool, true, false, _&&_, _||_}
+use mathlib.Core.List.{List}
+use Prim.Native.Nat.{ℕ, zero, suc, _+_, _*_, _/_, _%_, _≤_, _<_}
 use lib.ListN.{length, getD}
+use lib.Bits.{bitOr}
 use lib.Dec.{eqb}
+use Rattle.sequences.specs.Tabulate.{leastBelow}
 use Rattle.meaning.specs.Traces.{Alphabet}
-use Rattle.ltl.specs.Sets.{someBelow, unionBelow}
+use Rattle.ltl.specs.Sets.{on, someBelow, unionBelow}
 use Rattle.ltl.specs.Realizable.{allOf}
 use Rattle.ltl.specs.Residuals.{before}
 use Rattle.ltl.specs.Keys.{look}
 
--- the entry of a matrix
-abbrev pub entry : List (List Bool) → ℕ → ℕ → Bool
-entry m x y = getD (getD m x []) y false
+-- whether a matrix relates x to y: row x is the words 2x and 2x + 1 of 64 bits
+abbrev pub entry : List ℕ → ℕ → ℕ → Bool
+entry m x y = on (getD m (2 * x + y / 64) 0) (y % 64)
 
 -- the relation below n that a matrix holds, whatever else it holds
-pub record Matrix (n : ℕ) (r : ℕ → ℕ → Bool) (m : List (List Bool)) : Type 0 where
+pub record Matrix (n : ℕ) (r : ℕ → ℕ → Bool) (m : List ℕ) : Type 0 where
   pub is : (x y : ℕ) → x < n → y < n → entry m x y ≡ r x y
+
+-- the pair of x and y is added, and no other
+pub record MarkedAt (x y : ℕ) (old new : List ℕ) : Type 0 where
+  pub long : length new ≡ 256
+  pub there : entry new x y ≡ true
+  pub row-else : (v z : ℕ) → z < 128 → (v ≡ x → ⊥) → entry new v z ≡ entry old v z
+  pub column-else : (v z : ℕ) → z < 128 → (z ≡ y → ⊥) → entry new v z ≡ entry old v z
+
+-- the pairs of r with a second number below w are added, of those below n
+pub record Added (w n : ℕ) (r : ℕ → ℕ → Bool) (old new : List ℕ) : Type 0 where
+  pub long : length new ≡ 256
+  pub done : (x y : ℕ) → x < n → y < w → y < n → entry new x y ≡ elim (r x y) [ true ↦ true | false ↦ entry old x y ]
+  pub left : (x y : ℕ) → x < n → w ≤ y → y < n → entry new x y ≡ entry old x y
 
 -- all events below w
 abbrev pub below : ℕ → Alphabet
@@ -33,9 +48,19 @@ edge w n places x y = someBelow w (λ e. eqb (labelAt n places e y) x)
 
 -- ---- closure
 
--- a row with the ways through k, where `via` is the row of k
-abbrev pub throughRow : ℕ → List Bool → List Bool → ℕ → Bool
-throughRow k via row y = elim (getD row k false) [ true ↦ getD via y false || getD row y false | false ↦ getD row y false ]
+-- a set, or none
+abbrev pub onlyIf : Bool → ℕ → ℕ
+onlyIf test A = elim test [ true ↦ A | false ↦ 0 ]
+
+-- y is in the set whose words are a and b
+abbrev pub inWords : ℕ → ℕ → ℕ → Bool
+inWords a b y = on (elim (y / 64) [ zero ↦ a | suc _ ↦ b ]) (y % 64)
+
+-- row x is joined with the words a and b where the test holds, and the others are as they were
+pub record RowPassed (test : Bool) (a b x : ℕ) (old new : List ℕ) : Type 0 where
+  pub long : length new ≡ 256
+  pub row : (y : ℕ) → y < 128 → entry new x y ≡ elim test [ true ↦ inWords a b y || entry old x y | false ↦ entry old x y ]
+  pub others : (v y : ℕ) → y < 128 → (v ≡ x → ⊥) → entry new v y ≡ entry old v y
 
 -- with the ways through k
 abbrev pub through : ℕ → (ℕ → ℕ → Bool) → ℕ → ℕ → Bool
@@ -60,6 +85,42 @@ aroundBy w n r before fair c = unionBelow w (λ e. unionBelow n (viaBy r before 
 
 abbrev pub coreBy : ℕ → ℕ → ℕ → (ℕ → ℕ → Bool) → (ℕ → ℕ → ℕ) → (ℕ → ℕ → ℕ) → ℕ → Bool
 coreBy m w n r before fair c = elim (r c c) [ true ↦ allOf m (aroundBy w n r before fair c) | false ↦ false ]
+
+-- ---- parts: labels that all lead to each other
+
+abbrev pub bothWays : (ℕ → ℕ → Bool) → ℕ → ℕ → Bool
+bothWays r x c = r x c && r c x
+
+-- the part of c, by its first label
+abbrev pub partBy : (ℕ → ℕ → Bool) → ℕ → ℕ
+partBy r c = leastBelow c (λ x. bothWays r x c)
+
+pub record Within (n : ℕ) (parts : List ℕ) : Type 0 where
+  pub is : (y : ℕ) → y < n → getD parts y 0 < n
+
+-- the set of temporal nodes to which the edge by e to y is fair, if both its ends are in the part p
+abbrev pub withinPart : List ℕ → (ℕ → ℕ → ℕ) → (ℕ → ℕ → ℕ) → ℕ → ℕ → ℕ → ℕ
+withinPart parts before fair e p y =
+    elim (eqb (getD parts y 0) p) [ true ↦ elim (eqb (getD parts (before e y) 0) p) [ true ↦ fair e y | false ↦ 0 ] | false ↦ 0 ]
+
+-- the sets that the labels below w give to each p below n, added to those before
+pub record Gathered (w n : ℕ) (f : ℕ → ℕ → ℕ) (old new : List ℕ) : Type 0 where
+  pub long : length new ≡ 128
+  pub is : (p : ℕ) → p < n → getD new p 0 ≡ bitOr (unionBelow w (f p)) (getD old p 0)
+
+-- the sets that w events and n labels give to each p below n
+pub record AllGathered (w n : ℕ) (f : ℕ → ℕ → ℕ → ℕ) (sets : List ℕ) : Type 0 where
+  pub long : length sets ≡ 128
+  pub is : (p : ℕ) → p < n → getD sets p 0 ≡ unionBelow w (λ e. unionBelow n (f e p))
+
+-- r is transitive and has all edges
+pub record Reaches (w n : ℕ) (places : List (List ℕ)) (r : ℕ → ℕ → Bool) : Type 0 where
+  pub via : (x v y : ℕ) → x < n → v < n → y < n → r x v ≡ true → r v y ≡ true → r x y ≡ true
+  pub edges : (e y : ℕ) → e < w → y < n → r (labelAt n places e y) y ≡ true
+
+-- c is on a closed walk, and all temporal nodes are in the set of its part
+abbrev pub coreIn : ℕ → (ℕ → ℕ → Bool) → List ℕ → List ℕ → ℕ → Bool
+coreIn m r parts sets c = elim (r c c) [ true ↦ allOf m (getD sets (getD parts c 0) 0) | false ↦ false ]
 
 abbrev pub toCoreBy : (ℕ → ℕ → Bool) → (ℕ → Bool) → ℕ → ℕ → Bool
 toCoreBy r core x c = elim (core c) [ true ↦ leadsBy r x c | false ↦ false ]

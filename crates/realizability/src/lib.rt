@@ -1,112 +1,119 @@
 // The labels that some continuation has: edges between labels, their closure, the core, and what leads to it.
 ghost use mathlib.Core.Path.{_≡_};
-ghost use mathlib.Core.Bool.{Bool, false, _||_};
+ghost use mathlib.Core.Bool.{false};
 ghost use mathlib.Core.List.{List};
 ghost use Prim.Native.Nat.{ℕ, _+_, _%_, _≤_, _<_};
 ghost use lib.ListN.{length, getD};
-ghost use Rattle.ltl.specs.Sets.{on, unionBelow};
+ghost use lib.Dec.{eqb};
+ghost use Rattle.ltl.specs.Sets.{on};
 ghost use Rattle.ltl.specs.Realizable.{allOf, realizable};
 ghost use Rattle.valuation.specs.Entries.{Entries};
-ghost use Rattle.realizability.specs.Relations.{entry, Matrix, throughRow, labelAt, edge, through, closed, leadsBy, viaBy, aroundBy, coreBy, toCoreBy, realizableBy, Sizes, below};
+ghost use Rattle.realizability.specs.Relations.{entry, Matrix, MarkedAt, Added, onlyIf, RowPassed, labelAt, edge, through, closed, leadsBy, bothWays, partBy, Within, withinPart, Gathered, AllGathered, Reaches, coreIn, coreBy, toCoreBy, realizableBy, Sizes, below};
 ghost use Rattle.ltl.specs.Residuals.{before};
 ghost use Rattle.ltl.specs.Keys.{look};
 use valuation::holds;
 use wire::wide;
 
-// The label within a place.
+// The label within a place: the remainder, mostly without a division.
 fn label_in(place: u8, labels: usize) -> usize
     requires { ⌜ 1 ≤ labels ⌝ }
     ensures { λ r. ⌜ (r ≡ place % labels) × (r < labels) ⌝ }
 {
-    wide(place) % labels
+    let p = wide(place);
+    if p < labels {
+        return p;
+    }
+    let q = p - labels;
+    if q < labels {
+        return q;
+    }
+    p % labels
 }
 
-// Whether an edge leads from x to y.
-fn is_edge(events: usize, labels: usize, places: &[[u8; 128]; 16], x: usize, y: usize) -> bool
-    requires { ⌜ (events ≤ 16) × (1 ≤ labels) × (labels ≤ 128) × (y < labels) ⌝ }
-    requires { ⌜ length {A = List ℕ} (now places) ≡ 16 ⌝ }
-    ensures { λ r. ⌜ r ≡ edge events labels (now (places .entry)) x y ⌝ }
+// ---- a relation between labels: row x is the words 2x and 2x + 1, and y is its bit y
+
+fn has(rows: &[u64; 256], x: usize, y: usize) -> bool
+    requires { ⌜ (x < 128) × (y < 128) × (length (now rows) ≡ 256) ⌝ }
+    ensures { λ r. ⌜ r ≡ entry (now (rows .entry)) x y ⌝ }
 {
+    (rows[2 * x + y / 64] >> (y % 64)) % 2 == 1
+}
+
+// Adds the pair of x and y.
+fn mark(rows: &mut [u64; 256], x: usize, y: usize)
+    requires { ⌜ (x < 128) × (y < 128) × (length (now rows) ≡ 256) ⌝ }
+    ensures { λ _. ⌜ MarkedAt x y (now (rows .entry)) (now (rows .exit)) ⌝ }
+{
+    let i = 2 * x + y / 64;
+    let bit: u64 = 1 << (y % 64);
+    rows[i] = bit | rows[i];
+}
+
+// ---- edges
+
+// Adds the edges of an event.
+fn mark_event(rows: &mut [u64; 256], places: &[[u8; 128]; 16], labels: usize, e: usize)
+    requires { ⌜ (e < 16) × (1 ≤ labels) × (labels ≤ 128) ⌝ }
+    requires { ⌜ (length {A = List ℕ} (now places) ≡ 16) × (length (now rows) ≡ 256) ⌝ }
+    ensures { λ _. ⌜ Added labels labels (λ x y. eqb (labelAt labels (now (places .entry)) e y) x) (now (rows .entry)) (now (rows .exit)) ⌝ }
+{
+    let mut y: usize = 0;
+    while y < labels {
+        let x = label_in(places[e][y], labels);
+        mark(rows, x, y);
+        y += 1;
+    }
+}
+
+fn edge_rows(events: usize, labels: usize, places: &[[u8; 128]; 16], rows: &mut [u64; 256])
+    requires { ⌜ (events ≤ 16) × (1 ≤ labels) × (labels ≤ 128) ⌝ }
+    requires { ⌜ length {A = List ℕ} (now places) ≡ 16 ⌝ }
+    ensures { λ _. ⌜ (length (now (rows .exit)) ≡ 256) × Matrix labels (edge events labels (now (places .entry))) (now (rows .exit)) ⌝ }
+{
+    *rows = [0; 256];
     let mut e: usize = 0;
     while e < events {
-        if label_in(places[e][y], labels) == x {
-            return true;
-        }
+        mark_event(rows, places, labels, e);
         e += 1;
     }
-    false
 }
 
-fn edge_row(events: usize, labels: usize, places: &[[u8; 128]; 16], x: usize) -> [bool; 128]
-    requires { ⌜ (events ≤ 16) × (1 ≤ labels) × (labels ≤ 128) ⌝ }
-    requires { ⌜ length {A = List ℕ} (now places) ≡ 16 ⌝ }
-    ensures { λ r. ⌜ Entries labels (edge events labels (now (places .entry)) x) false r ⌝ }
+// ---- closure
+
+// A set, or none.
+fn only_if(test: bool, set: u64) -> u64
+    ensures { λ r. ⌜ r ≡ onlyIf test set ⌝ }
 {
-    let mut row = [false; 128];
-    let mut y: usize = 0;
-    while y < labels {
-        row[y] = is_edge(events, labels, places, x, y);
-        y += 1;
-    }
-    row
+    if test { set } else { 0 }
 }
 
-fn edge_rows(events: usize, labels: usize, places: &[[u8; 128]; 16], rows: &mut [[bool; 128]; 128])
-    requires { ⌜ (events ≤ 16) × (1 ≤ labels) × (labels ≤ 128) ⌝ }
-    requires { ⌜ (length {A = List ℕ} (now places) ≡ 16) × (length {A = List Bool} (now rows) ≡ 128) ⌝ }
-    ensures { λ _. ⌜ (length {A = List Bool} (now (rows .exit)) ≡ 128) × Matrix labels (edge events labels (now (places .entry))) (now (rows .exit)) ⌝ }
+// Adds the ways through k to the row of x, where a and b are the row of k.
+fn pass_row(k: usize, a: u64, b: u64, x: usize, rows: &mut [u64; 256])
+    requires { ⌜ (k < 128) × (x < 128) × (length (now rows) ≡ 256) ⌝ }
+    ensures { λ _. ⌜ RowPassed (entry (now (rows .entry)) x k) a b x (now (rows .entry)) (now (rows .exit)) ⌝ }
 {
+    let there = has(rows, x, k);
+    rows[2 * x] = only_if(there, a) | rows[2 * x];
+    rows[2 * x + 1] = only_if(there, b) | rows[2 * x + 1];
+}
+
+fn pass(k: usize, labels: usize, rows: &mut [u64; 256])
+    requires { ⌜ (labels ≤ 128) × (k < labels) × (length (now rows) ≡ 256) ⌝ }
+    ensures { λ _. ⌜ (length (now (rows .exit)) ≡ 256) × Matrix labels (through k (entry (now (rows .entry)))) (now (rows .exit)) ⌝ }
+{
+    let a = rows[2 * k];
+    let b = rows[2 * k + 1];
     let mut x: usize = 0;
     while x < labels {
-        let row = edge_row(events, labels, places, x);
-        rows[x] = row;
-        x += 1;
-    }
-}
-
-// Two rows joined.
-fn joined(labels: usize, through: [bool; 128], row: [bool; 128]) -> [bool; 128]
-    requires { ⌜ labels ≤ 128 ⌝ }
-    ensures { λ r. ⌜ Entries labels (λ y. getD through y false || getD row y false) false r ⌝ }
-{
-    let mut out = row;
-    let mut y: usize = 0;
-    while y < labels {
-        out[y] = through[y] | row[y];
-        y += 1;
-    }
-    out
-}
-
-// A row with the ways through k, where `via` is the row of k.
-fn passed_row(k: usize, labels: usize, via: [bool; 128], row: [bool; 128]) -> [bool; 128]
-    requires { ⌜ (labels ≤ 128) × (k < labels) ⌝ }
-    ensures { λ r. ⌜ Entries labels (throughRow k via row) false r ⌝ }
-{
-    if row[k] {
-        return joined(labels, via, row);
-    }
-    row
-}
-
-fn pass(k: usize, labels: usize, rows: &mut [[bool; 128]; 128])
-    requires { ⌜ (labels ≤ 128) × (k < labels) × (length {A = List Bool} (now rows) ≡ 128) ⌝ }
-    ensures { λ _. ⌜ (length {A = List Bool} (now (rows .exit)) ≡ 128) × Matrix labels (through k (entry (now (rows .entry)))) (now (rows .exit)) ⌝ }
-{
-    let via = rows[k];
-    let mut x: usize = 0;
-    while x < labels {
-        let row = rows[x];
-        let next = passed_row(k, labels, via, row);
-        rows[x] = next;
+        pass_row(k, a, b, x, rows);
         x += 1;
     }
 }
 
 // The ways through all labels.
-fn close(labels: usize, rows: &mut [[bool; 128]; 128])
-    requires { ⌜ (labels ≤ 128) × (length {A = List Bool} (now rows) ≡ 128) ⌝ }
-    ensures { λ _. ⌜ (length {A = List Bool} (now (rows .exit)) ≡ 128) × Matrix labels (closed labels (entry (now (rows .entry)))) (now (rows .exit)) ⌝ }
+fn close(labels: usize, rows: &mut [u64; 256])
+    requires { ⌜ (labels ≤ 128) × (length (now rows) ≡ 256) ⌝ }
+    ensures { λ _. ⌜ (length (now (rows .exit)) ≡ 256) × Matrix labels (closed labels (entry (now (rows .entry)))) (now (rows .exit)) ⌝ }
 {
     let mut k: usize = 0;
     while k < labels {
@@ -115,86 +122,104 @@ fn close(labels: usize, rows: &mut [[bool; 128]; 128])
     }
 }
 
+// ---- the core
+
 // Whether the rows lead from x to y, or we are there.
-fn leads(rows: &[[bool; 128]; 128], x: usize, y: usize) -> bool
-    requires { ⌜ (x < 128) × (y < 128) × (length {A = List Bool} (now rows) ≡ 128) ⌝ }
+fn leads(rows: &[u64; 256], x: usize, y: usize) -> bool
+    requires { ⌜ (x < 128) × (y < 128) × (length (now rows) ≡ 256) ⌝ }
     ensures { λ r. ⌜ r ≡ leadsBy (entry (now (rows .entry))) x y ⌝ }
 {
     if x == y {
         return true;
     }
-    rows[x][y]
+    has(rows, x, y)
 }
 
-// The temporal nodes to which the edge by e to y is fair, if it is on a closed walk through c.
-fn fair_via(
-    rows: &[[bool; 128]; 128],
+// Whether x leads to c and back.
+fn both_ways(rows: &[u64; 256], x: usize, c: usize) -> bool
+    requires { ⌜ (x < 128) × (c < 128) × (length (now rows) ≡ 256) ⌝ }
+    ensures { λ r. ⌜ r ≡ bothWays (entry (now (rows .entry))) x c ⌝ }
+{
+    let there = has(rows, x, c);
+    let back = has(rows, c, x);
+    there & back
+}
+
+// The part of c, labels that all lead to each other, by its first label.
+fn part(rows: &[u64; 256], c: usize) -> usize
+    requires { ⌜ (c < 128) × (length (now rows) ≡ 256) ⌝ }
+    ensures { λ r. ⌜ r ≡ partBy (entry (now (rows .entry))) c ⌝ }
+{
+    let mut x: usize = 0;
+    while x < c {
+        if both_ways(rows, x, c) {
+            return x;
+        }
+        x += 1;
+    }
+    c
+}
+
+fn part_row(rows: &[u64; 256], labels: usize) -> [usize; 128]
+    requires { ⌜ (labels ≤ 128) × (length (now rows) ≡ 256) ⌝ }
+    ensures { λ r. ⌜ Entries labels (partBy (entry (now (rows .entry)))) 0 r ⌝ }
+{
+    let mut parts = [0usize; 128];
+    let mut c: usize = 0;
+    while c < labels {
+        parts[c] = part(rows, c);
+        c += 1;
+    }
+    parts
+}
+
+fn fair_if(test: bool, set: u8) -> u8
+    ensures { λ r. ⌜ r ≡ onlyIf test set ⌝ }
+{
+    if test { set } else { 0 }
+}
+
+// Adds to the set of each part the temporal nodes to which its own edges by e are fair.
+fn gather_event(
+    parts: &[usize; 128],
     places: &[[u8; 128]; 16],
     fairs: &[[u8; 128]; 16],
     labels: usize,
-    c: usize,
     e: usize,
-    y: usize,
-) -> u8
+    sets: &mut [u8; 128],
+)
     requires { ⌜ Sizes (e + 1) labels (now places) (now fairs) ⌝ }
-    requires { ⌜ (c < labels) × (y < labels) × (length {A = List Bool} (now rows) ≡ 128) ⌝ }
-    ensures { λ r. ⌜ r ≡ viaBy (entry (now (rows .entry))) (labelAt labels (now (places .entry))) (look (now (fairs .entry))) c e y ⌝ }
+    requires { ⌜ (length (now parts) ≡ 128) × (length (now sets) ≡ 128) × Within labels (now parts) ⌝ }
+    ensures { λ _. ⌜ Gathered labels labels (withinPart (now (parts .entry)) (labelAt labels (now (places .entry))) (look (now (fairs .entry))) e) (now (sets .entry)) (now (sets .exit)) ⌝ }
 {
-    let x = label_in(places[e][y], labels);
-    let there = leads(rows, c, x);
-    if !there {
-        return 0;
-    }
-    let back = leads(rows, y, c);
-    if !back {
-        return 0;
-    }
-    fairs[e][y]
-}
-
-fn fair_by(
-    rows: &[[bool; 128]; 128],
-    places: &[[u8; 128]; 16],
-    fairs: &[[u8; 128]; 16],
-    labels: usize,
-    c: usize,
-    e: usize,
-) -> u8
-    requires { ⌜ Sizes (e + 1) labels (now places) (now fairs) ⌝ }
-    requires { ⌜ (c < labels) × (length {A = List Bool} (now rows) ≡ 128) ⌝ }
-    ensures { λ r. ⌜ r ≡ unionBelow labels (viaBy (entry (now (rows .entry))) (labelAt labels (now (places .entry))) (look (now (fairs .entry))) c e) ⌝ }
-{
-    let mut set: u8 = 0;
     let mut y: usize = 0;
     while y < labels {
-        let via = fair_via(rows, places, fairs, labels, c, e, y);
-        set = via | set;
+        let x = label_in(places[e][y], labels);
+        let p = parts[y];
+        let add = fair_if(parts[x] == p, fairs[e][y]);
+        sets[p] = add | sets[p];
         y += 1;
     }
-    set
 }
 
-// Those to which some edge on a closed walk through c is fair.
-fn fair_around(
-    rows: &[[bool; 128]; 128],
+fn gather(
+    parts: &[usize; 128],
     places: &[[u8; 128]; 16],
     fairs: &[[u8; 128]; 16],
     events: usize,
     labels: usize,
-    c: usize,
-) -> u8
+    sets: &mut [u8; 128],
+)
     requires { ⌜ Sizes events labels (now places) (now fairs) ⌝ }
-    requires { ⌜ (c < labels) × (length {A = List Bool} (now rows) ≡ 128) ⌝ }
-    ensures { λ r. ⌜ r ≡ aroundBy events labels (entry (now (rows .entry))) (labelAt labels (now (places .entry))) (look (now (fairs .entry))) c ⌝ }
+    requires { ⌜ (length (now parts) ≡ 128) × Within labels (now parts) ⌝ }
+    ensures { λ _. ⌜ AllGathered events labels (withinPart (now (parts .entry)) (labelAt labels (now (places .entry))) (look (now (fairs .entry)))) (now (sets .exit)) ⌝ }
 {
-    let mut set: u8 = 0;
+    *sets = [0; 128];
     let mut e: usize = 0;
     while e < events {
-        let by = fair_by(rows, places, fairs, labels, c, e);
-        set = by | set;
+        gather_event(parts, places, fairs, labels, e, sets);
         e += 1;
     }
-    set
 }
 
 // Whether the first m temporal nodes are all in a set.
@@ -211,28 +236,41 @@ fn all_of(m: u8, set: u8) -> bool
     true
 }
 
-// Whether c is on a closed walk that is fair to every temporal node.
-fn is_core(
-    rows: &[[bool; 128]; 128],
-    places: &[[u8; 128]; 16],
-    fairs: &[[u8; 128]; 16],
-    m: u8,
-    events: usize,
-    labels: usize,
-    c: usize,
-) -> bool
-    requires { ⌜ Sizes events labels (now places) (now fairs) ⌝ }
-    requires { ⌜ (c < labels) × (length {A = List Bool} (now rows) ≡ 128) ⌝ }
-    ensures { λ r. ⌜ r ≡ coreBy m events labels (entry (now (rows .entry))) (labelAt labels (now (places .entry))) (look (now (fairs .entry))) c ⌝ }
+// Whether c is on a closed walk, and all temporal nodes are in the set of its part.
+fn is_core(rows: &[u64; 256], parts: &[usize; 128], sets: &[u8; 128], m: u8, c: usize) -> bool
+    requires { ⌜ (c < 128) × (length (now rows) ≡ 256) × (length (now parts) ≡ 128) × (length (now sets) ≡ 128) ⌝ }
+    requires { ⌜ getD (now parts) c 0 < 128 ⌝ }
+    ensures { λ r. ⌜ r ≡ coreIn m (entry (now (rows .entry))) (now (parts .entry)) (now (sets .entry)) c ⌝ }
 {
-    if rows[c][c] {
-        return all_of(m, fair_around(rows, places, fairs, events, labels, c));
+    if has(rows, c, c) {
+        return all_of(m, sets[parts[c]]);
     }
     false
 }
 
+fn core_in(
+    rows: &[u64; 256],
+    parts: &[usize; 128],
+    sets: &[u8; 128],
+    m: u8,
+    labels: usize,
+) -> [bool; 128]
+    requires { ⌜ (labels ≤ 128) × (length (now rows) ≡ 256) × (length (now parts) ≡ 128) × (length (now sets) ≡ 128) ⌝ }
+    requires { ⌜ Within labels (now parts) ⌝ }
+    ensures { λ r. ⌜ Entries labels (coreIn m (entry (now (rows .entry))) (now (parts .entry)) (now (sets .entry))) false r ⌝ }
+{
+    let mut core = [false; 128];
+    let mut c: usize = 0;
+    while c < labels {
+        core[c] = is_core(rows, parts, sets, m, c);
+        c += 1;
+    }
+    core
+}
+
+// The labels on a closed walk that is fair to every temporal node.
 fn core_row(
-    rows: &[[bool; 128]; 128],
+    rows: &[u64; 256],
     places: &[[u8; 128]; 16],
     fairs: &[[u8; 128]; 16],
     m: u8,
@@ -240,22 +278,19 @@ fn core_row(
     labels: usize,
 ) -> [bool; 128]
     requires { ⌜ Sizes events labels (now places) (now fairs) ⌝ }
-    requires { ⌜ length {A = List Bool} (now rows) ≡ 128 ⌝ }
+    requires { ⌜ (length (now rows) ≡ 256) × Reaches events labels (now places) (entry (now rows)) ⌝ }
     ensures { λ r. ⌜ Entries labels (coreBy m events labels (entry (now (rows .entry))) (labelAt labels (now (places .entry))) (look (now (fairs .entry)))) false r ⌝ }
 {
-    let mut core = [false; 128];
-    let mut c: usize = 0;
-    while c < labels {
-        core[c] = is_core(rows, places, fairs, m, events, labels, c);
-        c += 1;
-    }
-    core
+    let parts = part_row(rows, labels);
+    let mut sets = [0u8; 128];
+    gather(&parts, places, fairs, events, labels, &mut sets);
+    core_in(rows, &parts, &sets, m, labels)
 }
 
 // Whether c is in the core and the rows lead there from x.
-fn leads_to(rows: &[[bool; 128]; 128], core: &[bool; 128], x: usize, c: usize) -> bool
+fn leads_to(rows: &[u64; 256], core: &[bool; 128], x: usize, c: usize) -> bool
     requires { ⌜ (x < 128) × (c < 128) ⌝ }
-    requires { ⌜ (length {A = List Bool} (now rows) ≡ 128) × (length (now core) ≡ 128) ⌝ }
+    requires { ⌜ (length (now rows) ≡ 256) × (length (now core) ≡ 128) ⌝ }
     ensures { λ r. ⌜ r ≡ toCoreBy (entry (now (rows .entry))) (λ i. getD (now (core .entry)) i false) x c ⌝ }
 {
     if core[c] {
@@ -264,9 +299,9 @@ fn leads_to(rows: &[[bool; 128]; 128], core: &[bool; 128], x: usize, c: usize) -
     false
 }
 
-fn leads_to_core(rows: &[[bool; 128]; 128], core: &[bool; 128], labels: usize, x: usize) -> bool
+fn leads_to_core(rows: &[u64; 256], core: &[bool; 128], labels: usize, x: usize) -> bool
     requires { ⌜ (labels ≤ 128) × (x < labels) ⌝ }
-    requires { ⌜ (length {A = List Bool} (now rows) ≡ 128) × (length (now core) ≡ 128) ⌝ }
+    requires { ⌜ (length (now rows) ≡ 256) × (length (now core) ≡ 128) ⌝ }
     ensures { λ r. ⌜ r ≡ realizableBy labels (entry (now (rows .entry))) (λ i. getD (now (core .entry)) i false) x ⌝ }
 {
     let mut c: usize = 0;
@@ -279,9 +314,9 @@ fn leads_to_core(rows: &[[bool; 128]; 128], core: &[bool; 128], labels: usize, x
     false
 }
 
-fn leading_row(rows: &[[bool; 128]; 128], core: &[bool; 128], labels: usize) -> [bool; 128]
+fn leading_row(rows: &[u64; 256], core: &[bool; 128], labels: usize) -> [bool; 128]
     requires { ⌜ labels ≤ 128 ⌝ }
-    requires { ⌜ (length {A = List Bool} (now rows) ≡ 128) × (length (now core) ≡ 128) ⌝ }
+    requires { ⌜ (length (now rows) ≡ 256) × (length (now core) ≡ 128) ⌝ }
     ensures { λ r. ⌜ Entries labels (realizableBy labels (entry (now (rows .entry))) (λ i. getD (now (core .entry)) i false)) false r ⌝ }
 {
     let mut leading = [false; 128];
@@ -304,7 +339,7 @@ pub fn realizable_labels(
     requires { ⌜ Sizes events labels (now places) (now fairs) ⌝ }
     ensures { λ r. ⌜ Entries labels (on (realizable (below events) labels (before labels (look (now (places .entry)))) (look (now (fairs .entry))) m)) false r ⌝ }
 {
-    let mut rows = [[false; 128]; 128];
+    let mut rows = [0u64; 256];
     edge_rows(events, labels, places, &mut rows);
     close(labels, &mut rows);
     let core = core_row(&rows, places, fairs, m, events, labels);

@@ -1,54 +1,22 @@
--- `realizability::core_row` meets its contract. The loop's invariant: the entries below c are made.
-use mathlib.Core.Bool.{false}
-use native.Mathlib.Omega.{arith}
+-- `realizability::core_row` meets its contract. Over the parts, what the code finds is the core (proofs/Parts).
 use borrow.Author.Needs.{needs}
-use mathlib.Core.Path.{_≡_, refl}
-use Prim.Native.Nat.{_-_, _≤_}
-use lib.ListN.{length, length-set}
-use Rattle.valuation.proofs.Entries.{entries-none, entries-more, entries-to}
-use Rattle.ltl.specs.Keys.{look}
-use Rattle.valuation.specs.Entries.{Entries}
-use Rattle.realizability.specs.Relations.{entry, labelAt, coreBy}
+use denote.Ref.{now}
+use Rattle.realizability.proofs.Parts.{within-parts, core-parts}
+use Rattle.realizability.specs.Relations.{entry}
 use Rattle.realizability.proofs.core_row.Statement.{statement}
 use Rattle.realizability.proofs.core_row.Tie as tie
 
-abbrev Inv-loop : tie.InvT-loop
-Inv-loop rows places fairs m events labels core₀ c₀ core c = (c ≤ labels) × (length core ≡ 128) × Entries c (coreBy m events labels (entry rows) (labelAt labels places) (look fairs)) false core
+part-row-requires : tie.Need-part-row-requires
+part-row-requires c κs = search needs
 
-abbrev μ-loop : tie.MeasureT-loop
-μ-loop rows places fairs m events labels core₀ c₀ core c = labels - c
+gather-requires : tie.Need-gather-requires
+gather-requires c κs = (c .before .before .before .pre .0, (search needs, within-parts (c .before .before .before .args .m) (c .before .before .before .args .events) (c .before .before .before .args .labels) (now (c .before .before .before .args .places)) (now (c .before .before .before .args .fairs)) (entry (now (c .before .before .before .args .rows))) (c .before .before .before .pre .0 .some) (c .before .before .before .pre .1 .1) _ (c .before .before .part-row .ensures)))
 
-loop-holds : tie.Need-loop-holds Inv-loop μ-loop
-loop-holds c = (omega arith, refl, entries-none)
+core-in-requires : tie.Need-core-in-requires
+core-in-requires c κs = ((c .before .before .before .before .before .before .pre .0 .few, c .before .before .before .before .before .before .pre .1 .0, search needs, c .before .before .gather .ensures .long), within-parts (c .before .before .before .before .before .before .args .m) (c .before .before .before .before .before .before .args .events) (c .before .before .before .before .before .before .args .labels) (now (c .before .before .before .before .before .before .args .places)) (now (c .before .before .before .before .before .before .args .fairs)) (entry (now (c .before .before .before .before .before .before .args .rows))) (c .before .before .before .before .before .before .pre .0 .some) (c .before .before .before .before .before .before .pre .1 .1) _ (c .before .before .before .before .before .part-row .ensures))
 
-is-core-requires : tie.Need-is-core-requires Inv-loop μ-loop
-is-core-requires c κs = (c .before .before .pre .0, (search needs, c .before .before .pre .1))
-
-array-write-core : tie.Need-array-write-core Inv-loop μ-loop
-array-write-core c = search needs
-
-add-c : tie.Need-add-c Inv-loop μ-loop
-add-c c = search needs
-
-loop-less : tie.Need-loop-less Inv-loop μ-loop
-loop-less c = search needs
-
-loop-again : tie.Need-loop-again Inv-loop μ-loop
-loop-again c = (omega arith, simp length-set (c .before .before .loop .inv .1), entries-more (c .before .before .loop .inv .2) (c .is-core .ensures) (omega arith))
-
-returns : tie.Need-returns Inv-loop μ-loop
-returns c = entries-to (c .before .loop .inv .2) (c .before .before .args .labels) (omega arith)
+returns : tie.Need-returns
+returns c = core-parts (c .before .before .before .before .before .before .before .args .m) (c .before .before .before .before .before .before .before .args .events) (c .before .before .before .before .before .before .before .args .labels) (now (c .before .before .before .before .before .before .before .args .places)) (now (c .before .before .before .before .before .before .before .args .fairs)) (entry (now (c .before .before .before .before .before .before .before .args .rows))) (c .before .before .before .before .before .before .before .pre .0 .some) (c .before .before .before .before .before .before .before .pre .1 .1) _ _ _ (c .before .before .before .before .before .before .part-row .ensures) (c .before .before .before .gather .ensures) (c .core-in .ensures)
 
 pub core-row-spec : {M : Type 1} → statement M
-core-row-spec =
-    tie.close
-    (tie.spec
-    Inv-loop
-    μ-loop
-    loop-holds
-    is-core-requires
-    array-write-core
-    add-c
-    loop-less
-    loop-again
-    returns)
+core-row-spec = tie.close (tie.spec part-row-requires gather-requires core-in-requires returns)

@@ -1,54 +1,36 @@
--- `realizability::edge_rows` meets its contract. The loop's invariant: the rows below x are made.
+-- `realizability::edge_rows` meets its contract. The loop's invariant: the rows hold the edges of the events passed.
 use native.Mathlib.Omega.{arith}
 use borrow.Author.Needs.{needs}
-use mathlib.Core.Path.{_∙_}
 use Prim.Native.Nat.{_-_, _≤_}
-use Rattle.realizability.proofs.Rows.{Made, made-none, made-more, made-all}
-use Rattle.realizability.specs.Relations.{edge}
+use Rattle.realizability.proofs.Rows.{Edges, edges-none, edges-more, edges-to}
 use Rattle.realizability.proofs.edge_rows.Statement.{statement}
 use Rattle.realizability.proofs.edge_rows.Tie as tie
 
 abbrev Inv-loop : tie.InvT-loop
-Inv-loop events labels places rows₀ x₀ rows x = (x ≤ labels) × Made x labels (edge events labels places) rows₀ rows
+Inv-loop events labels places rows₀ e₀ rows e = (e ≤ events) × Edges e labels places rows
 
 abbrev μ-loop : tie.MeasureT-loop
-μ-loop events labels places rows₀ x₀ rows x = labels - x
+μ-loop events labels places rows₀ e₀ rows e = events - e
 
 loop-holds : tie.Need-loop-holds Inv-loop μ-loop
-loop-holds c = (omega arith, made-none)
+loop-holds c = (omega arith, edges-none (c .before .pre .0 .2))
 
-edge-row-requires : tie.Need-edge-row-requires Inv-loop μ-loop
-edge-row-requires c κs = search needs
+mark-event-requires : tie.Need-mark-event-requires Inv-loop μ-loop
+mark-event-requires c κs = ((search needs, search needs, search needs), (c .before .before .before .before .pre .1, c .before .before .loop .inv .1 .long))
 
-mul-row : tie.Need-mul-row Inv-loop μ-loop
-mul-row c = search needs
-
-element-set-from-row : tie.Need-element-set-from-row Inv-loop μ-loop
-element-set-from-row c = search needs
-
-add-x : tie.Need-add-x Inv-loop μ-loop
-add-x c = search needs
+add-e : tie.Need-add-e Inv-loop μ-loop
+add-e c = search needs
 
 loop-less : tie.Need-loop-less Inv-loop μ-loop
 loop-less c = search needs
 
 loop-again : tie.Need-loop-again Inv-loop μ-loop
-loop-again c = (omega arith, made-more (c .before .before .loop .inv .1) (c .edge-row .ensures) (omega (arith, c .before .before .loop .inv .1 .long)))
+loop-again c = (omega arith, edges-more (c .before .before .before .loop .inv .1) _ (c .mark-event .ensures))
 
 returns : tie.Need-returns Inv-loop μ-loop
-returns c = (c .before .loop .inv .1 .long ∙ c .before .before .pre .1 .1, made-all (c .before .loop .inv .1) (omega arith))
+returns c = (c .before .loop .inv .1 .long, edges-to (c .before .loop .inv .1) (c .before .before .before .args .events) (omega arith))
 
 pub edge-rows-spec : {M : Type 1} → statement M
 edge-rows-spec =
     tie.close
-    (tie.spec
-    Inv-loop
-    μ-loop
-    loop-holds
-    edge-row-requires
-    mul-row
-    element-set-from-row
-    add-x
-    loop-less
-    loop-again
-    returns)
+    (tie.spec Inv-loop μ-loop loop-holds mark-event-requires add-e loop-less loop-again returns)

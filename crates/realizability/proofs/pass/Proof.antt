@@ -1,42 +1,44 @@
 -- `realizability::pass` meets its contract. The loop's invariant: the rows below x are passed, and the others as they were.
 use native.Mathlib.Omega.{arith}
 use borrow.Author.Needs.{needs}
-use mathlib.Core.Path.{_∙_}
 use Prim.Native.Nat.{_-_, _≤_}
-use Rattle.realizability.proofs.Rows.{Made, made-none, made-more, made-all, through-made}
+use Rattle.realizability.proofs.Rows.{Made, made-none, made-more, made-all}
 use Rattle.realizability.specs.Relations.{entry, through}
 use Rattle.realizability.proofs.pass.Statement.{statement}
 use Rattle.realizability.proofs.pass.Tie as tie
 
 abbrev Inv-loop : tie.InvT-loop
-Inv-loop k labels rows₀ via x₀ rows x = (x ≤ labels) × Made x labels (through k (entry rows₀)) rows₀ rows
+Inv-loop k labels rows₀ a b x₀ rows x = (x ≤ labels) × Made x labels (through k (entry rows₀)) rows₀ rows
 
 abbrev μ-loop : tie.MeasureT-loop
-μ-loop k labels rows₀ via x₀ rows x = labels - x
+μ-loop k labels rows₀ a b x₀ rows x = labels - x
 
-mul-via : tie.Need-mul-via Inv-loop μ-loop
-mul-via c = search needs
+mul-a : tie.Need-mul-a Inv-loop μ-loop
+mul-a c = search needs
 
-element-copy-out-via : tie.Need-element-copy-out-via Inv-loop μ-loop
-element-copy-out-via c = search needs
+mul-a-2 : tie.Need-mul-a-2 Inv-loop μ-loop
+mul-a-2 c = search needs
+
+element-copy-out-a : tie.Need-element-copy-out-a Inv-loop μ-loop
+element-copy-out-a c = search needs
+
+mul-b : tie.Need-mul-b Inv-loop μ-loop
+mul-b c = search needs
+
+add-b : tie.Need-add-b Inv-loop μ-loop
+add-b c = search needs
+
+mul-b-2 : tie.Need-mul-b-2 Inv-loop μ-loop
+mul-b-2 c = search needs
+
+element-copy-out-b : tie.Need-element-copy-out-b Inv-loop μ-loop
+element-copy-out-b c = search needs
 
 loop-holds : tie.Need-loop-holds Inv-loop μ-loop
-loop-holds c = (omega arith, made-none)
+loop-holds c = (omega arith, made-none (c .before .before .pre .2))
 
-mul-row : tie.Need-mul-row Inv-loop μ-loop
-mul-row c = search needs
-
-element-copy-out-row : tie.Need-element-copy-out-row Inv-loop μ-loop
-element-copy-out-row c = search needs
-
-passed-row-requires : tie.Need-passed-row-requires Inv-loop μ-loop
-passed-row-requires c κs = search needs
-
-mul-next : tie.Need-mul-next Inv-loop μ-loop
-mul-next c = search needs
-
-element-set-from-next : tie.Need-element-set-from-next Inv-loop μ-loop
-element-set-from-next c = search needs
+pass-row-requires : tie.Need-pass-row-requires Inv-loop μ-loop
+pass-row-requires c κs = (search needs, search needs, c .before .before .loop .inv .1 .long)
 
 add-x : tie.Need-add-x Inv-loop μ-loop
 add-x c = search needs
@@ -45,10 +47,10 @@ loop-less : tie.Need-loop-less Inv-loop μ-loop
 loop-less c = search needs
 
 loop-again : tie.Need-loop-again Inv-loop μ-loop
-loop-again c = (omega arith, made-more (c .before .before .before .loop .inv .1) (through-made (c .before .before .before .before .before .args .k) (c .before .before .before .loop .inv .1) _ (c .passed-row .ensures)) (omega (arith, c .before .before .before .loop .inv .1 .long)))
+loop-again c = (omega arith, made-more (c .before .before .before .before .before .before .args .k) (c .before .before .before .loop .inv .1) (c .before .before .before .before .before .before .pre .0) (c .before .before .before .before .before .before .pre .1) _ (c .pass-row .ensures))
 
 returns : tie.Need-returns Inv-loop μ-loop
-returns c = (c .before .loop .inv .1 .long ∙ c .before .before .before .pre .2, made-all (c .before .loop .inv .1) (omega arith))
+returns c = (c .before .loop .inv .1 .long, made-all (c .before .loop .inv .1) (omega arith))
 
 pub pass-spec : {M : Type 1} → statement M
 pass-spec =
@@ -56,14 +58,15 @@ pass-spec =
     (tie.spec
     Inv-loop
     μ-loop
-    mul-via
-    element-copy-out-via
+    mul-a
+    mul-a-2
+    element-copy-out-a
+    mul-b
+    add-b
+    mul-b-2
+    element-copy-out-b
     loop-holds
-    mul-row
-    element-copy-out-row
-    passed-row-requires
-    mul-next
-    element-set-from-next
+    pass-row-requires
     add-x
     loop-less
     loop-again

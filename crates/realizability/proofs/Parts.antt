@@ -1,0 +1,167 @@
+-- Labels that lead to each other are in one part, and the edges on closed walks through a label are those within its part.
+use mathlib.Core.Path.{_≡_, refl, sym, ap, ap₂, _∙_, subst}
+use mathlib.Core.Logic.{_⊎_, inl, inr}
+use mathlib.Core.Bool.{Bool, true, false, _&&_}
+use mathlib.Core.List.{List}
+use Prim.Native.Nat.{ℕ, _≤_, _<_}
+use native.Mathlib.Nat.{mod-lt}
+use native.Mathlib.Decide.{ℕ-discrete, decLt}
+use native.Mathlib.Omega.{arith}
+use lib.ListN.{getD}
+use lib.Dec.{T, eqb, eqb→eq}
+use borrow.Author.Tests.{eq-eqb}
+use Rattle.sequences.proofs.Pigeonhole.{Least, least-below}
+use Rattle.ltl.specs.Sets.{unionBelow}
+use Rattle.ltl.specs.Realizable.{allOf}
+use Rattle.ltl.specs.Keys.{look}
+use Rattle.ltl.proofs.Truth.{t-equal}
+use Rattle.ltl.proofs.Searches.{both, both-cases}
+use Rattle.valuation.specs.Entries.{Entries}
+use Rattle.realizability.specs.Relations.{labelAt, leadsBy, viaBy, coreBy, onlyIf, bothWays, partBy, Within, withinPart, AllGathered, Reaches, coreIn}
+use Rattle.realizability.proofs.Searches.{is-true, union-same}
+use Rattle.realizability.proofs.Core.{leads-there, leads-else}
+
+both-true : (a b : Bool) → (a && b) ≡ true → (a ≡ true) × (b ≡ true)
+both-true true b e = (refl, e)
+both-true false b e = absurd (subst T (sym e) tt)
+
+-- a set by two tests
+abbrev pick : Bool → Bool → ℕ → ℕ
+pick a b v = elim a [ true ↦ elim b [ true ↦ v | false ↦ 0 ] | false ↦ 0 ]
+
+abbrev and : Bool → Bool → Bool
+and a b = elim a [ true ↦ b | false ↦ false ]
+
+pick-and : (a b : Bool) (v : ℕ) → pick a b v ≡ onlyIf (and a b) v
+pick-and true b v = refl
+pick-and false b v = refl
+
+pick-same : (a b c d : Bool) (v : ℕ) → (T a → T b → T c × T d) → (T c → T d → T a × T b) → pick a b v ≡ pick c d v
+pick-same a b c d v f g = pick-and a b v ∙ ap (λ (t : Bool). onlyIf t v) (t-equal (and a b) (and c d) into out) ∙ sym (pick-and c d v)
+  where
+    into : T (and a b) → T (and c d)
+    into t = let p = both-cases a b t in let q = f (p .0) (p .1) in both c d (q .0) (q .1)
+
+    out : T (and c d) → T (and a b)
+    out t = let p = both-cases c d t in let q = g (p .0) (p .1) in both a b (q .0) (q .1)
+
+true-eqb : (a b : ℕ) → a ≡ b → T (eqb a b)
+true-eqb a b e = subst T (sym (eq-eqb a b e)) tt
+
+module _ (n : ℕ) (r : ℕ → ℕ → Bool) (via : (x v y : ℕ) → x < n → v < n → y < n → r x v ≡ true → r v y ≡ true → r x y ≡ true) where
+  -- the same, or they lead to each other
+  abbrev Together : ℕ → ℕ → Type 0
+  Together x y = (x ≡ y) ⊎ ((r x y ≡ true) × (r y x ≡ true))
+
+  turned : {x y : ℕ} → Together x y → Together y x
+  turned (inl e) = inl (sym e)
+  turned (inr p) = inr (p .1, p .0)
+
+  chained : (x v y : ℕ) → x < n → v < n → y < n → Together x v → Together v y → Together x y
+  chained x v y a b c (inl e) q = subst (λ (z : ℕ). Together z y) (sym e) q
+  chained x v y a b c (inr p) (inl e) = subst (λ (z : ℕ). Together x z) e (inr p)
+  chained x v y a b c (inr p) (inr q) = inr (via x v y a b c (p .0) (q .0), via y v x c b a (q .1) (p .1))
+
+  -- ---- the first of a part
+
+  least : (c : ℕ) → Least c (λ x. bothWays r x c) (partBy r c)
+  least c = least-below c (λ x. bothWays r x c)
+
+  part-together : (c : ℕ) → Together (partBy r c) c
+  part-together c = go (decLt (partBy r c) c)
+    where
+      go : Dec (partBy r c < c) → Together (partBy r c) c
+      go (yes l) = inr (both-true (r (partBy r c) c) (r c (partBy r c)) (least c .here l))
+      go (no l) = inl (omega (arith, least c .bound))
+
+  part-first : (x c : ℕ) → Together x c → partBy r c ≤ x
+  part-first x c t = go (decLt x (partBy r c)) t
+    where
+      go : Dec (x < partBy r c) → Together x c → partBy r c ≤ x
+      go (no l) t = omega arith
+      go (yes l) (inl e) = omega (arith, least c .bound)
+      go (yes l) (inr p) = absurd (subst T (least c .before x l) (subst T (sym (ap₂ _&&_ (p .0) (p .1))) tt))
+
+  part-lt : (c : ℕ) → c < n → partBy r c < n
+  part-lt c l = omega (arith, least c .bound)
+
+  part-same : (x c : ℕ) → x < n → c < n → Together x c → partBy r x ≡ partBy r c
+  part-same x c a b t =
+      let p : partBy r c ≤ partBy r x = part-first (partBy r x) c (chained (partBy r x) x c (part-lt x a) a b (part-together x) t) in
+      let q : partBy r x ≤ partBy r c = part-first (partBy r c) x (chained (partBy r c) c x (part-lt c b) b a (part-together c) (turned t)) in
+      omega arith
+
+  same-part : (x c : ℕ) → x < n → c < n → partBy r x ≡ partBy r c → Together x c
+  same-part x c a b e =
+      chained x (partBy r x) c a (part-lt x a) b (turned (part-together x)) (subst (λ (z : ℕ). Together z c) (sym e) (part-together c))
+
+  -- ---- the edges
+
+  leads-cases : (x y : ℕ) → T (leadsBy r x y) → (x ≡ y) ⊎ (r x y ≡ true)
+  leads-cases x y t = go (ℕ-discrete x y)
+    where
+      go : Dec (x ≡ y) → (x ≡ y) ⊎ (r x y ≡ true)
+      go (yes e) = inl e
+      go (no e) = inr (leads-else r x y e ∙ is-true (leadsBy r x y) t)
+
+  together-leads : (x y : ℕ) → Together x y → T (leadsBy r x y)
+  together-leads x y (inl e) = subst T (leads-there r x y e) tt
+  together-leads x y (inr p) = go (ℕ-discrete x y)
+    where
+      go : Dec (x ≡ y) → T (leadsBy r x y)
+      go (yes e) = subst T (leads-there r x y e) tt
+      go (no e) = subst T (sym (p .0) ∙ leads-else r x y e) tt
+
+  -- an edge from x to y that is on a closed walk through c
+  module _ (c x y : ℕ) (a : c < n) (b : x < n) (d : y < n) (edge : r x y ≡ true) where
+    end-together : (c ≡ x) ⊎ (r c x ≡ true) → (y ≡ c) ⊎ (r y c ≡ true) → Together y c
+    end-together p (inl e) = inl e
+    end-together (inl e) (inr q) = inr (q, subst (λ (z : ℕ). r z y ≡ true) (sym e) edge)
+    end-together (inr p) (inr q) = inr (q, via c x y a b d p edge)
+
+    start-together : (c ≡ x) ⊎ (r c x ≡ true) → (y ≡ c) ⊎ (r y c ≡ true) → Together x c
+    start-together (inl e) q = inl (sym e)
+    start-together (inr p) (inl e) = inr (subst (λ (z : ℕ). r x z ≡ true) e edge, p)
+    start-together (inr p) (inr q) = inr (via x y c b d a edge q, p)
+
+  module _ (parts : List ℕ) (h : Entries n (partBy r) 0 parts) where
+    pub parts-within : Within n parts
+    parts-within = record { is = λ y l. subst (λ (p : ℕ). p < n) (sym (h .entry y l)) (part-lt y l) }
+
+    parts-same : (x c : ℕ) → x < n → c < n → Together x c → getD parts x 0 ≡ getD parts c 0
+    parts-same x c a b t = h .entry x a ∙ part-same x c a b t ∙ sym (h .entry c b)
+
+    same-parts : (x c : ℕ) → x < n → c < n → getD parts x 0 ≡ getD parts c 0 → Together x c
+    same-parts x c a b e = same-part x c a b (sym (h .entry x a) ∙ e ∙ h .entry c b)
+
+    module _ (before fair : ℕ → ℕ → ℕ) (c e y : ℕ) (a : c < n) (b : before e y < n) (d : y < n) (edge : r (before e y) y ≡ true) where
+      via-within : withinPart parts before fair e (getD parts c 0) y ≡ viaBy r before fair c e y
+      via-within =
+          pick-same (eqb (getD parts y 0) (getD parts c 0)) (eqb (getD parts (before e y) 0) (getD parts c 0)) (leadsBy r c (before e y)) (leadsBy r y c) (fair e y)
+          (λ s t. (
+            together-leads c (before e y) (turned (same-parts (before e y) c b a (eqb→eq (getD parts (before e y) 0) (getD parts c 0) t))),
+            together-leads y c (same-parts y c d a (eqb→eq (getD parts y 0) (getD parts c 0) s)),
+          ))
+          (λ s t.
+          let p = leads-cases c (before e y) s in
+          let q = leads-cases y c t in (
+            true-eqb (getD parts y 0) (getD parts c 0) (parts-same y c d a (end-together c (before e y) y a b d edge p q)),
+            true-eqb (getD parts (before e y) 0) (getD parts c 0) (parts-same (before e y) c b a (start-together c (before e y) y a b d edge p q)),
+          ))
+
+-- ---- the core
+
+module _ (m w n : ℕ) (places fairs : List (List ℕ)) (r : ℕ → ℕ → Bool) (some : 1 ≤ n) (reach : Reaches w n places r) where
+  pub within-parts : (parts : List ℕ) → Entries n (partBy r) 0 parts → Within n parts
+  within-parts parts h = parts-within n r (reach .via) parts h
+
+  pub core-parts : (parts sets : List ℕ) (core : List Bool) → Entries n (partBy r) 0 parts → AllGathered w n (withinPart parts (labelAt n places) (look fairs)) sets
+      → Entries n (coreIn m r parts sets) false core → Entries n (coreBy m w n r (labelAt n places) (look fairs)) false core
+  core-parts parts sets core h g k = record { entry = λ c l. k .entry c l ∙ ap (λ (A : ℕ). elim (r c c) [ true ↦ allOf m A | false ↦ false ]) (around c l) }
+    where
+      around : (c : ℕ) → c < n → getD sets (getD parts c 0) 0 ≡ unionBelow w (λ e. unionBelow n (viaBy r (labelAt n places) (look fairs) c e))
+      around c l =
+          g .is (getD parts c 0) (within-parts parts h .is c l)
+          ∙ union-same w (λ e. unionBelow n (withinPart parts (labelAt n places) (look fairs) e (getD parts c 0))) (λ e. unionBelow n (viaBy r (labelAt n places) (look fairs) c e))
+          (λ e u. union-same n (withinPart parts (labelAt n places) (look fairs) e (getD parts c 0)) (viaBy r (labelAt n places) (look fairs) c e)
+          (λ y v. via-within n r (reach .via) parts h (labelAt n places) (look fairs) c e y l (mod-lt (look places e y) some) v (reach .edges e y u v)))

@@ -1,0 +1,86 @@
+-- `realizability::pass_row` meets its contract. Both words are joined, or stay.
+use borrow.Author.Needs.{needs}
+use mathlib.Core.Path.{_∙_, ap}
+use mathlib.Core.Bool.{Bool}
+use denote.Ref.{now}
+use Rattle.realizability.proofs.Words.{row-passed}
+use Rattle.realizability.specs.Relations.{onlyIf}
+use Rattle.realizability.proofs.pass_row.Statement.{statement}
+use Rattle.realizability.proofs.pass_row.Tie as tie
+
+has-requires : tie.Need-has-requires
+has-requires c κs = search needs
+
+only-if-requires : tie.Need-only-if-requires
+only-if-requires c κs = search needs
+
+mul-rows : tie.Need-mul-rows
+mul-rows c = search needs
+
+mul-rows-2 : tie.Need-mul-rows-2
+mul-rows-2 c = search needs
+
+element-copy-out-rows : tie.Need-element-copy-out-rows
+element-copy-out-rows c = search needs
+
+mul-rows-3 : tie.Need-mul-rows-3
+mul-rows-3 c = search needs
+
+mul-rows-4 : tie.Need-mul-rows-4
+mul-rows-4 c = search needs
+
+element-write-rows : tie.Need-element-write-rows
+element-write-rows c = search needs
+
+only-if-requires-2 : tie.Need-only-if-requires-2
+only-if-requires-2 c κs = search needs
+
+mul-rows-5 : tie.Need-mul-rows-5
+mul-rows-5 c = search needs
+
+add-rows : tie.Need-add-rows
+add-rows c = search needs
+
+mul-rows-6 : tie.Need-mul-rows-6
+mul-rows-6 c = search needs
+
+element-copy-out-rows-2 : tie.Need-element-copy-out-rows-2
+element-copy-out-rows-2 c = search needs
+
+mul-rows-7 : tie.Need-mul-rows-7
+mul-rows-7 c = search needs
+
+add-rows-2 : tie.Need-add-rows-2
+add-rows-2 c = search needs
+
+mul-rows-8 : tie.Need-mul-rows-8
+mul-rows-8 c = search needs
+
+element-write-rows-2 : tie.Need-element-write-rows-2
+element-write-rows-2 c = search needs
+
+returns : tie.Need-returns
+returns c = row-passed _ (c .before .before .before .before .before .before .args .a) (c .before .before .before .before .before .before .args .b) (c .before .before .before .before .before .before .args .x) (c .before .before .before .only-if .result) (c .before .only-if2 .result) (now (c .before .before .before .before .before .before .args .rows)) (c .before .before .before .before .before .before .pre .2) (c .before .before .before .before .before .before .pre .1) (c .before .before .before .only-if .ensures ∙ ap (λ (t : Bool). onlyIf t (c .before .before .before .before .before .before .args .a)) (c .before .before .before .before .has .ensures)) (c .before .only-if2 .ensures ∙ ap (λ (t : Bool). onlyIf t (c .before .before .before .before .before .before .args .b)) (c .before .before .before .before .has .ensures))
+
+pub pass-row-spec : {M : Type 1} → statement M
+pass-row-spec =
+    tie.close
+    (tie.spec
+    has-requires
+    only-if-requires
+    mul-rows
+    mul-rows-2
+    element-copy-out-rows
+    mul-rows-3
+    mul-rows-4
+    element-write-rows
+    only-if-requires-2
+    mul-rows-5
+    add-rows
+    mul-rows-6
+    element-copy-out-rows-2
+    mul-rows-7
+    add-rows-2
+    mul-rows-8
+    element-write-rows-2
+    returns)
