@@ -3,7 +3,8 @@
 //! second implementation.
 #![allow(dead_code)]
 
-mod library {
+/// The functions as the library has them. The rest of this file is all that a program needs.
+pub mod library {
     extern "C" {
         pub fn tefuji_build(
             rule: *const u8,

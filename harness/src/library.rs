@@ -1,26 +1,7 @@
 //! Three functions of the library with all that they answer. The safe wrapper shows less: it takes
 //! the parts out of an answer, and it keeps the cell of a run's count to itself.
 
-mod declared {
-    extern "C" {
-        pub fn tefuji_check(table: *const u8, table_length: usize) -> u64;
-        pub fn tefuji_run(
-            table: *const u8,
-            table_length: usize,
-            state: u16,
-            events: *const u8,
-            events_length: usize,
-            count: *mut u64,
-        ) -> u64;
-        pub fn tefuji_step(
-            table: *const u8,
-            table_length: usize,
-            counts: u64,
-            state: u16,
-            event: u8,
-        ) -> u64;
-    }
-}
+use crate::tefuji::library as declared;
 
 pub fn check(table: &[u8]) -> u64 {
     // The slice is lent for the call.
