@@ -1,5 +1,6 @@
 pub mod Words
 pub mod Tables
+pub mod Halves
 pub mod Lists
 pub mod Steps
 pub mod SameSteps

@@ -1,19 +1,21 @@
 -- Lists read off the front of an array: the keys met, the entries of a row, the rows.
 use mathlib.Core.Path.{_≡_, refl, sym, ap, ap₂, _∙_, subst}
-use mathlib.Core.Bool.{Bool}
+use mathlib.Core.Bool.{Bool, true, cond}
 use mathlib.Core.List.{List, [], _∷_, _++_}
-use Prim.Native.Nat.{ℕ, zero, suc, _+_, _<_}
+use Prim.Native.Nat.{ℕ, zero, suc, _+_, _%_, _≤_, _<_}
 use native.Mathlib.Numerals.{add-one}
 use native.Mathlib.Decide.{ℕ-discrete}
 use native.Mathlib.Omega.{arith}
-use lib.ListN.{length, getD, set, length-set}
+use lib.ListN.{length, getD, set, length-set, replicate, length-replicate}
 use lib.Seq.{getD-set-same, getD-set-other}
-use lib.Dec.{eqb}
+use lib.Dec.{T, eqb, eqb→eq}
+use borrow.Author.Tests.{eq-eqb, ne-eqb}
 use Rattle.sequences.specs.Tabulate.{tabulate, leastBelow}
 use Rattle.sequences.proofs.Loops.{length-tab, getD-tab, least-is}
 use Rattle.sequences.proofs.Pigeonhole.{least-below}
 use Rattle.walk.specs.Explore.{locate}
-use Rattle.exploration.specs.Arrays.{keyOf, WordsFit, keysIn, KeysFit, metAt}
+use Rattle.exploration.specs.Arrays.{keyOf, WordsFit, keysIn, KeysFit, metAt, slotOf, Slotted, MetThere}
+use Rattle.exploration.proofs.Words.{key-differ}
 
 module _ {A : Type 0} where
   tab-last : (n : ℕ) (f : ℕ → A) → tabulate (suc n) f ≡ tabulate n f ++ (f n ∷ [])
@@ -36,16 +38,33 @@ front-more {A} {B} f z xs n x l =
 
 -- ---- the keys met
 
-pub keys-added : {count : ℕ} {keys : List (List ℕ)} (key : List ℕ) → KeysFit count keys → count < 256 → WordsFit key → KeysFit (count + 1) (set keys count key)
-keys-added {count} {keys} key h l w = record { some = omega arith; few = omega arith; room = length-set keys count key ∙ h .room; words = λ i m. go i m (ℕ-discrete i count) }
+pub keys-added : {count : ℕ} {keys : List (List ℕ)} (key : List ℕ) → KeysFit count keys → count < 256 → WordsFit key → ((i : ℕ) → i < count → ¬ (keyOf (getD keys i []) ≡ keyOf key))
+    → KeysFit (count + 1) (set keys count key)
+keys-added {count} {keys} key h l w new = record {
+  some = omega arith;
+  few = omega arith;
+  room = length-set keys count key ∙ h .room;
+  words = λ i m. go i m (ℕ-discrete i count);
+  apart = λ i j m n e. apart i j m n e (ℕ-discrete j count);
+}
   where
     go : (i : ℕ) → i < count + 1 → Dec (i ≡ count) → WordsFit (getD (set keys count key) i [])
     go i m (yes e) = subst (λ (j : ℕ). WordsFit (getD (set keys count key) j [])) (sym e) (subst WordsFit (sym (getD-set-same keys count key [] (omega (arith, h .room)))) w)
     go i m (no e) = subst WordsFit (sym (getD-set-other keys count i key [] e)) (h .words i (omega arith))
 
+    there : getD (set keys count key) count [] ≡ key
+    there = getD-set-same keys count key [] (omega (arith, h .room))
+
+    others : (i : ℕ) → i < count → getD (set keys count key) i [] ≡ getD keys i []
+    others i m = getD-set-other keys count i key [] (λ e. absurd (omega arith))
+
+    apart : (i j : ℕ) → i < j → j < count + 1 → keyOf (getD (set keys count key) i []) ≡ keyOf (getD (set keys count key) j []) → Dec (j ≡ count) → ⊥
+    apart i j m n e (yes q) = new i (omega arith) (ap keyOf (sym (others i (omega arith))) ∙ e ∙ ap keyOf (ap (λ (k : ℕ). getD (set keys count key) k []) q ∙ there))
+    apart i j m n e (no q) = h .apart i j m (omega arith) (ap keyOf (sym (others i (omega arith))) ∙ e ∙ ap keyOf (others j (omega arith)))
+
 -- the first one
 pub keys-first : (keys : List (List ℕ)) (key : List ℕ) → length keys ≡ 256 → WordsFit key → KeysFit 1 (set keys 0 key) × (getD (set keys 0 key) 0 [] ≡ key)
-keys-first keys key l w = (record { some = omega arith; few = omega arith; room = length-set keys 0 key ∙ l; words = go }, first)
+keys-first keys key l w = (record { some = omega arith; few = omega arith; room = length-set keys 0 key ∙ l; words = go; apart = λ i j m n e. absurd (omega arith) }, first)
   where
     first : getD (set keys 0 key) 0 [] ≡ key
     first = getD-set-same keys 0 key [] (omega arith)
@@ -64,3 +83,75 @@ unfolding locate
 locate-is s count keys k =
     ap (λ (n : ℕ). leastBelow n (λ i. eqb (getD (keysIn count keys) i s) k)) (length-tab count (λ i. keyOf (getD keys i [])))
     ∙ least-same count (λ i. eqb (getD (keysIn count keys) i s) k) (metAt keys k) (λ i l. ap (λ (x : ℕ). eqb x k) (getD-tab count (λ i. keyOf (getD keys i [])) i s l))
+
+-- ---- the slots
+
+slot-same : (a b : List ℕ) → WordsFit a → WordsFit b → keyOf a ≡ keyOf b → slotOf a ≡ slotOf b
+unfolding slotOf
+slot-same a b s t e =
+    let w = key-differ a b s t e in
+    let p = w 0 (omega arith) in
+    let q = w 1 (omega arith) in
+    let r = w 2 (omega arith) in
+    let z = w 3 (omega arith) in
+    rw (p, q, r, z)
+
+pub slot-is : (words : List ℕ) → ((getD words 0 0 % 1021 + getD words 1 0 % 1019 + getD words 2 0 % 1013 + getD words 3 0 % 1009) % 1024) ≡ slotOf words
+unfolding slotOf
+slot-is words = refl
+
+pub slot-small : (words : List ℕ) → slotOf words < 1024
+unfolding slotOf
+slot-small words = omega arith
+
+pub slots-first : (key : List ℕ) (slot : ℕ) → slot ≡ slotOf key → (length (set (replicate {A = ℕ} 1024 256) slot 0) ≡ 1024) × (getD (set (replicate {A = ℕ} 1024 256) slot 0) (slotOf key) 0 ≡ 0)
+slots-first key slot e = (
+  length-set (replicate {A = ℕ} 1024 256) slot 0 ∙ length-replicate {A = ℕ} 1024 256,
+  ap (λ (k : ℕ). getD (set (replicate {A = ℕ} 1024 256) slot 0) k 0) (sym e) ∙ getD-set-same (replicate {A = ℕ} 1024 256) slot 0 0 (omega (arith, slot-small key, length-replicate {A = ℕ} 1024 256)),
+)
+
+pub slotted-first : {keys : List (List ℕ)} {slots : List ℕ} → length slots ≡ 1024 → getD slots (slotOf (getD keys 0 [])) 0 ≡ 0 → Slotted 1 keys slots
+slotted-first {keys} {slots} l e = record { long = l; met = go }
+  where
+    go : (i : ℕ) → i < 1 → getD slots (slotOf (getD keys i [])) 0 < 256
+    go zero m = omega (arith, e)
+    go (suc i) m = absurd (omega arith)
+
+module _ {count : ℕ} {keys : List (List ℕ)} {slots : List ℕ} (fit : KeysFit count keys) (h : Slotted count keys slots) (key : List ℕ) (slot : ℕ) (at : slot ≡ slotOf key) where
+  pub slotted-added : count < 256 → Slotted (count + 1) (set keys count key) (set slots slot count)
+  slotted-added l = record { long = length-set slots slot count ∙ h .long; met = λ i m. go i m (ℕ-discrete i count) }
+    where
+      number : (s : ℕ) → Dec (s ≡ slot) → (¬ (s ≡ slot) → getD slots s 0 < 256) → getD (set slots slot count) s 0 < 256
+      number s (yes e) o = subst (λ (x : ℕ). x < 256) (sym (ap (λ (k : ℕ). getD (set slots slot count) k 0) e ∙ getD-set-same slots slot count 0 (omega (arith, h .long, at, slot-small key)))) l
+      number s (no e) o = subst (λ (x : ℕ). x < 256) (sym (getD-set-other slots slot s count 0 e)) (o e)
+
+      go : (i : ℕ) → i < count + 1 → Dec (i ≡ count) → getD (set slots slot count) (slotOf (getD (set keys count key) i [])) 0 < 256
+      go i m (yes e) =
+          number (slotOf (getD (set keys count key) i [])) (yes (ap (λ (k : ℕ). slotOf (getD (set keys count key) k [])) e ∙ ap slotOf (getD-set-same keys count key [] (omega (arith, fit .room))) ∙ sym at))
+          (λ n. absurd (n (ap (λ (k : ℕ). slotOf (getD (set keys count key) k [])) e ∙ ap slotOf (getD-set-same keys count key [] (omega (arith, fit .room))) ∙ sym at)))
+      go i m (no e) =
+          subst (λ (x : List ℕ). getD (set slots slot count) (slotOf x) 0 < 256) (sym (getD-set-other keys count i key [] e))
+          (number (slotOf (getD keys i [])) (ℕ-discrete (slotOf (getD keys i [])) slot) (λ _. h .met i (omega arith)))
+
+  -- no number in the slot: the key is new
+  pub found-none : WordsFit key → {x : ℕ} → x ≡ getD slots slot 0 → 256 ≤ x → count ≡ leastBelow count (metAt keys (keyOf key))
+  found-none w {x} e l = sym (least-is count (metAt keys (keyOf key)) count (omega arith) (λ k m. ne-eqb (keyOf (getD keys k [])) (keyOf key) (λ q. absurd (other k m q))) (λ m. absurd (omega arith)))
+    where
+      other : (k : ℕ) → k < count → ¬ (keyOf (getD keys k []) ≡ keyOf key)
+      other k m q =
+          let s : slotOf (getD keys k []) ≡ slot = slot-same (getD keys k []) key (fit .words k m) w q ∙ sym at in
+          let t : getD slots slot 0 < 256 = subst (λ (j : ℕ). getD slots j 0 < 256) s (h .met k m) in
+          omega arith
+
+-- the number of a key that is the same is the least
+pub found-met : {count : ℕ} {keys : List (List ℕ)} → KeysFit count keys → (k : ℕ) {i : ℕ} {r : Bool} → MetThere count (metAt keys k) i r → r ≡ true → i ≡ leastBelow count (metAt keys k)
+found-met {count} {keys} fit k {i} m e =
+    let t = m .there e in
+    sym (least-is count (metAt keys k) i (omega (arith, t .0)) (λ j l. ne-eqb (keyOf (getD keys j [])) k (λ q. fit .apart j i l (t .0) (q ∙ sym (eqb→eq (keyOf (getD keys i [])) k (subst T (sym (t .1)) tt))))) (λ _. t .1))
+
+-- none of the keys is the same
+pub new-key : {count : ℕ} (keys : List (List ℕ)) (k i : ℕ) → i ≡ leastBelow count (metAt keys k) → count ≤ i → (j : ℕ) → j < count → ¬ (keyOf (getD keys j []) ≡ k)
+new-key {count} keys k i e l j m q =
+    let r = least-below count (metAt keys k) in
+    let z : _≡_ {A = ℕ} 1 0 = ap (λ (b : Bool). cond b 1 0) (sym (eq-eqb (keyOf (getD keys j [])) k q) ∙ r .before j (omega (arith, r .bound))) in
+    omega arith

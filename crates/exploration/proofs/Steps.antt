@@ -10,40 +10,42 @@ use Rattle.sequences.proofs.Loops.{length-tab, getD-tab}
 use Rattle.ltl.specs.Keys.{Tables, startKey, stepKey}
 use Rattle.walk.specs.Explore.{Explored, within, locate, enter, visit, expandFrom, expand, exploreFrom, explore}
 use Rattle.walk.proofs.Steps.{enter-met, enter-new, enter-over, visit-possible, expand-next, expand-over, expand-end, explore-next, explore-over, explore-end}
-use Rattle.exploration.specs.Arrays.{eventsBelow, keyOf, WordsFit, keysIn, KeysFit, rowIn, rowsIn}
+use Rattle.exploration.specs.Arrays.{eventsBelow, keyOf, WordsFit, keysIn, KeysFit, slotOf, Slotted, rowIn, rowsIn}
 use Rattle.exploration.specs.Answers.{expandKey, exploreBelow, Beyond, Within, EnteredAs, Enters, GrownAs, Ended}
 use Rattle.exploration.specs.declared.Entered.{Entered}
 use Rattle.exploration.specs.declared.Entered.the-variants as Entered
 use Rattle.exploration.specs.declared.Grown.{Grown}
 use Rattle.exploration.specs.declared.Grown.the-variants as Grown
-use Rattle.exploration.proofs.Lists.{front-more, keys-added}
+use Rattle.exploration.proofs.Lists.{front-more, keys-added, locate-is, new-key, slotted-added}
 
 -- ---- one key
 
-module _ (s count : ℕ) (keys : List (List ℕ)) (key : List ℕ) (i : ℕ) (h : KeysFit count keys) (at : i ≡ locate eqb s (keysIn count keys) (keyOf key)) where
+module _ (s count : ℕ) (keys : List (List ℕ)) (key : List ℕ) (i : ℕ) (h : KeysFit count keys) {slots : List ℕ} (slotted : Slotted count keys slots) (at : i ≡ locate eqb s (keysIn count keys) (keyOf key)) where
   length-keys : length (keysIn count keys) ≡ count
   length-keys = length-tab count (λ i. keyOf (getD keys i []))
 
-  pub entered-met : i < count → Within (enter eqb s 256 (keysIn count keys) (keyOf key)) count keys i
-  entered-met l = record { is = enter-met eqb s 256 (keysIn count keys) (keyOf key) (omega (arith, length-keys)) ∙ ap (within (keysIn count keys)) (sym at); fit = h }
+  pub entered-met : i < count → Within (enter eqb s 256 (keysIn count keys) (keyOf key)) count keys slots i
+  entered-met l = record { is = enter-met eqb s 256 (keysIn count keys) (keyOf key) (omega (arith, length-keys)) ∙ ap (within (keysIn count keys)) (sym at); fit = h; slotted = slotted }
 
-  pub entered-new : count ≤ i → count < 256 → WordsFit key → Within (enter eqb s 256 (keysIn count keys) (keyOf key)) (count + 1) (set keys count key) count
-  entered-new l m w = record {
+  pub entered-new : count ≤ i → count < 256 → WordsFit key → (slot : ℕ) → slot ≡ slotOf key
+      → Within (enter eqb s 256 (keysIn count keys) (keyOf key)) (count + 1) (set keys count key) (set slots slot count) count
+  entered-new l m w slot there = record {
     is = enter-new eqb s 256 (keysIn count keys) (keyOf key) (omega (arith, length-keys)) (omega (arith, length-keys))
         ∙ ap₂ within (sym (front-more keyOf [] keys count key (omega (arith, h .room)))) length-keys;
-    fit = keys-added key h m w;
+    fit = keys-added key h m w (new-key keys (keyOf key) i (at ∙ locate-is s count keys (keyOf key)) l);
+    slotted = slotted-added h slotted key slot there m;
   }
 
   pub entered-full : count ≤ i → 256 ≤ count → Beyond (enter eqb s 256 (keysIn count keys) (keyOf key))
   entered-full l m = record { keys = keysIn count keys; key = keyOf key; is = enter-over eqb s 256 (keysIn count keys) (keyOf key) (omega (arith, length-keys)) (omega (arith, length-keys)) }
 
 -- the answer by its cases
-pub entered-at : (ks : List ℕ) (k : ℕ) (keys : List (List ℕ)) (r : Entered) → Enters ks k keys r → {i count : ℕ} → r ≡ Entered.At i count
-    → (s : ℕ) → Within (enter eqb s 256 ks k) count keys i × (i < 256)
-entered-at ks k keys r h e s = subst (EnteredAs (enter eqb s 256 ks k) keys) e (h s)
+pub entered-at : (ks : List ℕ) (k : ℕ) (keys : List (List ℕ)) (slots : List ℕ) (r : Entered) → Enters ks k keys slots r → {i count : ℕ} → r ≡ Entered.At i count
+    → (s : ℕ) → Within (enter eqb s 256 ks k) count keys slots i × (i < 256)
+entered-at ks k keys slots r h e s = subst (EnteredAs (enter eqb s 256 ks k) keys slots) e (h s)
 
-pub entered-none : (ks : List ℕ) (k : ℕ) (keys : List (List ℕ)) (r : Entered) → Enters ks k keys r → r ≡ Entered.Full → (s : ℕ) → Beyond (enter eqb s 256 ks k)
-entered-none ks k keys r h e s = subst (EnteredAs (enter eqb s 256 ks k) keys) e (h s)
+pub entered-none : (ks : List ℕ) (k : ℕ) (keys : List (List ℕ)) (slots : List ℕ) (r : Entered) → Enters ks k keys slots r → r ≡ Entered.Full → (s : ℕ) → Beyond (enter eqb s 256 ks k)
+entered-none ks k keys slots r h e s = subst (EnteredAs (enter eqb s 256 ks k) keys slots) e (h s)
 
 -- ---- one row
 
@@ -52,18 +54,19 @@ module _ (t : Tables) (w : ℕ) where
   fromEvent j e from keys row = expandFrom eqb (stepKey t) (startKey t) (eventsBelow w) 256 j e from keys row
 
   -- the row of the key `from`, of which the entries below e are stored; m is what the model comes to
-  pub record Expanding (m : Explored ℕ (List ℕ)) (from e count : ℕ) (keys : List (List ℕ)) (row : List ℕ) : Type 0 where
+  pub record Expanding (m : Explored ℕ (List ℕ)) (from e count : ℕ) (keys : List (List ℕ)) (slots row : List ℕ) : Type 0 where
     pub fit : KeysFit count keys
+    pub slotted : Slotted count keys slots
     pub long : length row ≡ 16
     pub upto : e ≤ w
     pub is : fromEvent (w - e) e from (keysIn count keys) (rowIn e row) ≡ m
 
-  pub expanding-none : {count : ℕ} {keys : List (List ℕ)} {row : List ℕ} (from : ℕ) → KeysFit count keys → length row ≡ 16
-      → Expanding (expandKey t w from (keysIn count keys)) from 0 count keys row
+  pub expanding-none : {count : ℕ} {keys : List (List ℕ)} {slots row : List ℕ} (from : ℕ) → KeysFit count keys → Slotted count keys slots → length row ≡ 16
+      → Expanding (expandKey t w from (keysIn count keys)) from 0 count keys slots row
   unfolding expand
-  expanding-none {count} {keys} from h l = record { fit = h; long = l; upto = omega arith; is = ap (λ (j : ℕ). fromEvent j 0 from (keysIn count keys) []) (omega arith) }
+  expanding-none {count} {keys} from h o l = record { fit = h; slotted = o; long = l; upto = omega arith; is = ap (λ (j : ℕ). fromEvent j 0 from (keysIn count keys) []) (omega arith) }
 
-  module _ {m : Explored ℕ (List ℕ)} {from e count : ℕ} {keys : List (List ℕ)} {row : List ℕ} (h : Expanding m from e count keys row) where
+  module _ {m : Explored ℕ (List ℕ)} {from e count : ℕ} {keys : List (List ℕ)} {slots row : List ℕ} (h : Expanding m from e count keys slots row) where
     module _ (l : e < w) (k : ℕ) (next : k ≡ stepKey t from e) where
       one-fewer : w - e ≡ suc (w - (e + 1))
       one-fewer = omega arith
@@ -74,24 +77,25 @@ module _ (t : Tables) (w : ℕ) where
       unrolled : fromEvent (suc (w - (e + 1))) e from (keysIn count keys) (rowIn e row) ≡ m
       unrolled = ap (λ (j : ℕ). fromEvent j e from (keysIn count keys) (rowIn e row)) (sym one-fewer) ∙ h .is
 
-      pub expanding-more : w ≤ 16 → (keys′ : List (List ℕ)) (answer : Entered) → Enters (keysIn count keys) k keys′ answer → {i count′ : ℕ} → answer ≡ Entered.At i count′
-          → Expanding m from (e + 1) count′ keys′ (set row e i)
-      expanding-more few keys′ answer a {i} {count′} q = let r = entered-at (keysIn count keys) k keys′ answer a q (startKey t) .0 in record {
+      pub expanding-more : w ≤ 16 → (keys′ : List (List ℕ)) (slots′ : List ℕ) (answer : Entered) → Enters (keysIn count keys) k keys′ slots′ answer → {i count′ : ℕ} → answer ≡ Entered.At i count′
+          → Expanding m from (e + 1) count′ keys′ slots′ (set row e i)
+      expanding-more few keys′ slots′ answer a {i} {count′} q = let r = entered-at (keysIn count keys) k keys′ slots′ answer a q (startKey t) .0 in record {
         fit = r .fit;
+        slotted = r .slotted;
         long = length-set row e i ∙ h .long;
         upto = omega arith;
         is = ap₂ (λ (a : ℕ) (x : List ℕ). fromEvent (w - (e + 1)) a from (keysIn count′ keys′) x) (add-one e) (front-more (λ (x : ℕ). x) 0 row e i (omega (arith, h .long)))
             ∙ sym (expand-next eqb (stepKey t) (startKey t) (eventsBelow w) 256 (w - (e + 1)) e from (keysIn count keys) (rowIn e row) (visited ∙ r .is)) ∙ unrolled;
       }
 
-      pub expanding-over : (keys′ : List (List ℕ)) (answer : Entered) → Enters (keysIn count keys) k keys′ answer → answer ≡ Entered.Full → Beyond m
-      expanding-over keys′ answer a q = let r = entered-none (keysIn count keys) k keys′ answer a q (startKey t) in record {
+      pub expanding-over : (keys′ : List (List ℕ)) (slots′ : List ℕ) (answer : Entered) → Enters (keysIn count keys) k keys′ slots′ answer → answer ≡ Entered.Full → Beyond m
+      expanding-over keys′ slots′ answer a q = let r = entered-none (keysIn count keys) k keys′ slots′ answer a q (startKey t) in record {
         keys = r .keys;
         key = r .key;
         is = sym unrolled ∙ expand-over eqb (stepKey t) (startKey t) (eventsBelow w) 256 (w - (e + 1)) e from (keysIn count keys) (rowIn e row) (visited ∙ r .is);
       }
 
-    pub expanding-all : w ≤ e → Within m count keys (rowIn w row)
+    pub expanding-all : w ≤ e → Within m count keys slots (rowIn w row)
     expanding-all l =
         let p : e ≡ w = omega (arith, h .upto) in
         let q : w - e ≡ 0 = omega arith in
@@ -99,6 +103,7 @@ module _ (t : Tables) (w : ℕ) where
           is = sym (h .is) ∙ ap (λ (j : ℕ). fromEvent j e from (keysIn count keys) (rowIn e row)) q
               ∙ expand-end eqb (stepKey t) (startKey t) (eventsBelow w) 256 e from (keysIn count keys) (rowIn e row) ∙ ap (λ (a : ℕ). within (keysIn count keys) (rowIn a row)) p;
           fit = h .fit;
+          slotted = h .slotted;
         }
 
   -- ---- the rows
@@ -107,17 +112,19 @@ module _ (t : Tables) (w : ℕ) where
   fromState j i keys rows = exploreFrom eqb (stepKey t) (startKey t) (eventsBelow w) 256 j i keys rows
 
   -- the walk, of which the rows of the states below i are stored
-  pub record Walking (m : Explored ℕ (List (List ℕ))) (i count : ℕ) (keys rows : List (List ℕ)) : Type 0 where
+  pub record Walking (m : Explored ℕ (List (List ℕ))) (i count : ℕ) (keys rows : List (List ℕ)) (slots : List ℕ) : Type 0 where
     pub fit : KeysFit count keys
+    pub slotted : Slotted count keys slots
     pub long : length rows ≡ 256
     pub upto : i ≤ 256
     pub is : fromState (256 - i) i (keysIn count keys) (rowsIn w i rows) ≡ m
 
-  pub walking-none : {keys rows : List (List ℕ)} → KeysFit 1 keys → length rows ≡ 256 → keyOf (getD keys 0 []) ≡ startKey t → Walking (exploreBelow t w) 0 1 keys rows
+  pub walking-none : {keys rows : List (List ℕ)} {slots : List ℕ} → KeysFit 1 keys → Slotted 1 keys slots → length rows ≡ 256 → keyOf (getD keys 0 []) ≡ startKey t
+      → Walking (exploreBelow t w) 0 1 keys rows slots
   unfolding explore
-  walking-none {keys} {rows} h l e = record { fit = h; long = l; upto = omega arith; is = ap (λ (k : ℕ). fromState 256 0 (k ∷ []) []) e }
+  walking-none {keys} {rows} h o l e = record { fit = h; slotted = o; long = l; upto = omega arith; is = ap (λ (k : ℕ). fromState 256 0 (k ∷ []) []) e }
 
-  module _ {m : Explored ℕ (List (List ℕ))} {i count : ℕ} {keys rows : List (List ℕ)} (h : Walking m i count keys rows) where
+  module _ {m : Explored ℕ (List (List ℕ))} {i count : ℕ} {keys rows : List (List ℕ)} {slots : List ℕ} (h : Walking m i count keys rows slots) where
     length-all : length (keysIn count keys) ≡ count
     length-all = length-tab count (λ i. keyOf (getD keys i []))
 
@@ -128,10 +135,11 @@ module _ (t : Tables) (w : ℕ) where
       this-key : getD (keysIn count keys) i (startKey t) ≡ keyOf (getD keys i [])
       this-key = getD-tab count (λ i. keyOf (getD keys i [])) i (startKey t) l
 
-      pub walking-more : (keys′ : List (List ℕ)) (row : List ℕ) (answer : Grown) → GrownAs (expandKey t w (keyOf (getD keys i [])) (keysIn count keys)) w keys′ row answer
-          → {count′ : ℕ} → answer ≡ Grown.To count′ → Walking m (i + 1) count′ keys′ (set rows i row)
-      walking-more keys′ row answer a {count′} q = let r = subst (GrownAs (expandKey t w (keyOf (getD keys i [])) (keysIn count keys)) w keys′ row) q a in record {
+      pub walking-more : (keys′ : List (List ℕ)) (slots′ row : List ℕ) (answer : Grown) → GrownAs (expandKey t w (keyOf (getD keys i [])) (keysIn count keys)) w keys′ slots′ row answer
+          → {count′ : ℕ} → answer ≡ Grown.To count′ → Walking m (i + 1) count′ keys′ (set rows i row) slots′
+      walking-more keys′ slots′ row answer a {count′} q = let r = subst (GrownAs (expandKey t w (keyOf (getD keys i [])) (keysIn count keys)) w keys′ slots′ row) q a in record {
         fit = r .fit;
+        slotted = r .slotted;
         long = length-set rows i row ∙ h .long;
         upto = omega (arith, h .fit .few);
         is = ap₂ (λ (a : ℕ) (x : List (List ℕ)). fromState (256 - (i + 1)) a (keysIn count′ keys′) x) (add-one i) (front-more (rowIn w) [] rows i row (omega (arith, h .long, h .fit .few)))
@@ -139,9 +147,9 @@ module _ (t : Tables) (w : ℕ) where
             (ap (λ (k : ℕ). expandKey t w k (keysIn count keys)) this-key ∙ r .is)) ∙ unrolled-walk;
       }
 
-      pub walking-over : (keys′ : List (List ℕ)) (row : List ℕ) (answer : Grown) → GrownAs (expandKey t w (keyOf (getD keys i [])) (keysIn count keys)) w keys′ row answer
+      pub walking-over : (keys′ : List (List ℕ)) (slots′ row : List ℕ) (answer : Grown) → GrownAs (expandKey t w (keyOf (getD keys i [])) (keysIn count keys)) w keys′ slots′ row answer
           → answer ≡ Grown.Full → Beyond m
-      walking-over keys′ row answer a q = let r = subst (GrownAs (expandKey t w (keyOf (getD keys i [])) (keysIn count keys)) w keys′ row) q a in record {
+      walking-over keys′ slots′ row answer a q = let r = subst (GrownAs (expandKey t w (keyOf (getD keys i [])) (keysIn count keys)) w keys′ slots′ row) q a in record {
         keys = r .keys;
         key = r .key;
         is = sym unrolled-walk ∙ explore-over eqb (stepKey t) (startKey t) (eventsBelow w) 256 (256 - (i + 1)) i (keysIn count keys) (rowsIn w i rows) (omega (arith, length-all))

@@ -31,6 +31,9 @@ marked-more {p} {f} {bits} {b} h l e = record { long = length-set bits p b ∙ h
     go q m (yes r) = ap (λ (n : ℕ). getD (set bits p b) n false) r ∙ getD-set-same bits p b false (omega (arith, h .long)) ∙ e ∙ ap f (sym r)
     go q m (no r) = getD-set-other bits p q b false r ∙ h .at q (omega arith)
 
+pub marked-to : {p : ℕ} {f : ℕ → Bool} {bits : List Bool} (m : ℕ) → Marked p f bits → m ≤ p → Marked m f bits
+marked-to m h l = record { long = h .long; at = λ q k. h .at q (omega arith) }
+
 pub marked-all : {p : ℕ} {f : ℕ → Bool} {bits : List Bool} → Marked p f bits → 256 ≤ p → Marked 256 f bits
 marked-all h l = record { long = h .long; at = λ q m. h .at q (omega arith) }
 

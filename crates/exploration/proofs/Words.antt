@@ -25,7 +25,7 @@ first-digit : (b : Bool) → put 0 b 0 ≡ cond b 1 0 + 2 * 0
 first-digit true = refl
 first-digit false = refl
 
-set-lowest : (k : ℕ) (f : ℕ → Bool) → setBelow (suc k) f ≡ cond (f 0) 1 0 + 2 * setBelow k (λ i. f (suc i))
+pub set-lowest : (k : ℕ) (f : ℕ → Bool) → setBelow (suc k) f ≡ cond (f 0) 1 0 + 2 * setBelow k (λ i. f (suc i))
 set-lowest zero f = first-digit (f 0)
 set-lowest (suc k) f = ap (put (suc k) (f (suc k))) (set-lowest k f) ∙ put-lowest k (f (suc k)) (cond (f 0) 1 0) (setBelow k (λ i. f (suc i)))
 
@@ -40,31 +40,31 @@ set-past n m f l h = same-members (setBelow m f) (setBelow n f) (λ i. go i (dec
 
 -- ---- a word, made from its highest bit down
 
--- the bits from i on
-pub record Begun (f : ℕ → Bool) (i word : ℕ) : Type 0 where
-  pub is : word ≡ setBelow (64 - i) (λ k. f (i + k))
+-- of `top` bits those from i on
+pub record Begun (top : ℕ) (f : ℕ → Bool) (i word : ℕ) : Type 0 where
+  pub is : word ≡ setBelow (top - i) (λ k. f (i + k))
 
-pub begun-none : {f : ℕ → Bool} → Begun f 64 0
-begun-none = record { is = refl }
+pub begun-none : (top : ℕ) {f : ℕ → Bool} → Begun top f top 0
+begun-none top {f} = record { is = sym (ap (λ (n : ℕ). setBelow n (λ k. f (top + k))) (let e : top - top ≡ 0 = omega arith in e)) }
 
-pub begun-more : {f : ℕ → Bool} {i word : ℕ} (d : ℕ) → Begun f i word → 0 < i → i ≤ 64 → d ≡ cond (f (i - 1)) 1 0 → Begun f (i - 1) (word * 2 + d)
-begun-more {f} {i} {word} d h l m e =
+pub begun-more : {top : ℕ} {f : ℕ → Bool} {i word : ℕ} (d : ℕ) → Begun top f i word → 0 < i → i ≤ top → d ≡ cond (f (i - 1)) 1 0 → Begun top f (i - 1) (word * 2 + d)
+begun-more {top} {f} {i} {word} d h l m e =
     let j : ℕ = i - 1 in
-    let n : ℕ = 64 - i in
+    let n : ℕ = top - i in
     let s : ℕ = setBelow n (λ k. f (j + suc k)) in
     let p : word ≡ s = h .is ∙ set-same n (λ k. f (i + k)) (λ k. f (j + suc k)) (λ k _. ap f (omega arith)) in
     let q : d ≡ cond (f (j + 0)) 1 0 = e ∙ ap (λ (k : ℕ). cond (f k) 1 0) (omega arith) in
-    let r : suc n ≡ 64 - j = omega arith in
+    let r : suc n ≡ top - j = omega arith in
     record { is = (omega arith) ∙ sym (set-lowest n (λ k. f (j + k))) ∙ ap (λ (a : ℕ). setBelow a (λ k. f (j + k))) r }
 
-pub begun-small : {f : ℕ → Bool} {i word : ℕ} → Begun f i word → 0 < i → word < 2 ^ 63
-begun-small {f} {i} h l = let m : 2 ^ (64 - i) ≤ 2 ^ 63 = pow-mono {i = 64 - i} {j = 63} (omega arith) in rw (h .is) (omega (arith, set-lt (64 - i) (λ k. f (i + k))))
+pub begun-small : {top : ℕ} {f : ℕ → Bool} {i word : ℕ} → Begun top f i word → 0 < i → top ≤ 64 → word < 2 ^ 63
+begun-small {top} {f} {i} h l t = let m : 2 ^ (top - i) ≤ 2 ^ 63 = pow-mono {i = top - i} {j = 63} (omega arith) in rw (h .is) (omega (arith, set-lt (top - i) (λ k. f (i + k))))
 
-begun-all : {f : ℕ → Bool} {i word : ℕ} → Begun f i word → i ≡ 0 → word ≡ setBelow 64 f
-begun-all {f} {i} h e =
-    h .is ∙ ap (λ (j : ℕ). setBelow (64 - j) (λ k. f (j + k))) e ∙ set-same 64 (λ k. f (0 + k)) f (λ k _. ap f (omega arith))
+pub begun-all : {top : ℕ} {f : ℕ → Bool} {i word : ℕ} → Begun top f i word → i ≡ 0 → word ≡ setBelow top f
+begun-all {top} {f} {i} h e =
+    h .is ∙ ap (λ (j : ℕ). setBelow (top - j) (λ k. f (j + k))) e ∙ ap (λ (n : ℕ). setBelow n (λ k. f (0 + k))) (let r : top - 0 ≡ top = omega arith in r) ∙ set-same top (λ k. f (0 + k)) f (λ k _. ap f (omega arith))
 
-pub begun-word : (bits : List Bool) (j : ℕ) {i word : ℕ} → Begun (λ k. getD bits (64 * j + k) false) i word → i ≡ 0 → word ≡ wordIn bits j
+pub begun-word : (bits : List Bool) (j : ℕ) {i word : ℕ} → Begun 64 (λ k. getD bits (64 * j + k) false) i word → i ≡ 0 → word ≡ wordIn bits j
 unfolding wordIn
 begun-word bits j h e = begun-all h e
 
@@ -112,7 +112,7 @@ key-equal : (a b : List ℕ) → ((j : ℕ) → j < 4 → getD a j 0 ≡ getD b 
 unfolding keyOf
 key-equal a b h = set-same 256 (λ q. on (getD a (q / 64) 0) (q % 64)) (λ q. on (getD b (q / 64) 0) (q % 64)) (λ q l. ap (λ (w : ℕ). on w (q % 64)) (h (q / 64) (omega arith)))
 
-key-differ : (a b : List ℕ) → WordsFit a → WordsFit b → keyOf a ≡ keyOf b → (j : ℕ) → j < 4 → getD a j 0 ≡ getD b j 0
+pub key-differ : (a b : List ℕ) → WordsFit a → WordsFit b → keyOf a ≡ keyOf b → (j : ℕ) → j < 4 → getD a j 0 ≡ getD b j 0
 key-differ a b s t e j l = same-set 64 (getD a j 0) (getD b j 0) (s .small j l) (t .small j l) (λ i m. sym (key-bit a j i l m) ∙ ap (λ (k : ℕ). on k (64 * j + i)) e ∙ key-bit b j i l m)
 
 -- two keys by their words, one after the other

@@ -8,7 +8,7 @@ use lib.Dec.{eqb}
 use Rattle.meaning.specs.Traces.{over}
 use Rattle.ltl.specs.Keys.{Tables, startKey, stepKey, emptyKey, fullKey}
 use Rattle.walk.specs.Explore.{Explored, within, beyond, enter, expand, explore}
-use Rattle.exploration.specs.Arrays.{eventsBelow, keysIn, KeysFit, rowIn}
+use Rattle.exploration.specs.Arrays.{eventsBelow, keysIn, KeysFit, Slotted, rowIn}
 use Rattle.exploration.specs.declared.Entered.{Entered}
 use Rattle.exploration.specs.declared.Entered.the-variants as Entered
 use Rattle.exploration.specs.declared.Grown.{Grown}
@@ -44,21 +44,22 @@ pub record Beyond {A : Type 0} (m : Explored ℕ A) : Type 0 where
   pub is : m ≡ beyond keys key
 
 -- the model kept within the limit with the answer a, and its keys are the first `count` of the array
-pub record Within {A : Type 0} (m : Explored ℕ A) (count : ℕ) (keys : List (List ℕ)) (a : A) : Type 0 where
+pub record Within {A : Type 0} (m : Explored ℕ A) (count : ℕ) (keys : List (List ℕ)) (slots : List ℕ) (a : A) : Type 0 where
   pub is : m ≡ within (keysIn count keys) a
   pub fit : KeysFit count keys
+  pub slotted : Slotted count keys slots
 
-abbrev pub EnteredAs : Explored ℕ ℕ → List (List ℕ) → Entered → Type 0
-EnteredAs m keys (Entered.At i count) = Within m count keys i × (i < 256)
-EnteredAs m keys Entered.Full = Beyond m
+abbrev pub EnteredAs : Explored ℕ ℕ → List (List ℕ) → List ℕ → Entered → Type 0
+EnteredAs m keys slots (Entered.At i count) = Within m count keys slots i × (i < 256)
+EnteredAs m keys slots Entered.Full = Beyond m
 
 -- a key entered among others, whatever is read past them
-abbrev pub Enters : List ℕ → ℕ → List (List ℕ) → Entered → Type 0
-Enters ks k keys r = (s : ℕ) → EnteredAs (enter eqb s 256 ks k) keys r
+abbrev pub Enters : List ℕ → ℕ → List (List ℕ) → List ℕ → Entered → Type 0
+Enters ks k keys slots r = (s : ℕ) → EnteredAs (enter eqb s 256 ks k) keys slots r
 
-abbrev pub GrownAs : Explored ℕ (List ℕ) → ℕ → List (List ℕ) → List ℕ → Grown → Type 0
-GrownAs m width keys row (Grown.To count) = Within m count keys (rowIn width row)
-GrownAs m width keys row Grown.Full = Beyond m
+abbrev pub GrownAs : Explored ℕ (List ℕ) → ℕ → List (List ℕ) → List ℕ → List ℕ → Grown → Type 0
+GrownAs m width keys slots row (Grown.To count) = Within m count keys slots (rowIn width row)
+GrownAs m width keys slots row Grown.Full = Beyond m
 
 -- the walk closed with `count` states, whose rows the array has
 pub record Ended (m : Explored ℕ (List (List ℕ))) (width count : ℕ) (keys rows : List (List ℕ)) : Type 0 where

@@ -1,14 +1,14 @@
 -- How the walk's tables, keys and rows stand in arrays.
 use mathlib.Core.Path.{_≡_}
-use mathlib.Core.Bool.{Bool, true, false}
-use mathlib.Core.List.{List, []}
+use mathlib.Core.Bool.{Bool, true, false, _&&_}
+use mathlib.Core.List.{List, [], _∷_}
 use Prim.Native.Nat.{ℕ, _+_, _*_, _/_, _%_, _^_, _≤_, _<_}
 use lib.ListN.{length, getD}
 use lib.Dec.{eqb}
 use Rattle.sequences.specs.Tabulate.{tabulate}
 use Rattle.meaning.specs.Traces.{Alphabet}
 use Rattle.ltl.specs.Sets.{on, setBelow}
-use Rattle.ltl.specs.Keys.{Tables}
+use Rattle.ltl.specs.Keys.{Tables, look}
 use Rattle.labelling.specs.Arrays.{TablesIn}
 
 -- the set of the places at which the array is true
@@ -44,6 +44,14 @@ keyOf words = setBelow 256 (λ q. on (getD words (q / 64) 0) (q % 64))
 pub record WordsFit (words : List ℕ) : Type 0 where
   pub small : (j : ℕ) → j < 4 → getD words j 0 < 2 ^ 64
 
+-- of the labels from `from` on, `count` of them, those that the event e takes to a place at which the array is true
+unfoldable pub hitsFrom : List (List ℕ) → List Bool → ℕ → ℕ → ℕ → ℕ
+hitsFrom places held e from count = setBelow count (λ i. getD held (look places e (from + i)) false)
+
+-- the numbers of the set in the words `full` that are in the words a, b, a, b
+pub record Cut (a b : ℕ) (full words : List ℕ) : Type 0 where
+  pub at : (q : ℕ) → q < 256 → on (keyOf words) q ≡ (on (keyOf full) q && on (keyOf (a ∷ b ∷ a ∷ b ∷ [])) q)
+
 -- the first `count` keys of an array
 abbrev pub keysIn : ℕ → List (List ℕ) → List ℕ
 keysIn count keys = tabulate count (λ i. keyOf (getD keys i []))
@@ -52,12 +60,26 @@ keysIn count keys = tabulate count (λ i. keyOf (getD keys i []))
 abbrev pub metAt : List (List ℕ) → ℕ → ℕ → Bool
 metAt keys k i = eqb (keyOf (getD keys i [])) k
 
--- there are so many keys, one at least
+-- there are so many keys, one at least, and no two are the same
 pub record KeysFit (count : ℕ) (keys : List (List ℕ)) : Type 0 where
   pub some : 1 ≤ count
   pub few : count ≤ 256
   pub room : length keys ≡ 256
   pub words : (i : ℕ) → i < count → WordsFit (getD keys i [])
+  pub apart : (i j : ℕ) → i < j → j < count → ¬ (keyOf (getD keys i []) ≡ keyOf (getD keys j []))
+
+-- the slot of a key, by its words
+unfoldable pub slotOf : List ℕ → ℕ
+slotOf words = (getD words 0 0 % 1021 + getD words 1 0 % 1019 + getD words 2 0 % 1013 + getD words 3 0 % 1009) % 1024
+
+-- the slot of each key has a number, of this key or another
+pub record Slotted (count : ℕ) (keys : List (List ℕ)) (slots : List ℕ) : Type 0 where
+  pub long : length slots ≡ 1024
+  pub met : (i : ℕ) → i < count → getD slots (slotOf (getD keys i [])) 0 < 256
+
+-- where the answer is yes, i is below the bound and passes
+pub record MetThere (count : ℕ) (f : ℕ → Bool) (i : ℕ) (r : Bool) : Type 0 where
+  pub there : r ≡ true → (i < count) × (f i ≡ true)
 
 -- the first `width` entries of a row, and the first `count` rows of an array
 abbrev pub rowIn : ℕ → List ℕ → List ℕ

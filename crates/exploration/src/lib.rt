@@ -1,15 +1,15 @@
 // The breadth-first walk over the keys of remaining properties. A key is a set of at most 256 places, in four words.
 ghost use mathlib.Core.Path.{_≡_};
 ghost use mathlib.Core.Bool.{cond};
-ghost use mathlib.Core.List.{[], _++_};
-ghost use Prim.Native.Nat.{_+_, _%_, _^_, _≤_, _<_};
-ghost use lib.ListN.{length, getD, set, drop};
+ghost use mathlib.Core.List.{List, [], _++_};
+ghost use Prim.Native.Nat.{ℕ, _+_, _%_, _^_, _≤_, _<_};
+ghost use lib.ListN.{length, getD, drop};
 ghost use lib.Dec.{eqb};
 ghost use Rattle.sequences.specs.Tabulate.{tabulate, leastBelow};
 ghost use Rattle.ltl.specs.Sets.{on};
 ghost use Rattle.ltl.specs.Residuals.{preimage, ruleTrue};
 ghost use Rattle.ltl.specs.Keys.{look, startKey, stepKey};
-ghost use Rattle.exploration.specs.Arrays.{setIn, wordIn, Marked, tablesIn, Tabled, keyOf, WordsFit, keysIn, KeysFit, metAt};
+ghost use Rattle.exploration.specs.Arrays.{setIn, wordIn, Marked, hitsFrom, Cut, tablesIn, Tabled, keyOf, WordsFit, keysIn, KeysFit, metAt, slotOf, Slotted, MetThere};
 ghost use Rattle.exploration.specs.Answers.{expandKey, exploreBelow, classBy, Enters, GrownAs, WalkedAs, Explores};
 use wire::wide;
 use wire::wide16;
@@ -170,17 +170,71 @@ fn step_places(
     out
 }
 
+// A key as one bool for each place below m.
+fn spread(key: &[u64; 4], m: usize) -> [bool; 256]
+    requires { ⌜ m ≤ 256 ⌝ }
+    ensures { λ r. ⌜ Marked m (on (keyOf (now (key .entry)))) r ⌝ }
+{
+    let mut out = [false; 256];
+    let mut p: usize = 0;
+    while p < m {
+        out[p] = member(key, p);
+        p += 1;
+    }
+    out
+}
+
+// Which of the labels `from`, `from + 1`, .., `count` of them, the event takes to a place that is held: label `from + i` is bit i.
+fn hits(places: &[[u8; 128]; 16], held: &[bool; 256], e: usize, from: usize, count: usize) -> u64
+    requires { ⌜ (e < 16) × (count ≤ 64) × (from + count ≤ 128) ⌝ }
+    ensures { λ r. ⌜ r ≡ hitsFrom (now (places .entry)) (now (held .entry)) e from count ⌝ }
+{
+    let mut word: u64 = 0;
+    let mut i: usize = count;
+    while 0 < i {
+        i -= 1;
+        let q = wide(places[e][from + i]);
+        word = word * 2 + digit(held[q]);
+    }
+    word
+}
+
+// The places of `full` that are in the four words a, b, a, b.
+fn cut(a: u64, b: u64, full: &[u64; 4]) -> [u64; 4]
+    ensures { λ r. ⌜ WordsFit r × Cut a b (now (full .entry)) r ⌝ }
+{
+    [full[0] & a, full[1] & b, full[2] & a, full[3] & b]
+}
+
+// The key after one event more; `held` is the key as bools, `full` has all places. The two places of a label are n apart, so where n labels fill
+// words, or all places fit in one, the step goes by words. For any other n it goes place by place.
 fn step_key(
     places: &[[u8; 128]; 16],
     whole: &[bool; 256],
+    full: &[u64; 4],
     n: usize,
     key: &[u64; 4],
+    held: &[bool; 256],
     e: usize,
 ) -> [u64; 4]
     requires { ⌜ Tabled (e + 1) n (now places) (now whole) ⌝ }
-    requires { ⌜ e < 16 ⌝ }
+    requires { ⌜ (keyOf (now full) ≡ setIn (now whole)) × (e < 16) × Marked (n + n) (on (keyOf (now key))) (now held) ⌝ }
     ensures { λ r. ⌜ WordsFit r × (keyOf r ≡ stepKey (tablesIn n (now (places .entry)) (now (whole .entry))) (keyOf (now (key .entry))) e) ⌝ }
 {
+    if n <= 32 {
+        let low = hits(places, held, e, 0, n);
+        let both = low + (low << n);
+        return cut(both, both, full);
+    }
+    if n == 64 {
+        let low = hits(places, held, e, 0, 64);
+        return cut(low, low, full);
+    }
+    if n == 128 {
+        let low = hits(places, held, e, 0, 64);
+        let high = hits(places, held, e, 64, 64);
+        return cut(low, high, full);
+    }
     let bits = step_places(places, whole, n, key, e);
     pack(&bits)
 }
@@ -203,17 +257,75 @@ fn locate(keys: &[[u64; 4]; 256], count: usize, key: [u64; 4]) -> usize
     count
 }
 
-// The number of a key, which is added at the end if it is new.
-fn enter(keys: &mut [[u64; 4]; 256], count: usize, key: [u64; 4]) -> Entered
-    requires { ⌜ KeysFit count (now keys) × WordsFit key ⌝ }
-    ensures { λ r. ⌜ Enters (keysIn count (now (keys .entry))) (keyOf key) (now (keys .exit)) r ⌝ }
+// The slot of a key. A slot has the number of a key that belongs there, or 256 if there is none.
+fn slot_of(key: [u64; 4]) -> usize
+    ensures { λ r. ⌜ (r ≡ slotOf key) × (r < 1024) ⌝ }
 {
-    let i = locate(keys, count, key);
+    ((key[0] % 1021 + key[1] % 1019 + key[2] % 1013 + key[3] % 1009) % 1024) as usize
+}
+
+// The slots where the only key has the number 0.
+fn first_slots(key: [u64; 4]) -> [u16; 1024]
+    ensures { λ r. ⌜ (length r ≡ 1024) × (getD r (slotOf key) 0 ≡ 0) ⌝ }
+{
+    let slot = slot_of(key);
+    let mut out = [256u16; 1024];
+    out[slot] = 0;
+    out
+}
+
+// Whether a number that a slot has is that of the key.
+fn same_at(keys: &[[u64; 4]; 256], count: usize, i: usize, key: [u64; 4]) -> bool
+    requires { ⌜ KeysFit count (now keys) × WordsFit key ⌝ }
+    ensures { λ r. ⌜ MetThere count (metAt (now (keys .entry)) (keyOf key)) i r ⌝ }
+{
+    if count <= i {
+        return false;
+    }
+    let met = keys[i];
+    same_key(met, key)
+}
+
+// The same as `locate`: by the key's slot, or else by all keys.
+fn find(
+    keys: &[[u64; 4]; 256],
+    slots: &[u16; 1024],
+    slot: usize,
+    count: usize,
+    key: [u64; 4],
+) -> usize
+    requires { ⌜ KeysFit count (now keys) × WordsFit key × Slotted count (now keys) (now slots) ⌝ }
+    requires { ⌜ (slot ≡ slotOf key) × (slot < 1024) ⌝ }
+    ensures { λ r. ⌜ r ≡ leastBelow count (metAt (now (keys .entry)) (keyOf key)) ⌝ }
+{
+    let i = wide16(slots[slot]);
+    if 256 <= i {
+        return count;
+    }
+    if same_at(keys, count, i, key) {
+        return i;
+    }
+    locate(keys, count, key)
+}
+
+// The number of a key, which is added at the end if it is new.
+fn enter(
+    keys: &mut [[u64; 4]; 256],
+    slots: &mut [u16; 1024],
+    count: usize,
+    key: [u64; 4],
+) -> Entered
+    requires { ⌜ KeysFit count (now keys) × WordsFit key × Slotted count (now keys) (now slots) ⌝ }
+    ensures { λ r. ⌜ Enters (keysIn count (now (keys .entry))) (keyOf key) (now (keys .exit)) (now (slots .exit)) r ⌝ }
+{
+    let slot = slot_of(key);
+    let i = find(keys, slots, slot, count, key);
     if i < count {
         return Entered::At(i, count);
     }
     if count < 256 {
         keys[count] = key;
+        slots[slot] = count as u16;
         return Entered::At(count, count + 1);
     }
     Entered::Full
@@ -223,22 +335,26 @@ fn enter(keys: &mut [[u64; 4]; 256], count: usize, key: [u64; 4]) -> Entered
 fn expand(
     places: &[[u8; 128]; 16],
     whole: &[bool; 256],
+    full: &[u64; 4],
     n: usize,
     events: usize,
     keys: &mut [[u64; 4]; 256],
+    slots: &mut [u16; 1024],
     count: usize,
     source: [u64; 4],
     row: &mut [u16; 16],
 ) -> Grown
     requires { ⌜ Tabled events n (now places) (now whole) ⌝ }
-    requires { ⌜ (events ≤ 16) × KeysFit count (now keys) × (length (now row) ≡ 16) ⌝ }
-    ensures { λ r. ⌜ GrownAs (expandKey (tablesIn n (now (places .entry)) (now (whole .entry))) events (keyOf source) (keysIn count (now (keys .entry)))) events (now (keys .exit)) (now (row .exit)) r ⌝ }
+    requires { ⌜ keyOf (now full) ≡ setIn (now whole) ⌝ }
+    requires { ⌜ (events ≤ 16) × KeysFit count (now keys) × Slotted count (now keys) (now slots) × (length (now row) ≡ 16) ⌝ }
+    ensures { λ r. ⌜ GrownAs (expandKey (tablesIn n (now (places .entry)) (now (whole .entry))) events (keyOf source) (keysIn count (now (keys .entry)))) events (now (keys .exit)) (now (slots .exit)) (now (row .exit)) r ⌝ }
 {
+    let held = spread(&source, n + n);
     let mut met = count;
     let mut e: usize = 0;
     while e < events {
-        let key = step_key(places, whole, n, &source, e);
-        let entered = enter(keys, met, key);
+        let key = step_key(places, whole, full, n, &source, &held, e);
+        let entered = enter(keys, slots, met, key);
         let Entered::At(i, next) = entered else {
             return Grown::Full;
         };
@@ -249,43 +365,48 @@ fn expand(
     Grown::To(met)
 }
 
-// The rows with one more: "an array of rows, one row of successors per state", by value.
-fn store_row(rows: [[u16; 16]; 256], i: usize, row: [u16; 16]) -> [[u16; 16]; 256]
-    requires { ⌜ i < 256 ⌝ }
-    ensures { λ r. ⌜ r ≡ set rows i row ⌝ }
-{
-    let mut out = rows;
-    out[i] = row;
-    out
-}
-
-// The rows of all keys that are reached from the first one.
+// The rows of all keys that are reached from the first one. They are made from `blank`: "an array of rows, one row of successors per state", by value.
 fn walk(
     places: &[[u8; 128]; 16],
     whole: &[bool; 256],
+    full: &[u64; 4],
     n: usize,
     events: usize,
     keys: &mut [[u64; 4]; 256],
+    blank: [[u16; 16]; 256],
     rows: &mut [[u16; 16]; 256],
 ) -> Walked
     requires { ⌜ Tabled events n (now places) (now whole) ⌝ }
-    requires { ⌜ (events ≤ 16) × KeysFit 1 (now keys) ⌝ }
+    requires { ⌜ keyOf (now full) ≡ setIn (now whole) ⌝ }
+    requires { ⌜ (events ≤ 16) × KeysFit 1 (now keys) × (length {A = List ℕ} blank ≡ 256) ⌝ }
     requires { ⌜ keyOf (getD (now keys) 0 []) ≡ startKey (tablesIn n (now places) (now whole)) ⌝ }
     ensures { λ r. ⌜ WalkedAs (exploreBelow (tablesIn n (now (places .entry)) (now (whole .entry))) events) events (now (keys .exit)) (now (rows .entry)) (now (rows .exit)) r ⌝ }
 {
-    let mut table = [[0u16; 16]; 256];
+    let mut table = blank;
+    let first = keys[0];
+    let mut slots = first_slots(first);
     let mut count: usize = 1;
     let mut i: usize = 0;
     while i < count {
         let mut row = [0u16; 16];
-        let source = keys[i];
-        let grown = expand(places, whole, n, events, keys, count, source, &mut row);
+        let key = keys[i];
+        let grown = expand(
+            places,
+            whole,
+            full,
+            n,
+            events,
+            keys,
+            &mut slots,
+            count,
+            key,
+            &mut row,
+        );
         let Grown::To(next) = grown else {
             return Walked::TooMany;
         };
         count = next;
-        let stored = store_row(table, i, row);
-        table = stored;
+        table[i] = row;
         i += 1;
     }
     *rows = table;
@@ -336,10 +457,20 @@ pub fn explore(
     let mut keys = [[0u64; 4]; 256];
     let first = start_places(whole, labels);
     keys[0] = pack(&first);
-    let walked = walk(places, whole, labels, events, &mut keys, rows);
+    let full = pack(whole);
+    let walked = walk(
+        places,
+        whole,
+        &full,
+        labels,
+        events,
+        &mut keys,
+        [[0u16; 16]; 256],
+        rows,
+    );
     let Walked::Closed(count) = walked else {
         return Walked::TooMany;
     };
-    classify(&keys, wide16(count), pack(whole), classes);
+    classify(&keys, wide16(count), full, classes);
     Walked::Closed(count)
 }

@@ -11,19 +11,19 @@ use Rattle.exploration.proofs.word_of.Statement.{statement}
 use Rattle.exploration.proofs.word_of.Tie as tie
 
 abbrev Inv-loop : tie.InvT-loop
-Inv-loop bits j word₀ i₀ word i = (i ≤ 64) × Begun (λ k. getD bits (64 * j + k) false) i word
+Inv-loop bits j word₀ i₀ word i = (i ≤ 64) × Begun 64 (λ k. getD bits (64 * j + k) false) i word
 
 abbrev μ-loop : tie.MeasureT-loop
 μ-loop bits j word₀ i₀ word i = i
 
 loop-holds : tie.Need-loop-holds Inv-loop μ-loop
-loop-holds c = (omega arith, begun-none)
+loop-holds c = (omega arith, begun-none 64)
 
 sub-i : tie.Need-sub-i Inv-loop μ-loop
 sub-i c = search needs
 
 mul-word : tie.Need-mul-word Inv-loop μ-loop
-mul-word c = let m = begun-small (c .before .loop .inv .1) (c .loop-test .taken) in omega arith
+mul-word c = let m = begun-small (c .before .loop .inv .1) (c .loop-test .taken) (omega arith) in omega arith
 
 mul-digit : tie.Need-mul-digit Inv-loop μ-loop
 mul-digit c = search needs
@@ -38,7 +38,7 @@ digit-requires : tie.Need-digit-requires Inv-loop μ-loop
 digit-requires c κs = search needs
 
 add-word : tie.Need-add-word Inv-loop μ-loop
-add-word c = let m = begun-small (c .before .before .before .loop .inv .1) (c .before .before .loop-test .taken) in omega (arith, c .digit .ensures .1)
+add-word c = let m = begun-small (c .before .before .before .loop .inv .1) (c .before .before .loop-test .taken) (omega arith) in omega (arith, c .digit .ensures .1)
 
 loop-less : tie.Need-loop-less Inv-loop μ-loop
 loop-less c = search needs
