@@ -1,5 +1,6 @@
 pub mod Numbers
-pub mod Nodes
-pub mod Steps
-pub mod Prefixes
+pub mod Lanewise
+pub mod Lanes
+pub mod Held
 pub mod Entries
+pub mod Prefixes

@@ -1,22 +1,29 @@
--- The first i of a list of nodes, valued: the invariant of the loop over the nodes, and what it says of sizes.
+-- The first i of a list of nodes, valued at each label of a half: one node more, and all of them.
 use mathlib.Core.Path.{_≡_, refl, sym, ap, _∙_, subst}
+use mathlib.Core.Bool.{Bool, true, false}
 use mathlib.Core.List.{List, [], _∷_, _++_, map-append}
-use Prim.Native.Nat.{ℕ, suc, _+_, _-_, _^_, _≤_, _<_}
+use Prim.Native.Nat.{ℕ, suc, _+_, _-_, _≤_, _<_}
 use native.Mathlib.Nat.{zero-add, suc-add}
 use native.Mathlib.Numerals.{add-one}
 use native.Mathlib.Omega.{arith}
-use lib.ListN.{length, getD, take, drop, length-map}
-use lib.Seq.{take-suc, take-add, length-take-le}
+use lib.ListN.{length, getD, set, take, drop}
+use lib.Seq.{take-suc, take-add}
 use lib.Pow.{pow-mono}
 use Rattle.meaning.specs.declared.Node.{Node}
+use Rattle.ltl.specs.Sets.{on}
 use Rattle.ltl.specs.Nodes.{Split, plain, temporal, split, splits, temporals}
 use Rattle.ltl.specs.Valuation as ltl
 use Rattle.ltl.specs.Valuation.{value, valueAll, valued, none}
-use Rattle.ltl.proofs.Valuation as ltl-sizes
-use Rattle.ltl.proofs.Valuation.{sized-none, sized-all, count-all}
+use Rattle.ltl.proofs.Sets.{same-set}
+use Rattle.ltl.proofs.Valuation.{sized-none, sized-all}
 use Rattle.ltl.proofs.Labels.{valued-temporals}
-use Rattle.valuation.specs.declared.Valued.{Valued}
-use Rattle.valuation.specs.Valued.{modelOf, Sized, Room, Valuable}
+use Rattle.valuation.specs.Valued.{Valuable, placeAt, fairsAt}
+use Rattle.valuation.specs.Words.{labelOf}
+use Rattle.valuation.specs.Columns.{Planes, Held, Byte}
+use Rattle.valuation.proofs.Numbers.{place-fits}
+use Rattle.valuation.specs.Entries.{Entries}
+use Rattle.valuation.proofs.Entries.{entries-more, entries-to}
+use Rattle.valuation.proofs.Held.{planes-put, held-same}
 
 value-snoc : (e y : ℕ) (s : ltl.Valued) (ns : List Split) (n : Split) → valueAll e y s (ns ++ (n ∷ [])) ≡ value e y (valueAll e y s ns) n
 value-snoc e y s [] n = refl
@@ -40,52 +47,81 @@ module _ (nodes : List Node) where
       let k : i + (j - i) ≡ j = omega arith in
       omega (arith, e, ap (λ (n : ℕ). temporals (splits (take n nodes))) k)
 
--- s is the first i nodes valued
-pub record Prefix (e y : ℕ) (nodes : List Node) (i : ℕ) (s : Valued) : Type 0 where
-  pub is : modelOf s ≡ valued e y (splits (take i nodes))
+-- the arrays hold the first i nodes, valued
+abbrev pub Prefix : ℕ → Bool → List Node → ℕ → ℕ → List ℕ → List ℕ → List ℕ → Type 0
+Prefix e high nodes i m values label fairs = Held i m (λ l. valued e (labelOf high l) (splits (take i nodes))) values label fairs
 
-module _ {e y : ℕ} {nodes : List Node} {i : ℕ} {s : Valued} (p : Prefix e y nodes i s) where
-  pub prefix-more : (r : Valued) (d : Node) → i < length nodes → modelOf r ≡ value e y (modelOf s) (split (getD nodes i d)) → Prefix e y nodes (i + 1) r
-  prefix-more r d h q = record {
-    is =
-        q ∙ ap (λ (t : ltl.Valued). value e y t (split (getD nodes i d))) (p .is)
-        ∙ sym (value-snoc e y none (splits (take i nodes)) (split (getD nodes i d)))
-        ∙ ap (valued e y) (sym (splits-suc nodes i d h) ∙ ap (λ (n : ℕ). splits (take n nodes)) (sym (add-one i)));
-  }
+module _ (e : ℕ) (high : Bool) (nodes : List Node) (i m : ℕ) (values label fairs : List ℕ) (h : Prefix e high nodes i m values label fairs) where
+  pub prefix-temporals : m ≡ temporals (splits (take i nodes))
+  prefix-temporals = sym (h .state 0 .temporals) ∙ valued-temporals e (labelOf high 0) (splits (take i nodes))
 
-  pub prefix-sized : Sized s
-  prefix-sized =
-      let z : ltl-sizes.Sized (modelOf s) = subst ltl-sizes.Sized (sym (p .is)) (sized-all e y sized-none (splits (take i nodes))) in
-      record { values = z .values-lt; label = z .label-lt; fairs = z .fairs-lt }
+  pub prefix-few : (count : ℕ) → i ≡ count → Valuable count nodes → m ≤ 7
+  prefix-few count q v = omega (arith, prefix-temporals, v .temporal, ap (λ (k : ℕ). temporals (splits (take k nodes))) q)
 
-  pub prefix-temporals : s .temporals ≡ temporals (splits (take i nodes))
-  prefix-temporals = ap (λ (t : ltl.Valued). t .temporals) (p .is) ∙ valued-temporals e y (splits (take i nodes))
-
-  pub prefix-count : i ≤ length nodes → s .count ≡ i
-  prefix-count h =
-      ap (λ (t : ltl.Valued). t .count) (p .is) ∙ count-all e y none (splits (take i nodes)) ∙ zero-add (length (splits (take i nodes)))
-      ∙ length-map (take i nodes) split ∙ length-take-le i nodes h
-
-  pub prefix-room : (count : ℕ) (d : Node) → length nodes ≡ 64 → i < count → count ≤ 64 → temporals (splits (take count nodes)) ≤ 7 → Room s (getD nodes i d)
-  prefix-room count d l h k t =
+  pub prefix-room : (count : ℕ) (d : Node) → i < length nodes → i < count → temporals (splits (take count nodes)) ≤ 7
+      → m + temporals (split (getD nodes i d) ∷ []) ≤ 7
+  prefix-room count d l k t =
       let a : temporals (splits (take (suc i) nodes)) ≡ temporals (splits (take i nodes)) + temporals (split (getD nodes i d) ∷ []) =
-      ap temporals (splits-suc nodes i d (omega arith)) ∙ temporals-append (splits (take i nodes)) (split (getD nodes i d) ∷ []) in
-      record {
-        sized = prefix-sized;
-        nodes = omega (arith, prefix-count (omega arith));
-        temporal = omega (arith, prefix-temporals, a, temporals-mono nodes (suc i) count h);
-      }
+      ap temporals (splits-suc nodes i d l) ∙ temporals-append (splits (take i nodes)) (split (getD nodes i d) ∷ []) in
+      omega (arith, prefix-temporals, a, temporals-mono nodes (suc i) count k)
 
--- all of them valued
-module _ (e y : ℕ) (s : Valued) {nodes : List Node} {count : ℕ} (v : Valuable count nodes) (l : length nodes ≡ 64) (q : modelOf s ≡ valued e y (splits (take count nodes))) where
-  abbrev all : Prefix e y nodes count s
-  all = record { is = q }
+pub prefix-more : (e : ℕ) (high : Bool) (nodes : List Node) (i k : ℕ) (d : Node) {values label fairs : List ℕ} → i < length nodes
+    → Held (i + 1) k (λ l. value e (labelOf high l) (valued e (labelOf high l) (splits (take i nodes))) (split (getD nodes i d))) values label fairs
+    → Prefix e high nodes (i + 1) k values label fairs
+prefix-more e high nodes i k d l h =
+    held-same
+    (λ y. sym (value-snoc e (labelOf high y) none (splits (take i nodes)) (split (getD nodes i d)))
+    ∙ ap (valued e (labelOf high y)) (sym (splits-suc nodes i d l) ∙ ap (λ (n : ℕ). splits (take n nodes)) (sym (add-one i)))) h
 
-  pub whole-temporals : s .temporals ≡ temporals (splits (take count nodes))
-  whole-temporals = prefix-temporals all
+pub prefix-to : (e : ℕ) (high : Bool) (nodes : List Node) (i m : ℕ) {values label fairs : List ℕ} → Prefix e high nodes i m values label fairs
+    → (count : ℕ) → i ≡ count → Prefix e high nodes count m values label fairs
+prefix-to e high nodes i m {values} {label} {fairs} h count q = subst (λ (k : ℕ). Prefix e high nodes k m values label fairs) q h
 
-  pub whole-place : (s .label < 2 ^ s .temporals) × (1 ≤ s .count) × (s .temporals ≤ 7)
-  whole-place = (prefix-sized all .label, omega (arith, prefix-count all (omega (arith, v .few)), v .some), omega (arith, whole-temporals, v .temporal))
+-- the value of the last node on top of the label
+module _ (e : ℕ) (high : Bool) (nodes : List Node) (count : ℕ) where
+  abbrev s : ℕ → ltl.Valued
+  s l = valued e (labelOf high l) (splits (take count nodes))
 
-  pub whole-fairs : s .fairs < 256
-  whole-fairs = omega (arith, prefix-sized all .fairs, whole-place .2, pow-mono {i = s .temporals} {j = 7} (whole-place .2))
+  pub prefix-places : (m : ℕ) {values label fairs : List ℕ} → Prefix e high nodes count m values label fairs → m < length label
+      → Planes (λ l. placeAt count nodes e (labelOf high l)) (set label m (getD values (count - 1) 0))
+  prefix-places m {values} {label} h r =
+      planes-put m (getD values (count - 1) 0) (λ l. s l .temporals) (λ l. h .state l .temporals) (λ l. on (s l .values) (s l .count - 1)) label r (λ l. h .state l .label)
+      (λ l q. h .of-values .plane l (count - 1) q ∙ ap (λ (k : ℕ). on (s l .values) (k - 1)) (sym (h .state l .count))) (h .of-label)
+
+-- ---- bytes
+
+module _ {count : ℕ} {nodes : List Node} (v : Valuable count nodes) (e y : ℕ) where
+  few : valued e y (splits (take count nodes)) .temporals ≤ 7
+  few = omega (arith, valued-temporals e y (splits (take count nodes)), v .temporal)
+
+  pub place-size : placeAt count nodes e y < 256
+  place-size = place-fits (valued e y (splits (take count nodes)) .temporals) (on (valued e y (splits (take count nodes)) .values) (valued e y (splits (take count nodes)) .count - 1)) (valued e y (splits (take count nodes)) .label) few (sized-all e y sized-none (splits (take count nodes)) .label-lt)
+
+  pub fairs-size : fairsAt count nodes e y < 256
+  fairs-size = omega (arith, sized-all e y sized-none (splits (take count nodes)) .fairs-lt, few, pow-mono {i = valued e y (splits (take count nodes)) .temporals} {j = 7} few)
+
+label-at : (high : Bool) (from y : ℕ) → from ≡ labelOf high 0 → from ≤ y → labelOf high (y - from) ≡ y
+label-at true from y q h = omega arith
+label-at false from y q h = omega arith
+
+-- the byte at a label of the half
+byte-is : (high : Bool) (from y : ℕ) (f : ℕ → ℕ) (columns : List ℕ) (r : ℕ) → from ≡ labelOf high 0 → from ≤ y → y - from < 64
+    → Planes (λ l. f (labelOf high l)) columns → Byte 8 columns (y - from) r → f y < 256 → r ≡ f y
+byte-is high from y f columns r q h k p b z =
+    let a : f (labelOf high (y - from)) ≡ f y = ap f (label-at high from y q h) in
+    same-set 8 r (f y) (b .size) z (λ j l. b .bits j l ∙ p .plane (y - from) j k ∙ ap (λ (t : ℕ). on t j) a)
+
+-- the entries from the half's first label to y are the bytes of the columns, and those before stay
+pub record Fills (high : Bool) (from y : ℕ) (columns old new : List ℕ) : Type 0 where
+  pub fill : (f : ℕ → ℕ) → ((z : ℕ) → f z < 256) → Planes (λ l. f (labelOf high l)) columns → Entries from f 0 old → Entries y f 0 new
+
+pub fills-none : {high : Bool} {from : ℕ} {columns old : List ℕ} → Fills high from from columns old old
+fills-none = record { fill = λ f z p h. h }
+
+pub fills-more : {high : Bool} {from y : ℕ} {columns old new : List ℕ} → Fills high from y columns old new → (r : ℕ) → Byte 8 columns (y - from) r → from ≡ labelOf high 0
+    → from ≤ y → y - from < 64 → y < length new → Fills high from (y + 1) columns old (set new y r)
+fills-more {high} {from} {y} {columns} h r b q k m l = record { fill = λ f z p e. entries-more (h .fill f z p e) (byte-is high from y f columns r q k m p b (z y)) l }
+
+pub fills-to : {high : Bool} {from y : ℕ} {columns old new : List ℕ} → Fills high from y columns old new → (f : ℕ → ℕ) → ((z : ℕ) → f z < 256)
+    → Planes (λ l. f (labelOf high l)) columns → Entries from f 0 old → (to : ℕ) → y ≡ to → Entries to f 0 new
+fills-to h f z p e to q = entries-to (h .fill f z p e) to q

@@ -3,16 +3,20 @@ use mathlib.Core.Bool.{Bool, true, false}
 use Prim.Native.Nat.{ℕ}
 use Rattle.ltl.specs.Nodes.{Split, plain, temporal}
 use Rattle.ltl.specs.Valuation.{plainValue, temporalValue, labelBit, fairBit}
-use Rattle.valuation.specs.declared.Bits.{Bits}
+
+pub record Bits : Type 0 where
+  pub value : Bool
+  pub label : Bool
+  pub fair : Bool
+  pub temporal : Bool
 
 abbrev pub plainBits : Bool → Bits
 plainBits w = record { value = w; label = false; fair = false; temporal = false }
 
--- a temporal node whose obligation is the node itself
-abbrev pub temporalBits : Bool → Bool → Bits
-temporalBits w f = record { value = w; label = w; fair = f; temporal = true }
+abbrev pub temporalBits : Bool → Bool → Bool → Bits
+temporalBits w l f = record { value = w; label = l; fair = f; temporal = true }
 
 -- v holds the earlier nodes that are true, e is the event, x the node's bit of the next label
 abbrev pub bitsOf : ℕ → ℕ → Bool → Split → Bits
 bitsOf v e x (plain p) = plainBits (plainValue v e p)
-bitsOf v e x (temporal t) = record { value = temporalValue v x t; label = labelBit v x t; fair = fairBit v x t; temporal = true }
+bitsOf v e x (temporal t) = temporalBits (temporalValue v x t) (labelBit v x t) (fairBit v x t)

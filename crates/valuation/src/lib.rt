@@ -1,33 +1,32 @@
 // The values of a rule's nodes at an event before a label, and the rows of places and of fairness that they give.
+// 64 labels are valued at once: bit l of a word is for label l of the lower or of the upper half.
 ghost use mathlib.Core.Path.{_≡_};
-ghost use Prim.Native.Nat.{ℕ, _^_, _≤_, _<_};
+ghost use Prim.Native.Nat.{ℕ, _+_, _^_, _≤_, _<_};
 ghost use Rattle.ltl.specs.Sets.{on, put};
-ghost use lib.ListN.{length, take};
+ghost use lib.ListN.{length, take, getD};
 ghost use Rattle.ltl.specs.Nodes.{split, splits, temporals};
-ghost use Rattle.ltl.specs.Valuation.{value, valued, placeOf};
-ghost use Rattle.valuation.specs.Bits.{plainBits, temporalBits, bitsOf};
-ghost use Rattle.valuation.specs.Valued.{modelOf, Room, Valuable, placeAt, fairsAt};
+ghost use Rattle.valuation.specs.Words.{plainWords, promiseWords, labelOf, Lanes, Flipped, Everywhere, LabelBits};
+ghost use Rattle.valuation.specs.Columns.{Advanced, Planes, Byte};
+ghost use Rattle.valuation.specs.Valued.{Valuable, placeAt, fairsAt};
 ghost use Rattle.valuation.specs.Entries.{Entries, Table};
-ghost use mathlib.Core.List.{List};
+ghost use mathlib.Core.List.{List, _∷_, []};
 use events::at_least;
 use events::signal_on;
 use meaning::Node;
 
-// What valuing a node gives.
-pub struct Bits {
-    pub value: bool,
-    pub label: bool,
-    pub fair: bool,
+// What valuing a node gives, a bit for each label.
+pub struct Words {
+    pub value: u64,
+    pub label: u64,
+    pub fair: u64,
     pub temporal: bool,
 }
 
-// The nodes valued so far: how many, which are true; of how many temporal ones the bits of the label and of fairness.
-pub struct Valued {
-    pub count: u8,
-    pub values: u64,
+// The bits of the places and of the sets of fairness, a word for each bit; and how many nodes are temporal.
+pub struct Columns {
+    pub places: [u64; 8],
+    pub fairs: [u64; 8],
     pub temporals: u8,
-    pub label: u64,
-    pub fairs: u64,
 }
 
 // The places and the sets of fairness before each label.
@@ -57,117 +56,151 @@ fn put_at(k: u8, add: bool, set: u64) -> u64
     set
 }
 
-fn plain(value: bool) -> Bits
-    ensures { λ r. ⌜ r ≡ plainBits value ⌝ }
+// ---- a word: one bit for each of 64 labels
+
+fn flip(a: u64) -> u64
+    ensures { λ r. ⌜ Flipped a r ⌝ }
 {
-    Bits {
+    0xFFFF_FFFF_FFFF_FFFF - a
+}
+
+fn everywhere(bit: bool) -> u64
+    ensures { λ r. ⌜ Everywhere bit r ⌝ }
+{
+    if bit {
+        return 0xFFFF_FFFF_FFFF_FFFF;
+    }
+    0
+}
+
+// Bit j of each label.
+fn label_word(high: bool, j: u8) -> u64
+    ensures { λ r. ⌜ LabelBits high j r ⌝ }
+{
+    match j {
+        0 => 0xAAAA_AAAA_AAAA_AAAA,
+        1 => 0xCCCC_CCCC_CCCC_CCCC,
+        2 => 0xF0F0_F0F0_F0F0_F0F0,
+        3 => 0xFF00_FF00_FF00_FF00,
+        4 => 0xFFFF_0000_FFFF_0000,
+        5 => 0xFFFF_FFFF_0000_0000,
+        6 => everywhere(high),
+        _ => 0,
+    }
+}
+
+fn plain(value: u64) -> Words
+    ensures { λ r. ⌜ r ≡ plainWords value ⌝ }
+{
+    Words {
         value,
-        label: false,
-        fair: false,
+        label: 0,
+        fair: 0,
         temporal: false,
     }
 }
 
-fn promise(value: bool, fair: bool) -> Bits
-    ensures { λ r. ⌜ r ≡ temporalBits value fair ⌝ }
+fn promise(value: u64, label: u64, fair: u64) -> Words
+    ensures { λ r. ⌜ r ≡ promiseWords value label fair ⌝ }
 {
-    Bits {
+    Words {
         value,
-        label: value,
+        label,
         fair,
         temporal: true,
     }
 }
 
-// A node's bits, where `values` holds the earlier nodes that are true and x is its bit of the next label.
-fn node_bits(event: u8, values: u64, x: bool, n: Node) -> Bits
-    ensures { λ r. ⌜ r ≡ bitsOf values event x (split n) ⌝ }
+// A node's bits, where a and b are its operands' and x is its bit of the next label.
+fn node_words(event: u8, a: u64, b: u64, x: u64, n: Node) -> Words
+    ensures { λ r. ⌜ Lanes event a b x n r ⌝ }
 {
-    let a = holds(values, n.a);
-    let b = holds(values, n.b);
     let kind = n.kind;
     match kind {
-        0 => plain(false),
-        1 => plain(true),
-        2 => plain(signal_on(event, n.a)),
-        3 => plain(at_least(event, n.a, n.b)),
-        4 => plain(!a),
+        0 => plain(0),
+        1 => plain(everywhere(true)),
+        2 => plain(everywhere(signal_on(event, n.a))),
+        3 => plain(everywhere(at_least(event, n.a, n.b))),
+        4 => plain(flip(a)),
         5 => plain(a & b),
         6 => plain(a | b),
-        7 => plain(!a | b),
-        8 => plain(a == b),
-        9 => plain(a != b),
-        10 => Bits {
-            value: x,
-            label: a,
-            fair: true,
-            temporal: true,
-        },
-        11 => promise(b | (a & x), !(b | (a & x)) | b),
-        12 => promise(a | x, !(a | x) | a),
-        13 => promise(a & x, (a & x) | !a),
-        _ => plain(false),
+        7 => plain(flip(a) | b),
+        8 => plain((a & b) | flip(a | b)),
+        9 => plain((a | b) & flip(a & b)),
+        10 => promise(x, a, everywhere(true)),
+        11 => promise(b | (a & x), b | (a & x), flip(b | (a & x)) | b),
+        12 => promise(a | x, a | x, flip(a | x) | a),
+        13 => promise(a & x, a & x, (a & x) | flip(a)),
+        _ => plain(0),
     }
 }
 
-// One node more.
-fn value_node(event: u8, next: u8, s: Valued, n: Node) -> Valued
-    requires { ⌜ Room s n ⌝ }
-    ensures { λ r. ⌜ modelOf r ≡ value event next (modelOf s) (split n) ⌝ }
+// ---- columns: a word for each node, and for each temporal one
+
+// What an earlier node gave; a later one is false.
+fn operand(values: &[u64; 64], a: u8) -> u64
+    requires { ⌜ length (now values) ≡ 64 ⌝ }
+    ensures { λ r. ⌜ r ≡ getD (now (values .entry)) a 0 ⌝ }
 {
-    let x = holds(next as u64, s.temporals);
-    let w = node_bits(event, s.values, x, n);
-    let values = put_at(s.count, w.value, s.values);
-    let count = s.count + 1;
-    let m = s.temporals;
+    if a < 64 {
+        return values[a as usize];
+    }
+    0
+}
+
+// One node more, the node i, where m of those before are temporal. Says how many are then.
+fn value_node(
+    event: u8,
+    high: bool,
+    i: usize,
+    m: u8,
+    n: Node,
+    values: &mut [u64; 64],
+    label: &mut [u64; 8],
+    fairs: &mut [u64; 8],
+) -> u8
+    requires { ⌜ (i < 64) × (m + temporals (split n ∷ []) ≤ 7) ⌝ }
+    requires { ⌜ (length (now values) ≡ 64) × (length (now label) ≡ 8) × (length (now fairs) ≡ 8) ⌝ }
+    ensures { λ _. ⌜ (length (now (values .exit)) ≡ 64) × (length (now (label .exit)) ≡ 8) × (length (now (fairs .exit)) ≡ 8) ⌝ }
+    ensures { λ r. ⌜ Advanced event high i m n r (now (values .entry)) (now (label .entry)) (now (fairs .entry)) (now (values .exit)) (now (label .exit)) (now (fairs .exit)) ⌝ }
+{
+    let a = operand(values, n.a);
+    let b = operand(values, n.b);
+    let x = label_word(high, m);
+    let w = node_words(event, a, b, x, n);
+    values[i] = w.value;
     if w.temporal {
-        let label = put_at(m, w.label, s.label);
-        let fairs = put_at(m, w.fair, s.fairs);
-        return Valued {
-            count,
-            values,
-            temporals: m + 1,
-            label,
-            fairs,
-        };
+        label[m as usize] = w.label;
+        fairs[m as usize] = w.fair;
+        return m + 1;
     }
-    Valued {
-        count,
-        values,
-        temporals: m,
-        label: s.label,
-        fairs: s.fairs,
-    }
+    m
 }
 
-// All nodes.
-fn value_nodes(event: u8, next: u8, count: usize, nodes: [Node; 64]) -> Valued
+// All nodes. The value of the last one, the rule itself, stands on top of the label.
+fn value_nodes(event: u8, high: bool, count: usize, nodes: [Node; 64]) -> Columns
     requires { ⌜ Valuable count nodes ⌝ }
-    ensures { λ r. ⌜ modelOf r ≡ valued event next (splits (take count nodes)) ⌝ }
+    ensures { λ r. ⌜ r .temporals ≡ temporals (splits (take count nodes)) ⌝ }
+    ensures { λ r. ⌜ Planes (λ l. placeAt count nodes event (labelOf high l)) (r .places) ⌝ }
+    ensures { λ r. ⌜ Planes (λ l. fairsAt count nodes event (labelOf high l)) (r .fairs) ⌝ }
 {
-    let mut s = Valued {
-        count: 0,
-        values: 0,
-        temporals: 0,
-        label: 0,
-        fairs: 0,
-    };
+    let mut values = [0u64; 64];
+    let mut label = [0u64; 8];
+    let mut fairs = [0u64; 8];
+    let mut m: u8 = 0;
     let mut i: usize = 0;
     while i < count {
         let n = nodes[i];
-        let more = value_node(event, next, s, n);
-        s = more;
+        let more = value_node(event, high, i, m, n, &mut values, &mut label, &mut fairs);
+        m = more;
         i += 1;
     }
-    s
-}
-
-// The label with the value of the last node, the rule itself, on top.
-fn place_of(s: Valued) -> u8
-    requires { ⌜ (s .label < 2 ^ s .temporals) × (1 ≤ s .count) × (s .temporals ≤ 7) ⌝ }
-    ensures { λ r. ⌜ r ≡ placeOf (modelOf s) ⌝ }
-{
-    put_at(s.temporals, holds(s.values, s.count - 1), s.label) as u8
+    label[m as usize] = values[count - 1];
+    Columns {
+        places: label,
+        fairs,
+        temporals: m,
+    }
 }
 
 // How many of the nodes are temporal.
@@ -175,8 +208,55 @@ pub fn temporal_count(count: usize, nodes: [Node; 64]) -> u8
     requires { ⌜ Valuable count nodes ⌝ }
     ensures { λ r. ⌜ r ≡ temporals (splits (take count nodes)) ⌝ }
 {
-    let s = value_nodes(0, 0, count, nodes);
+    let s = value_nodes(0, false, count, nodes);
     s.temporals
+}
+
+// ---- bytes
+
+// The byte of label l.
+fn byte_at(columns: &[u64; 8], l: u8) -> u8
+    requires { ⌜ (l < 64) × (length (now columns) ≡ 8) ⌝ }
+    ensures { λ r. ⌜ Byte 8 (now (columns .entry)) l r ⌝ }
+{
+    let mut byte: u64 = 0;
+    let mut j: u8 = 0;
+    while j < 8 {
+        let next = put_at(j, holds(columns[j as usize], l), byte);
+        byte = next;
+        j += 1;
+    }
+    byte as u8
+}
+
+// The entries of one half of the labels, from its first label to the label before `to`.
+fn fill_half(
+    event: u8,
+    high: bool,
+    from: usize,
+    to: usize,
+    count: usize,
+    nodes: [Node; 64],
+    places: &mut [u8; 128],
+    fairs: &mut [u8; 128],
+)
+    requires { ⌜ Valuable count nodes ⌝ }
+    requires { ⌜ (from ≡ labelOf high 0) × (from ≤ to) × (to ≤ from + 64) × (to ≤ 128) ⌝ }
+    requires { ⌜ (length (now places) ≡ 128) × Entries from (placeAt count nodes event) 0 (now places) ⌝ }
+    requires { ⌜ (length (now fairs) ≡ 128) × Entries from (fairsAt count nodes event) 0 (now fairs) ⌝ }
+    ensures { λ _. ⌜ (length (now (places .exit)) ≡ 128) × Entries to (placeAt count nodes event) 0 (now (places .exit)) ⌝ }
+    ensures { λ _. ⌜ (length (now (fairs .exit)) ≡ 128) × Entries to (fairsAt count nodes event) 0 (now (fairs .exit)) ⌝ }
+{
+    let columns = value_nodes(event, high, count, nodes);
+    let p = columns.places;
+    let f = columns.fairs;
+    let mut y = from;
+    while y < to {
+        let l = (y - from) as u8;
+        places[y] = byte_at(&p, l);
+        fairs[y] = byte_at(&f, l);
+        y += 1;
+    }
 }
 
 fn value_rows(event: u8, labels: usize, count: usize, nodes: [Node; 64]) -> Rows
@@ -187,13 +267,30 @@ fn value_rows(event: u8, labels: usize, count: usize, nodes: [Node; 64]) -> Rows
 {
     let mut places = [0u8; 128];
     let mut fairs = [0u8; 128];
-    let mut y: usize = 0;
-    while y < labels {
-        let s = value_nodes(event, y as u8, count, nodes);
-        places[y] = place_of(s);
-        fairs[y] = s.fairs as u8;
-        y += 1;
+    if labels <= 64 {
+        fill_half(
+            event,
+            false,
+            0,
+            labels,
+            count,
+            nodes,
+            &mut places,
+            &mut fairs,
+        );
+        return Rows { places, fairs };
     }
+    fill_half(event, false, 0, 64, count, nodes, &mut places, &mut fairs);
+    fill_half(
+        event,
+        true,
+        64,
+        labels,
+        count,
+        nodes,
+        &mut places,
+        &mut fairs,
+    );
     Rows { places, fairs }
 }
 

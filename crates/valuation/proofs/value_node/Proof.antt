@@ -1,51 +1,65 @@
--- `valuation::value_node` meets its contract. The bits of a temporal node are added, those of a plain one left out.
+-- `valuation::value_node` meets its contract. The words of the node are stored on top of the columns.
 use native.Mathlib.Omega.{arith}
-use mathlib.Core.Path.{_≡_}
-use mathlib.Core.List.{[], _∷_}
-use Rattle.valuation.proofs.Steps.{counts, temporal-node, plain-node}
-use Rattle.valuation.specs.Valued.{modelOf}
-use Rattle.ltl.specs.Nodes.{split, temporals}
 use borrow.Author.Needs.{needs}
+use Rattle.valuation.proofs.Held.{advanced-temporal, advanced-plain}
+use denote.Ref.{now}
+use lib.ListN.{length-set}
 use Rattle.valuation.proofs.value_node.Statement.{statement}
 use Rattle.valuation.proofs.value_node.Tie as tie
 
-holds-requires : tie.Need-holds-requires
-holds-requires c κs = search needs
+operand-requires : tie.Need-operand-requires
+operand-requires c κs = search needs
 
-node-bits-requires : tie.Need-node-bits-requires
-node-bits-requires c κs = search needs
+operand-requires-2 : tie.Need-operand-requires-2
+operand-requires-2 c κs = search needs
 
-put-at-requires : tie.Need-put-at-requires
-put-at-requires c κs = search needs
+label-word-requires : tie.Need-label-word-requires
+label-word-requires c κs = search needs
 
-add-count : tie.Need-add-count
-add-count c = search needs
+node-words-requires : tie.Need-node-words-requires
+node-words-requires c κs = search needs
 
-put-at-requires-2 : tie.Need-put-at-requires-2
-put-at-requires-2 c κs = let k : temporals ((split (c .before .before .before .before .before .args .n)) ∷ []) ≡ 1 = counts ((c .before .before .before .before .before .args .s) .values) (c .before .before .before .before .before .args .event) (c .before .before .before .before .holds .result) (split (c .before .before .before .before .before .args .n)) (c .before .before .before .node-bits .result) (c .before .before .before .node-bits .ensures) (c .if1 .taken) in (omega arith, c .before .before .before .before .before .pre .sized .label)
+mul-values : tie.Need-mul-values
+mul-values c = search needs
 
-put-at-requires-3 : tie.Need-put-at-requires-3
-put-at-requires-3 c κs = let k : temporals ((split (c .before .before .before .before .before .before .args .n)) ∷ []) ≡ 1 = counts ((c .before .before .before .before .before .before .args .s) .values) (c .before .before .before .before .before .before .args .event) (c .before .before .before .before .before .holds .result) (split (c .before .before .before .before .before .before .args .n)) (c .before .before .before .before .node-bits .result) (c .before .before .before .before .node-bits .ensures) (c .before .if1 .taken) in (omega arith, c .before .before .before .before .before .before .pre .sized .fairs)
+element-write-values : tie.Need-element-write-values
+element-write-values c = search needs
 
-add-t14 : tie.Need-add-t14
-add-t14 c = search needs
+mul-label : tie.Need-mul-label
+mul-label c = search needs
+
+element-write-label : tie.Need-element-write-label
+element-write-label c = search needs
+
+mul-fairs : tie.Need-mul-fairs
+mul-fairs c = search needs
+
+element-write-fairs : tie.Need-element-write-fairs
+element-write-fairs c = search needs
+
+add-result : tie.Need-add-result
+add-result c = search needs
 
 returns : tie.Need-returns
-returns c = temporal-node (c .before .before .before .before .before .before .before .args .event) (c .before .before .before .before .before .before .before .args .next) (modelOf (c .before .before .before .before .before .before .before .args .s)) (c .before .before .before .before .before .before .holds .result) (c .before .before .before .before .before .node-bits .result) (c .before .before .before .before .put-at .result) (c .before .before .before .before .before .before .holds .ensures) (c .before .before .before .before .put-at .ensures) (split (c .before .before .before .before .before .before .before .args .n)) (c .before .put-at2 .result) (c .put-at3 .result) (c .before .before .before .before .before .node-bits .ensures) (c .before .before .if1 .taken) (c .before .put-at2 .ensures) (c .put-at3 .ensures)
+returns c = ((simp length-set (c .before .before .before .before .before .before .before .pre .1 .0), simp length-set (c .before .before .before .before .before .before .before .pre .1 .1), simp length-set (c .before .before .before .before .before .before .before .pre .1 .2)), advanced-temporal (c .before .before .before .before .before .before .before .args .event) (c .before .before .before .before .before .before .before .args .high) (c .before .before .before .before .before .before .before .args .i) (c .before .before .before .before .before .before .before .args .m) (c .before .before .before .before .before .before .before .args .n) (now (c .before .before .before .before .before .before .before .args .values)) (now (c .before .before .before .before .before .before .before .args .label)) (now (c .before .before .before .before .before .before .before .args .fairs)) (c .before .before .before .before .before .operand .result) (c .before .before .before .operand2 .result) (c .before .before .label-word .result) (c .before .node-words .result) (c .before .before .before .before .before .operand .ensures) (c .before .before .before .operand2 .ensures) (c .before .before .label-word .ensures) (c .before .node-words .ensures) (c .if1 .taken) (omega arith) (omega arith) (omega arith))
 
 returns-2 : tie.Need-returns-2
-returns-2 c = plain-node (c .before .before .before .before .before .args .event) (c .before .before .before .before .before .args .next) (modelOf (c .before .before .before .before .before .args .s)) (c .before .before .before .before .holds .result) (c .before .before .before .node-bits .result) (c .before .before .put-at .result) (c .before .before .before .before .holds .ensures) (c .before .before .put-at .ensures) (split (c .before .before .before .before .before .args .n)) (c .before .before .before .node-bits .ensures) (c .if1 .left)
+returns-2 c = ((simp length-set (c .before .before .before .before .before .before .before .pre .1 .0), c .before .before .before .before .before .before .before .pre .1 .1, c .before .before .before .before .before .before .before .pre .1 .2), advanced-plain (c .before .before .before .before .before .before .before .args .event) (c .before .before .before .before .before .before .before .args .high) (c .before .before .before .before .before .before .before .args .i) (c .before .before .before .before .before .before .before .args .m) (c .before .before .before .before .before .before .before .args .n) (now (c .before .before .before .before .before .before .before .args .values)) (now (c .before .before .before .before .before .before .before .args .label)) (now (c .before .before .before .before .before .before .before .args .fairs)) (c .before .before .before .before .before .operand .result) (c .before .before .before .operand2 .result) (c .before .before .label-word .result) (c .before .node-words .result) (c .before .before .before .before .before .operand .ensures) (c .before .before .before .operand2 .ensures) (c .before .before .label-word .ensures) (c .before .node-words .ensures) (c .if1 .left) (omega arith))
 
 pub value-node-spec : {M : Type 1} → statement M
 value-node-spec =
     tie.close
     (tie.spec
-    holds-requires
-    node-bits-requires
-    put-at-requires
-    add-count
-    put-at-requires-2
-    put-at-requires-3
-    add-t14
+    operand-requires
+    operand-requires-2
+    label-word-requires
+    node-words-requires
+    mul-values
+    element-write-values
+    mul-label
+    element-write-label
+    mul-fairs
+    element-write-fairs
+    add-result
     returns
     returns-2)

@@ -1,0 +1,119 @@
+-- Bits of words: a bit for each of 64 labels.
+use mathlib.Core.Path.{_≡_, refl, sym, ap, _∙_}
+use mathlib.Core.Bool.{Bool, true, false, not, _&&_, _||_, Bool·beq, false≢true}
+use Prim.Native.Nat.{ℕ, zero, suc, _+_, _-_, _*_, _/_, _%_, _^_, _≤_, _<_, max, min}
+use native.Mathlib.Nat.{pow-suc, div-one, div-div-eq-div-mul, mul-comm}
+use native.Mathlib.Decide.{ℕ-discrete}
+use native.Mathlib.Omega.{arith}
+use lib.Dec.{eqb}
+use lib.Bits.{bitAnd, bitOr, and-shr, and-step, or-shr, or-step}
+use Rattle.ltl.specs.Sets.{on, everyBelow}
+use Rattle.ltl.proofs.Sets.{on-zero, on-out}
+use Rattle.valuation.specs.Words.{labelOf, Flipped, Everywhere, LabelBits}
+
+-- ---- and, or
+
+odd : (q x : ℕ) → x < 2 → (q * 2 + x) % 2 ≡ x
+odd q x h = omega arith
+
+and-digit : (x y : ℕ) → x < 2 → y < 2 → eqb (min x y) 1 ≡ (eqb x 1 && eqb y 1)
+and-digit zero zero p q = refl
+and-digit zero (suc zero) p q = refl
+and-digit (suc zero) zero p q = refl
+and-digit (suc zero) (suc zero) p q = refl
+and-digit zero (suc (suc y)) p q = absurd (omega arith)
+and-digit (suc zero) (suc (suc y)) p q = absurd (omega arith)
+and-digit (suc (suc x)) y p q = absurd (omega arith)
+
+or-digit : (x y : ℕ) → x < 2 → y < 2 → eqb (max x y) 1 ≡ (eqb x 1 || eqb y 1)
+or-digit zero zero p q = refl
+or-digit zero (suc zero) p q = refl
+or-digit (suc zero) zero p q = refl
+or-digit (suc zero) (suc zero) p q = refl
+or-digit zero (suc (suc y)) p q = absurd (omega arith)
+or-digit (suc zero) (suc (suc y)) p q = absurd (omega arith)
+or-digit (suc (suc x)) y p q = absurd (omega arith)
+
+pub on-or : (A B i : ℕ) → on (bitOr A B) i ≡ (on A i || on B i)
+on-or A B i =
+    ap (λ (q : ℕ). eqb (q % 2) 1) (or-shr A B i ∙ or-step (A / 2 ^ i) (B / 2 ^ i))
+    ∙ ap (λ (q : ℕ). eqb q 1) (odd (bitOr (A / 2 ^ i / 2) (B / 2 ^ i / 2)) (max (A / 2 ^ i % 2) (B / 2 ^ i % 2)) (omega arith))
+    ∙ or-digit (A / 2 ^ i % 2) (B / 2 ^ i % 2) (omega arith) (omega arith)
+
+pub on-and : (A B i : ℕ) → on (bitAnd A B) i ≡ (on A i && on B i)
+on-and A B i =
+    ap (λ (q : ℕ). eqb (q % 2) 1) (and-shr A B i ∙ and-step (A / 2 ^ i) (B / 2 ^ i))
+    ∙ ap (λ (q : ℕ). eqb q 1) (odd (bitAnd (A / 2 ^ i / 2) (B / 2 ^ i / 2)) (min (A / 2 ^ i % 2) (B / 2 ^ i % 2)) (omega arith))
+    ∙ and-digit (A / 2 ^ i % 2) (B / 2 ^ i % 2) (omega arith) (omega arith)
+
+-- ---- all bits turned round
+
+on-first : (A : ℕ) → on A 0 ≡ eqb (A % 2) 1
+on-first A = ap (λ (q : ℕ). eqb (q % 2) 1) (div-one A)
+
+on-suc : (A i : ℕ) → on A (suc i) ≡ on (A / 2) i
+on-suc A i = ap (λ (q : ℕ). eqb (q % 2) 1) (ap (λ (d : ℕ). A / d) (pow-suc 2 i ∙ mul-comm (2 ^ i) 2) ∙ sym (div-div-eq-div-mul A 2 (2 ^ i)))
+
+other-digit : (x y : ℕ) → x + y ≡ 1 → eqb x 1 ≡ not (eqb y 1)
+other-digit zero zero h = absurd (omega arith)
+other-digit zero (suc zero) h = refl
+other-digit (suc zero) zero h = refl
+other-digit zero (suc (suc y)) h = absurd (omega arith)
+other-digit (suc zero) (suc y) h = absurd (omega arith)
+other-digit (suc (suc x)) y h = absurd (omega arith)
+
+-- A and B add up to all ones below k
+turned : (k A B l : ℕ) → A + B + 1 ≡ 2 ^ k → l < k → on A l ≡ not (on B l)
+turned zero A B l h m = absurd (omega arith)
+turned (suc k) A B zero h m = on-first A ∙ other-digit (A % 2) (B % 2) (omega (arith, pow-suc 2 k)) ∙ ap not (sym (on-first B))
+turned (suc k) A B (suc l) h m = on-suc A l ∙ turned k (A / 2) (B / 2) l (omega (arith, pow-suc 2 k)) (omega arith) ∙ ap not (sym (on-suc B l))
+
+pub flipped : (a r : ℕ) → r + a + 1 ≡ 2 ^ 64 → Flipped a r
+flipped a r h = record { flip = λ l m. turned 64 r a l h m }
+
+-- ---- the same bit everywhere
+
+pub every-on : Everywhere true 18446744073709551615
+every-on = record { all = λ l m. turned 64 18446744073709551615 0 l refl m ∙ ap not (on-zero l) }
+
+pub every-off : Everywhere false 0
+every-off = record { all = λ l m. on-zero l }
+
+pub every-is : {b : Bool} {r : ℕ} → Everywhere b r → (c : Bool) → b ≡ c → Everywhere c r
+every-is h c q = record { all = λ l m. h .all l m ∙ q }
+
+-- ---- the bits of the labels
+
+every-at : (n : ℕ) (f : ℕ → Bool) → everyBelow n f ≡ true → (i : ℕ) → i < n → f i ≡ true
+every-at zero f h i l = absurd (omega arith)
+every-at (suc n) f h i l = go (f n) refl h (ℕ-discrete i n) (λ k. every-at n f k i)
+  where
+    go : (b : Bool) → f n ≡ b → elim b [ true ↦ everyBelow n f | false ↦ false ] ≡ true → Dec (i ≡ n) → (everyBelow n f ≡ true → i < n → f i ≡ true) → f i ≡ true
+    go true e k (yes p) r = rw p e
+    go true e k (no p) r = r k (omega arith)
+    go false e k d r = absurd (false≢true k)
+
+same-bit : (a b : Bool) → Bool·beq a b ≡ true → a ≡ b
+same-bit true true h = refl
+same-bit false false h = refl
+same-bit true false h = absurd (false≢true h)
+same-bit false true h = absurd (false≢true h)
+
+abbrev agrees : Bool → ℕ → ℕ → Bool
+agrees high j r = everyBelow 64 (λ l. Bool·beq (on r l) (on (labelOf high l) j))
+
+label-bits : (high : Bool) (j r : ℕ) → agrees high j r ≡ true → LabelBits high j r
+label-bits high j r h = record { bit = λ l m. same-bit (on r l) (on (labelOf high l) j) (every-at 64 (λ l. Bool·beq (on r l) (on (labelOf high l) j)) h l m) }
+
+pub bits-at : (high : Bool) (i j r : ℕ) → i ≡ j → agrees true j r ≡ true → agrees false j r ≡ true → LabelBits high i r
+bits-at true i j r e p q = rw e (label-bits true j r p)
+bits-at false i j r e p q = rw e (label-bits false j r q)
+
+-- the bit of the half
+pub bits-top : (high : Bool) (i r : ℕ) → i ≡ 6 → Everywhere high r → LabelBits high i r
+bits-top true i r e h = rw e (record { bit = λ l m. h .all l m ∙ sym (every-at 64 (λ l. on (64 + l) 6) refl l m) })
+bits-top false i r e h = rw e (record { bit = λ l m. h .all l m ∙ sym (on-out l 6 6 (omega arith) (omega arith)) })
+
+pub bits-past : (high : Bool) (i : ℕ) → 7 ≤ i → LabelBits high i 0
+bits-past true i h = record { bit = λ l m. on-zero l ∙ sym (on-out (64 + l) 7 i (omega arith) h) }
+bits-past false i h = record { bit = λ l m. on-zero l ∙ sym (on-out l 7 i (omega arith) h) }
