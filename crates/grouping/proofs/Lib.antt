@@ -2,3 +2,4 @@ pub mod Laws
 pub mod Front
 pub mod Reductions
 pub mod Arrays
+pub mod Slots

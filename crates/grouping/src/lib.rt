@@ -10,6 +10,7 @@ ghost use Rattle.moore.specs.Counting.{countBelow};
 ghost use Rattle.moore.specs.Grouping.{entry, Machine, together, leads, sameStep, firstGroups, nextGroups, sameBelow, rounds, grouping};
 ghost use Rattle.moore.specs.Quotient.{number, closed};
 ghost use Rattle.grouping.specs.Machines.{firstEvents, RowBelow, RowsBelow, ListBelow, Least, Leaders, verdictAt, rowAt};
+ghost use Rattle.grouping.specs.Slots.{slotOf, LeftBelow, InSlot};
 ghost use Rattle.grouping.specs.Reduction.{Reduction};
 use table_file::width;
 use wire::wide16;
@@ -71,7 +72,54 @@ fn least_same(rows: &[[u16; 16]; 256], group: &[u16; 256], events: usize, i: usi
     i as u16
 }
 
-// One round: each state with the least that is left with it.
+// The slot of a state in a round, by its group and those of its successors: states that a round leaves together have the same slot.
+fn slot_of(rows: &[[u16; 16]; 256], group: &[u16; 256], events: usize, i: usize) -> usize
+    requires { ⌜ (events ≤ 16) × (i < 256) ⌝ }
+    requires { ⌜ RowBelow events 256 (getD (now rows) i []) ⌝ }
+    ensures { λ r. ⌜ (r ≡ slotOf events (now (rows .entry)) (now (group .entry)) i) × (r < 1024) ⌝ }
+{
+    let mut slot = wide16(group[i]) % 1024;
+    let mut e: usize = 0;
+    while e < events {
+        let to = successor(rows, i, e);
+        slot = (slot * 5 + wide16(group[to])) % 1024;
+        e += 1;
+    }
+    slot
+}
+
+// The same as `least_same`. `next` has it for the states before i; j is the last of these that has the slot of i, or 256 if none has.
+fn least_by_slot(
+    rows: &[[u16; 16]; 256],
+    group: &[u16; 256],
+    events: usize,
+    next: &[u16; 256],
+    j: usize,
+    i: usize,
+) -> u16
+    requires { ⌜ (events ≤ 16) × (i < 256) ⌝ }
+    requires { ⌜ RowsBelow (i + 1) events 256 (now rows) ⌝ }
+    requires { ⌜ Least (i + 1) (now group) ⌝ }
+    requires { ⌜ LeftBelow i events (now rows) (now group) (now next) × InSlot i events (now rows) (now group) j ⌝ }
+    ensures { λ r. ⌜ r ≡ leastBelow i (λ j. sameStep (firstEvents events) (now (rows .entry)) (now (group .entry)) j i) ⌝ }
+{
+    if i <= j {
+        return i as u16;
+    }
+    if same_step(rows, group, events, j, i) {
+        return next[j];
+    }
+    least_same(rows, group, events, i)
+}
+
+// Slots without states.
+fn no_slots() -> [u16; 1024]
+    ensures { λ r. ⌜ length r ≡ 1024 ⌝ }
+{
+    [256u16; 1024]
+}
+
+// One round: each state with the least that is left with it. A slot has the last state so far that belongs there, or 256 if there is none.
 fn round(rows: [[u16; 16]; 256], group: &[u16; 256], states: usize, events: usize) -> [u16; 256]
     requires { ⌜ (events ≤ 16) × (states ≤ 256) ⌝ }
     requires { ⌜ RowsBelow states events 256 rows ⌝ }
@@ -79,9 +127,14 @@ fn round(rows: [[u16; 16]; 256], group: &[u16; 256], states: usize, events: usiz
     ensures { λ r. ⌜ take states r ≡ nextGroups (firstEvents events) states rows (now (group .entry)) ⌝ }
 {
     let mut next = [0u16; 256];
+    let mut slots = no_slots();
     let mut i: usize = 0;
     while i < states {
-        next[i] = least_same(&rows, group, events, i);
+        let slot = slot_of(&rows, group, events, i);
+        let j = wide16(slots[slot]);
+        let least = least_by_slot(&rows, group, events, &next, j, i);
+        next[i] = least;
+        slots[slot] = i as u16;
         i += 1;
     }
     next

@@ -48,11 +48,11 @@ together-equivalence g = record {
 
 module _ (Σ : Alphabet) (rows : List (List ℕ)) (g : List ℕ) where
   -- what the test of a round says
-  record Step (i j : ℕ) : Type 0 where
-    here : getD g i 0 ≡ getD g j 0
-    then : (e : ℕ) → Event Σ e → getD g (entry rows i e) 0 ≡ getD g (entry rows j e) 0
+  pub record Step (i j : ℕ) : Type 0 where
+    pub here : getD g i 0 ≡ getD g j 0
+    pub then : (e : ℕ) → Event Σ e → getD g (entry rows i e) 0 ≡ getD g (entry rows j e) 0
 
-  step→ : (i j : ℕ) → sameStep Σ rows g i j ≡ true → Step i j
+  pub step→ : (i j : ℕ) → sameStep Σ rows g i j ≡ true → Step i j
   step→ i j h = go (bool-cases (together g i j))
     where
       next : Bool
@@ -71,7 +71,7 @@ module _ (Σ : Alphabet) (rows : List (List ℕ)) (g : List ℕ) where
       ap (λ (b : Bool). cond b (allEvents Σ (λ e. together g (entry rows i e) (entry rows j e))) false) (eq-eqb (getD g i 0) (getD g j 0) (h .here))
       ∙ events-are Σ (λ e. together g (entry rows i e) (entry rows j e)) (λ e l. eq-eqb (getD g (entry rows i e) 0) (getD g (entry rows j e) 0) (h .then e l))
 
-  step-equivalence : Equivalence (sameStep Σ rows g)
+  pub step-equivalence : Equivalence (sameStep Σ rows g)
   step-equivalence = record {
     self = λ s. →step s s (record { here = refl; then = λ e l. refl });
     swap = λ s t h. let p = step→ s t h in →step t s (record { here = sym (p .here); then = λ e l. sym (p .then e l) });

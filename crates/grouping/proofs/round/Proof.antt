@@ -6,27 +6,53 @@ use Rattle.sequences.specs.Tabulate.{leastBelow}
 use Rattle.sequences.proofs.Loops.{Filled, filled-none, filled-more}
 use Rattle.moore.specs.Grouping.{sameStep, nextGroups}
 use Rattle.grouping.specs.Machines.{firstEvents}
+use Rattle.grouping.specs.Slots.{Slotted}
 use Rattle.grouping.proofs.Laws.{filled-take, rows-fewer}
+use Rattle.grouping.proofs.Slots.{left-below, in-slot, slotted-none, slotted-more}
 use Rattle.grouping.proofs.round.Statement.{statement}
 use Rattle.grouping.proofs.round.Tie as tie
 
 abbrev Inv-loop : tie.InvT-loop
-Inv-loop group states events rows next₀ i₀ next i = (i ≤ states) × Filled i (λ k. leastBelow k (λ j. sameStep (firstEvents events) rows group j k)) next₀ next
+Inv-loop group states events rows next₀ slots₀ i₀ next slots i = (i ≤ states) × Filled i (λ k. leastBelow k (λ j. sameStep (firstEvents events) rows group j k)) next₀ next × Slotted i events rows group slots
 
 abbrev μ-loop : tie.MeasureT-loop
-μ-loop group states events rows next₀ i₀ next i = states - i
+μ-loop group states events rows next₀ slots₀ i₀ next slots i = states - i
+
+no-slots-requires : tie.Need-no-slots-requires Inv-loop μ-loop
+no-slots-requires c κs = search needs
 
 loop-holds : tie.Need-loop-holds Inv-loop μ-loop
-loop-holds c = (omega arith, filled-none)
+loop-holds c = (omega arith, filled-none, slotted-none _ _ _ (c .no-slots .result) (c .no-slots .ensures))
 
-least-same-requires : tie.Need-least-same-requires Inv-loop μ-loop
-least-same-requires c κs = let s = c .before .before .before in ((omega arith, omega arith), (rows-fewer (c .before .before .loop .i + 1) 256 (s .pre .1 .0) (omega arith) (omega arith), record { least = λ k l. s .pre .1 .1 .least k (omega arith) }))
+slot-of-requires : tie.Need-slot-of-requires Inv-loop μ-loop
+slot-of-requires c κs = ((omega arith, omega arith), rows-fewer (c .before .before .loop .i + 1) 256 (c .before .before .before .before .pre .1 .0) (omega arith) (omega arith) .row (c .before .before .loop .i) (omega arith))
+
+mul-wide16 : tie.Need-mul-wide16 Inv-loop μ-loop
+mul-wide16 c = omega (arith, c .before .before .before .loop .inv .2 .long, c .slot-of .ensures .1)
+
+array-read-wide16 : tie.Need-array-read-wide16 Inv-loop μ-loop
+array-read-wide16 c = omega (arith, c .before .before .before .loop .inv .2 .long, c .slot-of .ensures .1)
+
+wide16-requires : tie.Need-wide16-requires Inv-loop μ-loop
+wide16-requires c κs = search needs
+
+least-by-slot-requires : tie.Need-least-by-slot-requires Inv-loop μ-loop
+least-by-slot-requires c κs = ((omega arith, omega arith), (rows-fewer (c .before .before .before .before .before .before .loop .i + 1) 256 (c .before .before .before .before .before .before .before .before .pre .1 .0) (omega arith) (omega arith), (record { least = λ k l. c .before .before .before .before .before .before .before .before .pre .1 .1 .least k (omega arith) }, (left-below _ _ _ (c .before .before .before .before .before .before .loop .i) (c .before .before .before .before .before .before .loop .inv .1), in-slot _ _ _ (c .before .before .before .before .before .before .loop .i) (c .before .before .before .slot-of .result) (c .before .before .wide16 .result) (c .before .before .before .before .before .before .loop .slots) (c .before .before .before .before .before .before .loop .inv .2) (c .before .before .before .slot-of .ensures .0) (c .before .before .wide16 .ensures .0)))))
 
 mul-next : tie.Need-mul-next Inv-loop μ-loop
 mul-next c = search needs
 
 array-write-next : tie.Need-array-write-next Inv-loop μ-loop
 array-write-next c = search needs
+
+cast-slots : tie.Need-cast-slots Inv-loop μ-loop
+cast-slots c = search needs
+
+mul-slots : tie.Need-mul-slots Inv-loop μ-loop
+mul-slots c = omega (arith, c .before .before .before .before .before .before .before .loop .inv .2 .long, c .before .before .before .before .slot-of .ensures .1)
+
+array-write-slots : tie.Need-array-write-slots Inv-loop μ-loop
+array-write-slots c = omega (arith, c .before .before .before .before .before .before .before .loop .inv .2 .long, c .before .before .before .before .slot-of .ensures .1)
 
 add-i : tie.Need-add-i Inv-loop μ-loop
 add-i c = search needs
@@ -35,11 +61,11 @@ loop-less : tie.Need-loop-less Inv-loop μ-loop
 loop-less c = search needs
 
 loop-again : tie.Need-loop-again Inv-loop μ-loop
-loop-again c = let l = c .before .before .before in (omega arith, filled-more (l .loop .inv .1) (c .least-same .ensures) (let l : l .loop .i < 256 = omega arith in search needs))
+loop-again c = (omega arith, filled-more (c .before .before .before .before .before .before .before .loop .inv .1) (c .least-by-slot .ensures) (let l : c .before .before .before .before .before .before .before .loop .i < 256 = omega arith in search needs), slotted-more _ _ _ (c .before .before .before .before .before .before .before .loop .i) (c .before .before .before .before .slot-of .result) (c .before .before .before .before .before .before .before .loop .slots) (c .before .before .before .before .before .before .before .loop .inv .2) (c .before .before .before .before .slot-of .ensures .0) (c .before .before .before .before .slot-of .ensures .1))
 
 returns : tie.Need-returns Inv-loop μ-loop
 unfolding nextGroups
-returns c = filled-take (c .before .before .args .states) (c .before .loop .inv .1) (omega arith)
+returns c = filled-take (c .before .before .before .args .states) (c .before .loop .inv .1) (omega arith)
 
 pub round-spec : {M : Type 1} → statement M
 round-spec =
@@ -47,10 +73,18 @@ round-spec =
     (tie.spec
     Inv-loop
     μ-loop
+    no-slots-requires
     loop-holds
-    least-same-requires
+    slot-of-requires
+    mul-wide16
+    array-read-wide16
+    wide16-requires
+    least-by-slot-requires
     mul-next
     array-write-next
+    cast-slots
+    mul-slots
+    array-write-slots
     add-i
     loop-less
     loop-again

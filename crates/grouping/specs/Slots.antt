@@ -1,0 +1,31 @@
+-- The slots in which a round looks for states that it leaves together.
+use mathlib.Core.Path.{_≡_}
+use mathlib.Core.Bool.{true}
+use mathlib.Core.List.{List}
+use Prim.Native.Nat.{ℕ, zero, suc, _+_, _*_, _%_, _<_}
+use lib.ListN.{length, getD}
+use Rattle.sequences.specs.Tabulate.{leastBelow}
+use Rattle.moore.specs.Grouping.{entry, sameStep}
+use Rattle.grouping.specs.Machines.{firstEvents}
+
+-- s mixed with f 0, f 1, .., f (n - 1)
+unfoldable pub mixed : ℕ → (ℕ → ℕ) → ℕ → ℕ
+mixed zero f s = s
+mixed (suc n) f s = (mixed n f s * 5 + f n) % 1024
+
+-- the slot of state i, by its group and those of its first w successors
+abbrev pub slotOf : ℕ → List (List ℕ) → List ℕ → ℕ → ℕ
+slotOf w rows group i = mixed w (λ e. getD group (entry rows i e) 0) (getD group i 0 % 1024)
+
+-- the slot of each state before i has a state before i
+pub record Slotted (i w : ℕ) (rows : List (List ℕ)) (group slots : List ℕ) : Type 0 where
+  pub long : length slots ≡ 1024
+  pub met : (k : ℕ) → k < i → getD slots (slotOf w rows group k) 0 < i
+
+-- j is before i if the round leaves any state before i with i
+pub record InSlot (i w : ℕ) (rows : List (List ℕ)) (group : List ℕ) (j : ℕ) : Type 0 where
+  pub before : (k : ℕ) → k < i → sameStep (firstEvents w) rows group k i ≡ true → j < i
+
+-- next has for each state before i the least that the round leaves with it
+pub record LeftBelow (i w : ℕ) (rows : List (List ℕ)) (group next : List ℕ) : Type 0 where
+  pub left : (k : ℕ) → k < i → getD next k 0 ≡ leastBelow k (λ j. sameStep (firstEvents w) rows group j k)
