@@ -7,3 +7,4 @@ pub mod Labels
 pub mod Gathers
 pub mod Parts
 pub mod Reach
+pub mod Empty

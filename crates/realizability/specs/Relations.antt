@@ -21,6 +21,10 @@ entry m x y = on (getD m (2 * x + y / 64) 0) (y % 64)
 pub record Matrix (n : ℕ) (r : ℕ → ℕ → Bool) (m : List ℕ) : Type 0 where
   pub is : (x y : ℕ) → x < n → y < n → entry m x y ≡ r x y
 
+-- where the answer is yes, x is related to nothing
+pub record EmptyRow (x : ℕ) (m : List ℕ) (answer : Bool) : Type 0 where
+  pub none : answer ≡ true → (y : ℕ) → y < 128 → entry m x y ≡ false
+
 -- the pair of x and y is added, and no other
 pub record MarkedAt (x y : ℕ) (old new : List ℕ) : Type 0 where
   pub long : length new ≡ 256

@@ -8,7 +8,7 @@ ghost use lib.Dec.{eqb};
 ghost use Rattle.ltl.specs.Sets.{on};
 ghost use Rattle.ltl.specs.Realizable.{allOf, realizable};
 ghost use Rattle.valuation.specs.Entries.{Entries};
-ghost use Rattle.realizability.specs.Relations.{entry, Matrix, MarkedAt, Added, onlyIf, RowPassed, labelAt, edge, through, closed, leadsBy, bothWays, partBy, Within, withinPart, Gathered, AllGathered, Reaches, coreIn, coreBy, toCoreBy, realizableBy, Sizes, below};
+ghost use Rattle.realizability.specs.Relations.{entry, Matrix, EmptyRow, MarkedAt, Added, onlyIf, RowPassed, labelAt, edge, through, closed, leadsBy, bothWays, partBy, Within, withinPart, Gathered, AllGathered, Reaches, coreIn, coreBy, toCoreBy, realizableBy, Sizes, below};
 ghost use Rattle.ltl.specs.Residuals.{before};
 ghost use Rattle.ltl.specs.Keys.{look};
 use valuation::holds;
@@ -37,6 +37,17 @@ fn has(rows: &[u64; 256], x: usize, y: usize) -> bool
     ensures { λ r. ⌜ r ≡ entry (now (rows .entry)) x y ⌝ }
 {
     (rows[2 * x + y / 64] >> (y % 64)) % 2 == 1
+}
+
+// Whether x leads nowhere.
+fn is_empty(rows: &[u64; 256], x: usize) -> bool
+    requires { ⌜ (x < 128) × (length (now rows) ≡ 256) ⌝ }
+    ensures { λ r. ⌜ EmptyRow x (now (rows .entry)) r ⌝ }
+{
+    if rows[2 * x] == 0 {
+        return rows[2 * x + 1] == 0;
+    }
+    false
 }
 
 // Adds the pair of x and y.
@@ -97,7 +108,8 @@ fn pass_row(k: usize, a: u64, b: u64, x: usize, rows: &mut [u64; 256])
     rows[2 * x + 1] = only_if(there, b) | rows[2 * x + 1];
 }
 
-fn pass(k: usize, labels: usize, rows: &mut [u64; 256])
+// Adds the ways through k to each row.
+fn pass_rows(k: usize, labels: usize, rows: &mut [u64; 256])
     requires { ⌜ (labels ≤ 128) × (k < labels) × (length (now rows) ≡ 256) ⌝ }
     ensures { λ _. ⌜ (length (now (rows .exit)) ≡ 256) × Matrix labels (through k (entry (now (rows .entry)))) (now (rows .exit)) ⌝ }
 {
@@ -108,6 +120,17 @@ fn pass(k: usize, labels: usize, rows: &mut [u64; 256])
         pass_row(k, a, b, x, rows);
         x += 1;
     }
+}
+
+// The same; no way goes through a label that leads nowhere, as many do.
+fn pass(k: usize, labels: usize, rows: &mut [u64; 256])
+    requires { ⌜ (labels ≤ 128) × (k < labels) × (length (now rows) ≡ 256) ⌝ }
+    ensures { λ _. ⌜ (length (now (rows .exit)) ≡ 256) × Matrix labels (through k (entry (now (rows .entry)))) (now (rows .exit)) ⌝ }
+{
+    if is_empty(rows, k) {
+        return;
+    }
+    pass_rows(k, labels, rows);
 }
 
 // The ways through all labels.
@@ -145,8 +168,8 @@ fn both_ways(rows: &[u64; 256], x: usize, c: usize) -> bool
     there & back
 }
 
-// The part of c, labels that all lead to each other, by its first label.
-fn part(rows: &[u64; 256], c: usize) -> usize
+// The first label up to c that leads to c and back.
+fn first_both(rows: &[u64; 256], c: usize) -> usize
     requires { ⌜ (c < 128) × (length (now rows) ≡ 256) ⌝ }
     ensures { λ r. ⌜ r ≡ partBy (entry (now (rows .entry))) c ⌝ }
 {
@@ -158,6 +181,17 @@ fn part(rows: &[u64; 256], c: usize) -> usize
         x += 1;
     }
     c
+}
+
+// The part of c, labels that all lead to each other, by its first label.
+fn part(rows: &[u64; 256], c: usize) -> usize
+    requires { ⌜ (c < 128) × (length (now rows) ≡ 256) ⌝ }
+    ensures { λ r. ⌜ r ≡ partBy (entry (now (rows .entry))) c ⌝ }
+{
+    if is_empty(rows, c) {
+        return c;
+    }
+    first_both(rows, c)
 }
 
 fn part_row(rows: &[u64; 256], labels: usize) -> [usize; 128]
@@ -299,7 +333,7 @@ fn leads_to(rows: &[u64; 256], core: &[bool; 128], x: usize, c: usize) -> bool
     false
 }
 
-fn leads_to_core(rows: &[u64; 256], core: &[bool; 128], labels: usize, x: usize) -> bool
+fn any_in_core(rows: &[u64; 256], core: &[bool; 128], labels: usize, x: usize) -> bool
     requires { ⌜ (labels ≤ 128) × (x < labels) ⌝ }
     requires { ⌜ (length (now rows) ≡ 256) × (length (now core) ≡ 128) ⌝ }
     ensures { λ r. ⌜ r ≡ realizableBy labels (entry (now (rows .entry))) (λ i. getD (now (core .entry)) i false) x ⌝ }
@@ -312,6 +346,18 @@ fn leads_to_core(rows: &[u64; 256], core: &[bool; 128], labels: usize, x: usize)
         c += 1;
     }
     false
+}
+
+// Whether x leads to the core; where it leads nowhere, whether it is there.
+fn leads_to_core(rows: &[u64; 256], core: &[bool; 128], labels: usize, x: usize) -> bool
+    requires { ⌜ (labels ≤ 128) × (x < labels) ⌝ }
+    requires { ⌜ (length (now rows) ≡ 256) × (length (now core) ≡ 128) ⌝ }
+    ensures { λ r. ⌜ r ≡ realizableBy labels (entry (now (rows .entry))) (λ i. getD (now (core .entry)) i false) x ⌝ }
+{
+    if is_empty(rows, x) {
+        return core[x];
+    }
+    any_in_core(rows, core, labels, x)
 }
 
 fn leading_row(rows: &[u64; 256], core: &[bool; 128], labels: usize) -> [bool; 128]

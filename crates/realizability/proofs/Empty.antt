@@ -1,0 +1,85 @@
+-- A label that leads nowhere.
+use mathlib.Core.Path.{_≡_, refl, sym, ap, _∙_}
+use mathlib.Core.Bool.{Bool, true, false, _&&_, _||_}
+use mathlib.Core.List.{List}
+use Prim.Native.Nat.{ℕ, zero, suc, _+_, _*_, _/_, _%_, _≤_, _<_}
+use native.Mathlib.Omega.{arith}
+use native.Mathlib.Decide.{decLt, ℕ-discrete}
+use lib.ListN.{getD}
+use lib.Dec.{eqb}
+use borrow.Author.Tests.{eq-eqb, eqb-true}
+use Rattle.ltl.specs.Sets.{on, someBelow}
+use Rattle.ltl.proofs.Sets.{on-zero}
+use Rattle.sequences.proofs.Loops.{missed-end}
+use Rattle.realizability.specs.Relations.{entry, Matrix, EmptyRow, through, leadsBy, partBy, toCoreBy, realizableBy}
+
+module _ (m : List ℕ) (x : ℕ) (low : getD m (2 * x) 0 ≡ 0) (high : getD m (2 * x + 1) 0 ≡ 0) where
+  pub empty : (y : ℕ) → y < 128 → entry m x y ≡ false
+  empty y l = go (decLt y 64)
+    where
+      word : (i : ℕ) → 2 * x + y / 64 ≡ i → getD m i 0 ≡ 0 → entry m x y ≡ false
+      word i e z = ap (λ (i : ℕ). on (getD m i 0) (y % 64)) e ∙ ap (λ (A : ℕ). on A (y % 64)) z ∙ on-zero (y % 64)
+
+      go : Dec (y < 64) → entry m x y ≡ false
+      go (yes a) = word (2 * x) (omega (arith, a)) low
+      go (no a) = word (2 * x + 1) (omega (arith, a, l)) high
+
+both-no : (a b : Bool) → b ≡ false → (a && b) ≡ false
+both-no true b e = e
+both-no false b e = refl
+
+module _ {m : List ℕ} {x : ℕ} {answer : Bool} (h : EmptyRow x m answer) (is : answer ≡ true) where
+  -- no way goes through it
+  pub through-none : (n : ℕ) → n ≤ 128 → Matrix n (through x (entry m)) m
+  through-none n few = record { is = λ v y a b. sym (pass (entry m v x) (entry m x y) (entry m v y) (h .none is y (omega (arith, b, few)))) }
+    where
+      pass : (t k r : Bool) → k ≡ false → elim t [ true ↦ k || r | false ↦ r ] ≡ r
+      pass true k r e = ap (λ (b : Bool). b || r) e
+      pass false k r e = refl
+
+  -- it is its own part
+  pub part-alone : x ≤ 128 → x ≡ partBy (entry m) x
+  part-alone few = sym (missed-end (record { none = λ v l. both-no (entry m v x) (entry m x v) (h .none is v (omega (arith, l, few))) }) x refl)
+
+  -- it leads to the core where it is there
+  module _ (core : ℕ → Bool) where
+    elsewhere : (c : ℕ) → c < 128 → (x ≡ c → ⊥) → toCoreBy (entry m) core x c ≡ false
+    elsewhere c l n = go (core c)
+      where
+        leads : (b : Bool) → eqb x c ≡ b → entry m x c ≡ false → elim b [ true ↦ true | false ↦ entry m x c ] ≡ false
+        leads true e z = absurd (n (eqb-true x c e))
+        leads false e z = z
+
+        go : (b : Bool) → elim b [ true ↦ leadsBy (entry m) x c | false ↦ false ] ≡ false
+        go true = leads (eqb x c) refl (h .none is c l)
+        go false = refl
+
+    here : toCoreBy (entry m) core x x ≡ core x
+    here = go (core x)
+      where
+        go : (b : Bool) → elim b [ true ↦ leadsBy (entry m) x x | false ↦ false ] ≡ b
+        go true = ap (λ (b : Bool). elim b [ true ↦ true | false ↦ entry m x x ]) (eq-eqb x x refl)
+        go false = refl
+
+    none-to : (n : ℕ) → n ≤ 128 → n ≤ x → someBelow n (toCoreBy (entry m) core x) ≡ false
+    none-to zero few l = refl
+    none-to (suc n) few l =
+        ap (λ (b : Bool). elim b [ true ↦ true | false ↦ someBelow n (toCoreBy (entry m) core x) ]) (elsewhere n (omega (arith, few)) (λ e. absurd (omega (arith, e, l))))
+        ∙ none-to n (omega (arith, few)) (omega (arith, l))
+
+    last : (b : Bool) → b ≡ elim b [ true ↦ true | false ↦ false ]
+    last true = refl
+    last false = refl
+
+    core-step : (n : ℕ) → suc n ≤ 128 → x < suc n → (x < n → core x ≡ realizableBy n (entry m) core x) → Dec (x ≡ n) → core x ≡ realizableBy (suc n) (entry m) core x
+    core-step n few l rest (yes e) =
+        last (core x)
+        ∙ sym (ap (λ (b : Bool). elim b [ true ↦ true | false ↦ someBelow n (toCoreBy (entry m) core x) ]) (ap (λ (c : ℕ). toCoreBy (entry m) core x c) (sym e) ∙ here)
+        ∙ ap (λ (r : Bool). elim (core x) [ true ↦ true | false ↦ r ]) (none-to n (omega (arith, few)) (omega (arith, e))))
+    core-step n few l rest (no e) =
+        rest (omega (arith, l, e))
+        ∙ sym (ap (λ (b : Bool). elim b [ true ↦ true | false ↦ someBelow n (toCoreBy (entry m) core x) ]) (elsewhere n (omega (arith, few)) e))
+
+    pub core-alone : (n : ℕ) → n ≤ 128 → x < n → core x ≡ realizableBy n (entry m) core x
+    core-alone zero few l = absurd (omega (arith, l))
+    core-alone (suc n) few l = core-step n few l (core-alone n (omega (arith, few))) (ℕ-discrete x n)
