@@ -48,7 +48,7 @@ extern "C" {
 enum { TEFUJI_UNDECIDED = 0, TEFUJI_SATISFIED = 1, TEFUJI_VIOLATED = 2, TEFUJI_MOOT = 3 };
 
 /* Builds the smallest table of a rule file into the front of `table`. Bytes past the table keep their values.
- * Answers the table's length in bytes, or refuses by 1 to 9, then 11, then 10. Needs less than 64 KiB of stack. */
+ * Answers the table's length in bytes, or refuses by 1 to 9, then 11, then 10. Needs less than 48 KiB of stack (measured: docs/BENCHMARKS.md). */
 uint64_t tefuji_build(const uint8_t *rule, size_t rule_length, uint8_t *table, size_t table_length);
 
 /* Checks that the bytes are exactly a table; not its order, nor that it is the smallest.
@@ -57,7 +57,7 @@ uint64_t tefuji_check(const uint8_t *table, size_t table_length);
 
 /* Checks the table and runs it from a state over a list of events.
  * Answers verdict * 65536 + end state, and stores in `count` how many events had been read when a verdict other than undecided was first
- * shown: 0 if the given state shows one, TEFUJI_NONE if never. Refuses by 14, then 13, then 12, and leaves `count` as it was. */
+ * shown: 0 if the given state shows one, TEFUJI_NONE if never. Refuses by 14, then 13, then 12, and leaves `count` as it was. Needs about 17 KiB of stack; the functions below need less than 1 KiB. */
 uint64_t tefuji_run(const uint8_t *table, size_t table_length, uint16_t state, const uint8_t *events, size_t events_length, uint64_t *count);
 
 /* Reads one event, at a cost that does not grow with the table. `counts` is what tefuji_check answered for the same bytes; with it a step
