@@ -25,6 +25,8 @@
  *   13      a state is not below the number of states                     0
  *   14      the bytes are not a table                                     0
  *
+ * Stack: where nothing is said, at most 1 KiB.
+ *
  * Link with libtefuji.a (`rt staticlib tefuji`). x86-64.
  */
 #ifndef TEFUJI_H
@@ -57,7 +59,7 @@ uint64_t tefuji_check(const uint8_t *table, size_t table_length);
 
 /* Checks the table and runs it from a state over a list of events.
  * Answers verdict * 65536 + end state, and stores in `count` how many events had been read when a verdict other than undecided was first
- * shown: 0 if the given state shows one, TEFUJI_NONE if never. Refuses by 14, then 13, then 12, and leaves `count` as it was. Needs about 17 KiB of stack; the functions below need less than 1 KiB. */
+ * shown: 0 if the given state shows one, TEFUJI_NONE if never. Refuses by 14, then 13, then 12, and leaves `count` as it was. Needs about 17 KiB of stack. */
 uint64_t tefuji_run(const uint8_t *table, size_t table_length, uint16_t state, const uint8_t *events, size_t events_length, uint64_t *count);
 
 /* Reads one event, at a cost that does not grow with the table. `counts` is what tefuji_check answered for the same bytes; with it a step
