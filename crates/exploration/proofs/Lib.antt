@@ -5,3 +5,4 @@ pub mod Lists
 pub mod Steps
 pub mod SameSteps
 pub mod Explored
+pub mod Spreads

@@ -2,7 +2,7 @@
 use mathlib.Core.Path.{_≡_, refl, sym, ap, ap₂, _∙_, subst}
 use mathlib.Core.Bool.{Bool, true, cond}
 use mathlib.Core.List.{List, [], _∷_, _++_}
-use Prim.Native.Nat.{ℕ, zero, suc, _+_, _%_, _≤_, _<_}
+use Prim.Native.Nat.{ℕ, zero, suc, _+_, _%_, _^_, _≤_, _<_}
 use native.Mathlib.Numerals.{add-one}
 use native.Mathlib.Decide.{ℕ-discrete}
 use native.Mathlib.Omega.{arith}
@@ -96,7 +96,7 @@ slot-same a b s t e =
     let z = w 3 (omega arith) in
     rw (p, q, r, z)
 
-pub slot-is : (words : List ℕ) → ((getD words 0 0 % 1021 + getD words 1 0 % 1019 + getD words 2 0 % 1013 + getD words 3 0 % 1009) % 1024) ≡ slotOf words
+pub slot-is : (words : List ℕ) → ((getD words 0 0 % 2 ^ 62 + getD words 1 0 % 2 ^ 62 + (getD words 2 0 % 2 ^ 62 + getD words 3 0 % 2 ^ 62)) % 1021) ≡ slotOf words
 unfolding slotOf
 slot-is words = refl
 

@@ -74,7 +74,7 @@ pub key-member : (words : List ℕ) (q : ℕ) → q < 256 → on (keyOf words) q
 unfolding keyOf
 key-member words q l = on-set 256 (λ q. on (getD words (q / 64) 0) (q % 64)) q l
 
-key-bit : (words : List ℕ) (j i : ℕ) → j < 4 → i < 64 → on (keyOf words) (64 * j + i) ≡ on (getD words j 0) i
+pub key-bit : (words : List ℕ) (j i : ℕ) → j < 4 → i < 64 → on (keyOf words) (64 * j + i) ≡ on (getD words j 0) i
 key-bit words j i l m =
     let p : (64 * j + i) / 64 ≡ j = omega arith in
     let q : (64 * j + i) % 64 ≡ i = omega arith in

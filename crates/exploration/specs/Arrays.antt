@@ -24,6 +24,12 @@ pub record Marked (p : ℕ) (f : ℕ → Bool) (bits : List Bool) : Type 0 where
   pub long : length bits ≡ 256
   pub at : (q : ℕ) → q < p → getD bits q false ≡ f q
 
+-- the first n bits of a word are put at a place and after it, and what was before is kept
+pub record SpreadFrom (n word from : ℕ) (old new : List Bool) : Type 0 where
+  pub long : length new ≡ 256
+  pub before : (q : ℕ) → q < from → getD new q false ≡ getD old q false
+  pub bits : (i : ℕ) → i < n → getD new (from + i) false ≡ on word i
+
 -- the tables that the arrays hold, with n labels
 abbrev pub tablesIn : ℕ → List (List ℕ) → List Bool → Tables
 tablesIn n places whole = record { labels = n; places = places; whole = setIn whole }
@@ -70,7 +76,7 @@ pub record KeysFit (count : ℕ) (keys : List (List ℕ)) : Type 0 where
 
 -- the slot of a key, by its words
 unfoldable pub slotOf : List ℕ → ℕ
-slotOf words = (getD words 0 0 % 1021 + getD words 1 0 % 1019 + getD words 2 0 % 1013 + getD words 3 0 % 1009) % 1024
+slotOf words = (getD words 0 0 % 2 ^ 62 + getD words 1 0 % 2 ^ 62 + (getD words 2 0 % 2 ^ 62 + getD words 3 0 % 2 ^ 62)) % 1021
 
 -- the slot of each key has a number, of this key or another
 pub record Slotted (count : ℕ) (keys : List (List ℕ)) (slots : List ℕ) : Type 0 where

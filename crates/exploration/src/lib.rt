@@ -9,7 +9,7 @@ ghost use Rattle.sequences.specs.Tabulate.{tabulate, leastBelow};
 ghost use Rattle.ltl.specs.Sets.{on};
 ghost use Rattle.ltl.specs.Residuals.{preimage, ruleTrue};
 ghost use Rattle.ltl.specs.Keys.{look, startKey, stepKey};
-ghost use Rattle.exploration.specs.Arrays.{setIn, wordIn, Marked, hitsFrom, Cut, tablesIn, Tabled, keyOf, WordsFit, keysIn, KeysFit, metAt, slotOf, Slotted, MetThere};
+ghost use Rattle.exploration.specs.Arrays.{setIn, wordIn, Marked, SpreadFrom, hitsFrom, Cut, tablesIn, Tabled, keyOf, WordsFit, keysIn, KeysFit, metAt, slotOf, Slotted, MetThere};
 ghost use Rattle.exploration.specs.Answers.{expandKey, exploreBelow, classBy, Enters, GrownAs, WalkedAs, Explores};
 use wire::wide;
 use wire::wide16;
@@ -170,16 +170,30 @@ fn step_places(
     out
 }
 
+// The bits of a word as bools, from a place on.
+fn spread_word(out: &mut [bool; 256], word: u64, from: usize)
+    requires { ⌜ (from + 64 ≤ 256) × (length (now out) ≡ 256) ⌝ }
+    ensures { λ _. ⌜ SpreadFrom 64 word from (now (out .entry)) (now (out .exit)) ⌝ }
+{
+    let mut rest = word;
+    let mut i: usize = 0;
+    while i < 64 {
+        out[from + i] = rest % 2 == 1;
+        rest = rest / 2;
+        i += 1;
+    }
+}
+
 // A key as one bool for each place below m.
 fn spread(key: &[u64; 4], m: usize) -> [bool; 256]
     requires { ⌜ m ≤ 256 ⌝ }
     ensures { λ r. ⌜ Marked m (on (keyOf (now (key .entry)))) r ⌝ }
 {
     let mut out = [false; 256];
-    let mut p: usize = 0;
-    while p < m {
-        out[p] = member(key, p);
-        p += 1;
+    let mut j: usize = 0;
+    while 64 * j < m {
+        spread_word(&mut out, key[j], 64 * j);
+        j += 1;
     }
     out
 }
@@ -261,7 +275,9 @@ fn locate(keys: &[[u64; 4]; 256], count: usize, key: [u64; 4]) -> usize
 fn slot_of(key: [u64; 4]) -> usize
     ensures { λ r. ⌜ (r ≡ slotOf key) × (r < 1024) ⌝ }
 {
-    ((key[0] % 1021 + key[1] % 1019 + key[2] % 1013 + key[3] % 1009) % 1024) as usize
+    let low = key[0] % 4611686018427387904 + key[1] % 4611686018427387904;
+    let high = key[2] % 4611686018427387904 + key[3] % 4611686018427387904;
+    ((low + high) % 1021) as usize
 }
 
 // The slots where the only key has the number 0.

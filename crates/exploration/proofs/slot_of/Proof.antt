@@ -5,26 +5,26 @@ use Rattle.exploration.proofs.Lists.{slot-is}
 use Rattle.exploration.proofs.slot_of.Statement.{statement}
 use Rattle.exploration.proofs.slot_of.Tie as tie
 
-array-read-result : tie.Need-array-read-result
-array-read-result c = search needs
+array-read-low : tie.Need-array-read-low
+array-read-low c = search needs
 
-array-read-result-2 : tie.Need-array-read-result-2
-array-read-result-2 c = search needs
+array-read-low-2 : tie.Need-array-read-low-2
+array-read-low-2 c = search needs
+
+add-low : tie.Need-add-low
+add-low c = search needs
+
+array-read-high : tie.Need-array-read-high
+array-read-high c = search needs
+
+array-read-high-2 : tie.Need-array-read-high-2
+array-read-high-2 c = search needs
+
+add-high : tie.Need-add-high
+add-high c = search needs
 
 add-result : tie.Need-add-result
 add-result c = search needs
-
-array-read-result-3 : tie.Need-array-read-result-3
-array-read-result-3 c = search needs
-
-add-result-2 : tie.Need-add-result-2
-add-result-2 c = search needs
-
-array-read-result-4 : tie.Need-array-read-result-4
-array-read-result-4 c = search needs
-
-add-result-3 : tie.Need-add-result-3
-add-result-3 c = search needs
 
 returns : tie.Need-returns
 returns c = (slot-is (c .args .t1), omega arith)
@@ -33,11 +33,11 @@ pub slot-of-spec : {M : Type 1} → statement M
 slot-of-spec =
     tie.close
     (tie.spec
-    array-read-result
-    array-read-result-2
+    array-read-low
+    array-read-low-2
+    add-low
+    array-read-high
+    array-read-high-2
+    add-high
     add-result
-    array-read-result-3
-    add-result-2
-    array-read-result-4
-    add-result-3
     returns)

@@ -1,38 +1,50 @@
--- `spread` meets its contract. The loop has marked the places below p.
+-- `spread` meets its contract.
 use native.Mathlib.Omega.{arith}
 use borrow.Author.Needs.{needs}
 use mathlib.Core.Bool.{false}
-use Prim.Native.Nat.{_-_, _≤_}
-use lib.ListN.{length-replicate}
+use Prim.Native.Nat.{_+_, _-_, _*_, _≤_}
+use lib.ListN.{getD, length-replicate}
+use denote.Ref.{now}
 use Rattle.ltl.specs.Sets.{on}
 use Rattle.exploration.specs.Arrays.{Marked, keyOf}
-use Rattle.exploration.proofs.Tables.{marked-none, marked-more, marked-to}
+use Rattle.exploration.proofs.Tables.{marked-none, marked-to}
+use Rattle.exploration.proofs.Words.{key-bit}
+use Rattle.exploration.proofs.Spreads.{marked-word}
 use Rattle.exploration.proofs.spread.Statement.{statement}
 use Rattle.exploration.proofs.spread.Tie as tie
 
 abbrev Inv-loop : tie.InvT-loop
-Inv-loop key m out₀ p₀ out p = (p ≤ m) × Marked p (on (keyOf key)) out
+Inv-loop key m out₀ j₀ out j = (j ≤ 4) × Marked (64 * j) (on (keyOf key)) out
 
 abbrev μ-loop : tie.MeasureT-loop
-μ-loop key m out₀ p₀ out p = m - p
+μ-loop key m out₀ j₀ out j = 4 - j
 
 loop-holds : tie.Need-loop-holds Inv-loop μ-loop
 loop-holds c = (omega arith, marked-none (length-replicate 256 false))
 
-member-requires : tie.Need-member-requires Inv-loop μ-loop
-member-requires c κs = search needs
+mul-loop : tie.Need-mul-loop Inv-loop μ-loop
+mul-loop c = search needs
 
-array-write-out : tie.Need-array-write-out Inv-loop μ-loop
-array-write-out c = search needs
+mul-spread-word : tie.Need-mul-spread-word Inv-loop μ-loop
+mul-spread-word c = search needs
 
-add-p : tie.Need-add-p Inv-loop μ-loop
-add-p c = search needs
+element-copy-out-spread-word : tie.Need-element-copy-out-spread-word Inv-loop μ-loop
+element-copy-out-spread-word c = search needs
+
+mul-spread-word-2 : tie.Need-mul-spread-word-2 Inv-loop μ-loop
+mul-spread-word-2 c = search needs
+
+spread-word-requires : tie.Need-spread-word-requires Inv-loop μ-loop
+spread-word-requires c κs = (omega arith, c .before .before .before .loop .inv .1 .long)
+
+add-j : tie.Need-add-j Inv-loop μ-loop
+add-j c = search needs
 
 loop-less : tie.Need-loop-less Inv-loop μ-loop
 loop-less c = search needs
 
 loop-again : tie.Need-loop-again Inv-loop μ-loop
-loop-again c = (omega arith, marked-more (c .before .before .loop .inv .1) (omega arith) (c .member .ensures))
+loop-again c = (omega arith, marked-word (64 * c .before .before .before .before .loop .j) (getD (now (c .before .before .before .before .before .args .key)) (c .before .before .before .before .loop .j) 0) (64 * (c .before .before .before .before .loop .j + 1)) (c .before .before .before .before .loop .inv .1) (c .spread-word .ensures) (λ i l. key-bit (now (c .before .before .before .before .before .args .key)) (c .before .before .before .before .loop .j) i (omega arith) l) (omega arith))
 
 returns : tie.Need-returns Inv-loop μ-loop
 returns c = marked-to (c .before .before .args .m) (c .before .loop .inv .1) (omega arith)
@@ -44,9 +56,12 @@ spread-spec =
     Inv-loop
     μ-loop
     loop-holds
-    member-requires
-    array-write-out
-    add-p
+    mul-loop
+    mul-spread-word
+    element-copy-out-spread-word
+    mul-spread-word-2
+    spread-word-requires
+    add-j
     loop-less
     loop-again
     returns)
