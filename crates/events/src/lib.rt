@@ -1,7 +1,24 @@
-// Events: which signals are on, and how many of a mask's.
+// Events: how many there are, which signals are on, and how many of a mask's.
 ghost use mathlib.Core.Path.{_≡_};
+ghost use Prim.Native.Nat.{_^_, _≤_};
 ghost use lib.Dec.{leb, eqb};
 ghost use Rattle.meaning.specs.Formulas.{bit, countOn};
+
+// A power of 2: how many sets of k things there are.
+pub fn power(k: u8) -> usize
+    requires { ⌜ k ≤ 7 ⌝ }
+    ensures { λ r. ⌜ (r ≡ 2 ^ k) × (r ≤ 128) ⌝ }
+{
+    1 << k
+}
+
+// How many events there are over so many signals, and how many masks.
+pub fn width(signals: u8) -> usize
+    requires { ⌜ signals ≤ 4 ⌝ }
+    ensures { λ r. ⌜ (r ≡ 2 ^ signals) × (r ≤ 16) ⌝ }
+{
+    power(signals)
+}
 
 // Whether a signal is on. A byte has eight; any other is off.
 pub fn signal_on(event: u8, signal: u8) -> bool

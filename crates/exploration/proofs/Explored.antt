@@ -72,26 +72,26 @@ module _ (P : ℕ) (t : Tables) (m : Explored ℕ (List (List ℕ))) (rows₀ ro
   explored-over h p q =
       subst (λ (x : Explored ℕ (List (List ℕ))). ExploredAs P t x Walked.TooMany rows₀ rows classes₀ classes) (sym (h .is)) (record { over = refl; rows-kept = p; classes-kept = q })
 
-module _ (P : ℕ) {n : ℕ} {t : Tables} {places : List (List ℕ)} {whole : List Bool} (h : TablesIn (2 ^ P) n t places whole) where
-  pub walk-same : exploreKeys (tablesIn n places whole) P ≡ exploreKeys t P
+module _ (P : ℕ) {n : ℕ} {t : Tables} {profiles : List (List ℕ)} {whole : List Bool} (h : TablesIn (2 ^ P) n t profiles whole) where
+  pub walk-same : exploreKeys (tablesIn n profiles whole) P ≡ exploreKeys t P
   walk-same =
-      explore-same eqb (stepKey (tablesIn n places whole)) (stepKey t) (startKey (tablesIn n places whole)) (over P) 256 (step-same h)
+      explore-same eqb (stepKey (tablesIn n profiles whole)) (stepKey t) (startKey (tablesIn n profiles whole)) (over P) 256 (step-same h)
       ∙ ap (λ (k : ℕ). explore eqb (stepKey t) k (over P) 256) (start-same h)
 
-  class-same : (k : ℕ) → classOf (tablesIn n places whole) k ≡ classOf t k
+  class-same : (k : ℕ) → classOf (tablesIn n profiles whole) k ≡ classOf t k
   class-same k = ap (λ (A : ℕ). cond (emptyKey k) 2 (cond (eqb k A) 1 0)) (whole-is h)
 
   -- the answer holds at the tables themselves
   pub explored-same : (r : Walked) (rows₀ rows : List (List ℕ)) (classes₀ classes : List ℕ)
-      → Explores P (tablesIn n places whole) r rows₀ rows classes₀ classes → Explores P t r rows₀ rows classes₀ classes
+      → Explores P (tablesIn n profiles whole) r rows₀ rows classes₀ classes → Explores P t r rows₀ rows classes₀ classes
   explored-same r rows₀ rows classes₀ classes a =
-      subst (λ (x : Explored ℕ (List (List ℕ))). ExploredAs P t x r rows₀ rows classes₀ classes) walk-same (go (exploreKeys (tablesIn n places whole) P) a)
+      subst (λ (x : Explored ℕ (List (List ℕ))). ExploredAs P t x r rows₀ rows classes₀ classes) walk-same (go (exploreKeys (tablesIn n profiles whole) P) a)
     where
-      go : (m : Explored ℕ (List (List ℕ))) → ExploredAs P (tablesIn n places whole) m r rows₀ rows classes₀ classes → ExploredAs P t m r rows₀ rows classes₀ classes
+      go : (m : Explored ℕ (List (List ℕ))) → ExploredAs P (tablesIn n profiles whole) m r rows₀ rows classes₀ classes → ExploredAs P t m r rows₀ rows classes₀ classes
       go (within keys states) c = record {
         count = c .count;
         successors = c .successors;
-        class = λ s l. c .class s l ∙ class-same (getD keys s (startKey (tablesIn n places whole))) ∙ ap (λ (z : ℕ). classOf t (getD keys s z)) (start-same h);
+        class = λ s l. c .class s l ∙ class-same (getD keys s (startKey (tablesIn n profiles whole))) ∙ ap (λ (z : ℕ). classOf t (getD keys s z)) (start-same h);
         rows-long = c .rows-long;
         classes-long = c .classes-long;
       }

@@ -1,4 +1,4 @@
--- A step on whole words: the two places of a label are n apart, so the places come from the labels' bits, once or moved by n.
+-- A step on whole words: the two profiles of a label are n apart, so the profiles come from the labels' bits, once or moved by n.
 use mathlib.Core.Path.{_≡_, refl, sym, ap, ap₂, _∙_, subst}
 use mathlib.Core.Bool.{Bool, true, false, _&&_}
 use mathlib.Core.List.{List, [], _∷_}
@@ -51,22 +51,22 @@ module _ (a b : ℕ) (full : List ℕ) where
           key-member cutWords q m ∙ ap (λ (x : ℕ). on x (q % 64)) (each (q / 64) (omega arith)) ∙ on-and (getD full (q / 64) 0) (getD (a ∷ b ∷ a ∷ b ∷ []) (q / 64) 0) (q % 64)
           ∙ sym (ap₂ _&&_ (key-member full q m) (key-member (a ∷ b ∷ a ∷ b ∷ []) q m))
 
--- ---- the places of the labels that pass
+-- ---- the profiles of the labels that pass
 
--- the words a, b, a, b have those of the n + n places whose label passes
+-- the words a, b, a, b have those of the n + n profiles whose label passes
 pub record Halved (n : ℕ) (f : ℕ → Bool) (a b : ℕ) : Type 0 where
   pub at : (p : ℕ) → p < n + n → on (keyOf (a ∷ b ∷ a ∷ b ∷ [])) p ≡ f (p % n)
 
-module _ {w n : ℕ} {places : List (List ℕ)} {whole : List Bool} (h : Tabled w n places whole) (full : List ℕ) (packed : keyOf full ≡ setIn whole) (A e : ℕ) where
+module _ {w n : ℕ} {profiles : List (List ℕ)} {whole : List Bool} (h : Tabled w n profiles whole) (full : List ℕ) (packed : keyOf full ≡ setIn whole) (A e : ℕ) where
   abbrev leading : ℕ → Bool
-  leading = preimage n (look places) (setIn whole) A e
+  leading = preimage n (look profiles) (setIn whole) A e
 
   key-lt : (words : List ℕ) → keyOf words < 2 ^ 256
   unfolding keyOf
   key-lt words = set-lt 256 (λ q. on (getD words (q / 64) 0) (q % 64))
 
-  pub step-cut : e < w → {held : List Bool} → Marked (n + n) (on A) held → {a b : ℕ} {words : List ℕ} → Halved n (λ y. getD held (look places e y) false) a b → Cut a b full words
-      → keyOf words ≡ stepKey (tablesIn n places whole) A e
+  pub step-cut : e < w → {held : List Bool} → Marked (n + n) (on A) held → {a b : ℕ} {words : List ℕ} → Halved n (λ y. getD held (look profiles e y) false) a b → Cut a b full words
+      → keyOf words ≡ stepKey (tablesIn n profiles whole) A e
   step-cut d {held} marked {a} {b} {words} k c = same-members (keyOf words) (setBelow (n + n) leading) (λ p. go p (decLt p (n + n)) (decLt p 256))
     where
       both : (x y : Bool) → (x && y) ≡ elim x [ true ↦ y | false ↦ false ]
@@ -81,7 +81,7 @@ module _ {w n : ℕ} {places : List (List ℕ)} {whole : List Bool} (h : Tabled 
 
       go : (p : ℕ) → Dec (p < n + n) → Dec (p < 256) → on (keyOf words) p ≡ on (setBelow (n + n) leading) p
       go p (yes l) m =
-          in-whole p (omega (arith, h .few)) ∙ ap (λ (x : Bool). elim (on (setIn whole) p) [ true ↦ x | false ↦ false ]) (k .at p l ∙ marked .at (look places e (p % n)) (h .small e (p % n) d (mod-lt p (h .some)))) ∙ sym (on-set (n + n) leading p l)
+          in-whole p (omega (arith, h .few)) ∙ ap (λ (x : Bool). elim (on (setIn whole) p) [ true ↦ x | false ↦ false ]) (k .at p l ∙ marked .at (look profiles e (p % n)) (h .small e (p % n) d (mod-lt p (h .some)))) ∙ sym (on-set (n + n) leading p l)
       go p (no l) (yes m) =
           in-whole p m ∙ ap (λ (x : Bool). elim x [ true ↦ on (keyOf (a ∷ b ∷ a ∷ b ∷ [])) p | false ↦ false ]) (h .past p (omega arith)) ∙ sym (out p (omega arith))
       go p (no l) (no m) = on-out (keyOf words) 256 p (key-lt words) (omega arith) ∙ sym (out p (omega arith))
@@ -113,23 +113,23 @@ module _ (f : ℕ → Bool) where
       (q ∙ set-same n (λ i. f (0 + i)) (λ i. f ((n + i) % n)) (λ i m. ap f (sym (ap (λ (x : ℕ). x % n) (add-comm n i) ∙ add-mod-right i n ∙ mod-eq-of-lt m ∙ omega arith))))
       ∙ sym (set-joined n n (λ p. f (p % n)))
 
-module _ (places : List (List ℕ)) (held : List Bool) (e : ℕ) where
+module _ (profiles : List (List ℕ)) (held : List Bool) (e : ℕ) where
   abbrev taken : ℕ → Bool
-  taken y = getD held (look places e y) false
+  taken y = getD held (look profiles e y) false
 
-  pub hits-lt : (from count : ℕ) → count ≤ 64 → hitsFrom places held e from count < 2 ^ 64
+  pub hits-lt : (from count : ℕ) → count ≤ 64 → hitsFrom profiles held e from count < 2 ^ 64
   unfolding hitsFrom
   hits-lt from count l = lt-of-lt-of-le (set-lt count (λ i. taken (from + i))) (pow-mono l)
 
-  pub hits-all : (from count : ℕ) {i word : ℕ} → Begun count (λ k. taken (from + k)) i word → i ≡ 0 → word ≡ hitsFrom places held e from count
+  pub hits-all : (from count : ℕ) {i word : ℕ} → Begun count (λ k. taken (from + k)) i word → i ≡ 0 → word ≡ hitsFrom profiles held e from count
   unfolding hitsFrom
   hits-all from count h q = begun-all h q
 
-  hits-at : (from x i j : ℕ) → x ≡ hitsFrom places held e from 64 → i < 64 → from + i ≡ j → on x i ≡ taken j
+  hits-at : (from x i j : ℕ) → x ≡ hitsFrom profiles held e from 64 → i < 64 → from + i ≡ j → on x i ≡ taken j
   unfolding hitsFrom
   hits-at from x i j q l r = ap (λ (z : ℕ). on z i) q ∙ on-set 64 (λ i. taken (from + i)) i l ∙ ap taken r
 
-  module _ (n low : ℕ) (l : n ≤ 32) (q : low ≡ hitsFrom places held e 0 n) where
+  module _ (n low : ℕ) (l : n ≤ 32) (q : low ≡ hitsFrom profiles held e 0 n) where
     both-is : low + low * 2 ^ n % 2 ^ 64 ≡ setBelow (n + n) (λ p. taken (p % n))
     unfolding hitsFrom
     both-is = halved-both taken n low l q
@@ -146,7 +146,7 @@ module _ (places : List (List ℕ)) (held : List Bool) (e : ℕ) where
           ∙ on-set (n + n) (λ p. taken (p % n)) p m;
     }
 
-  pub halved-one : (n low : ℕ) → n ≡ 64 → low ≡ hitsFrom places held e 0 64 → Halved n taken low low
+  pub halved-one : (n low : ℕ) → n ≡ 64 → low ≡ hitsFrom profiles held e 0 64 → Halved n taken low low
   halved-one n low r q = subst (λ (k : ℕ). Halved k taken low low) (sym r) (halved-words taken low low each (omega arith))
     where
       each : (j : ℕ) → j < 4 → (i : ℕ) → i < 64 → on (getD (low ∷ low ∷ low ∷ low ∷ []) j 0) i ≡ taken ((64 * j + i) % 64)
@@ -156,7 +156,7 @@ module _ (places : List (List ℕ)) (held : List Bool) (e : ℕ) where
           (λ i l. hits-at 0 low i ((64 * 2 + i) % 64) q l (omega arith))
           (λ i l. hits-at 0 low i ((64 * 3 + i) % 64) q l (omega arith))
 
-  pub halved-two : (n low high : ℕ) → n ≡ 128 → low ≡ hitsFrom places held e 0 64 → high ≡ hitsFrom places held e 64 64 → Halved n taken low high
+  pub halved-two : (n low high : ℕ) → n ≡ 128 → low ≡ hitsFrom profiles held e 0 64 → high ≡ hitsFrom profiles held e 64 64 → Halved n taken low high
   halved-two n low high r q s = subst (λ (k : ℕ). Halved k taken low high) (sym r) (halved-words taken low high each (omega arith))
     where
       each : (j : ℕ) → j < 4 → (i : ℕ) → i < 64 → on (getD (low ∷ high ∷ low ∷ high ∷ []) j 0) i ≡ taken ((64 * j + i) % 128)

@@ -6,11 +6,12 @@ use native.Mathlib.Numerals.{add-one}
 use native.Mathlib.Omega.{arith}
 use lib.ListN.{length, getD, set, length-set}
 use lib.Dec.{eqb}
+use Rattle.meaning.specs.Traces.{firstEvents}
 use Rattle.sequences.proofs.Loops.{length-tab, getD-tab}
 use Rattle.ltl.specs.Keys.{Tables, startKey, stepKey}
 use Rattle.walk.specs.Explore.{Explored, within, locate, enter, visit, expandFrom, expand, exploreFrom, explore}
 use Rattle.walk.proofs.Steps.{enter-met, enter-new, enter-over, visit-possible, expand-next, expand-over, expand-end, explore-next, explore-over, explore-end}
-use Rattle.exploration.specs.Arrays.{eventsBelow, keyOf, WordsFit, keysIn, KeysFit, slotOf, Slotted, rowIn, rowsIn}
+use Rattle.exploration.specs.Arrays.{keyOf, WordsFit, keysIn, KeysFit, slotOf, Slotted, rowIn, rowsIn}
 use Rattle.exploration.specs.Answers.{expandKey, exploreBelow, Beyond, Within, EnteredAs, Enters, GrownAs, Ended}
 use Rattle.exploration.specs.declared.Entered.{Entered}
 use Rattle.exploration.specs.declared.Entered.the-variants as Entered
@@ -51,7 +52,7 @@ entered-none ks k keys slots r h e s = subst (EnteredAs (enter eqb s 256 ks k) k
 
 module _ (t : Tables) (w : ℕ) where
   abbrev fromEvent : ℕ → ℕ → ℕ → List ℕ → List ℕ → Explored ℕ (List ℕ)
-  fromEvent j e from keys row = expandFrom eqb (stepKey t) (startKey t) (eventsBelow w) 256 j e from keys row
+  fromEvent j e from keys row = expandFrom eqb (stepKey t) (startKey t) (firstEvents w) 256 j e from keys row
 
   -- the row of the key `from`, of which the entries below e are stored; m is what the model comes to
   pub record Expanding (m : Explored ℕ (List ℕ)) (from e count : ℕ) (keys : List (List ℕ)) (slots row : List ℕ) : Type 0 where
@@ -71,8 +72,8 @@ module _ (t : Tables) (w : ℕ) where
       one-fewer : w - e ≡ suc (w - (e + 1))
       one-fewer = omega arith
 
-      visited : visit eqb (stepKey t) (startKey t) (eventsBelow w) 256 from e (keysIn count keys) ≡ enter eqb (startKey t) 256 (keysIn count keys) k
-      visited = visit-possible eqb (stepKey t) (startKey t) (eventsBelow w) 256 from e (keysIn count keys) refl ∙ ap (enter eqb (startKey t) 256 (keysIn count keys)) (sym next)
+      visited : visit eqb (stepKey t) (startKey t) (firstEvents w) 256 from e (keysIn count keys) ≡ enter eqb (startKey t) 256 (keysIn count keys) k
+      visited = visit-possible eqb (stepKey t) (startKey t) (firstEvents w) 256 from e (keysIn count keys) refl ∙ ap (enter eqb (startKey t) 256 (keysIn count keys)) (sym next)
 
       unrolled : fromEvent (suc (w - (e + 1))) e from (keysIn count keys) (rowIn e row) ≡ m
       unrolled = ap (λ (j : ℕ). fromEvent j e from (keysIn count keys) (rowIn e row)) (sym one-fewer) ∙ h .is
@@ -85,14 +86,14 @@ module _ (t : Tables) (w : ℕ) where
         long = length-set row e i ∙ h .long;
         upto = omega arith;
         is = ap₂ (λ (a : ℕ) (x : List ℕ). fromEvent (w - (e + 1)) a from (keysIn count′ keys′) x) (add-one e) (front-more (λ (x : ℕ). x) 0 row e i (omega (arith, h .long)))
-            ∙ sym (expand-next eqb (stepKey t) (startKey t) (eventsBelow w) 256 (w - (e + 1)) e from (keysIn count keys) (rowIn e row) (visited ∙ r .is)) ∙ unrolled;
+            ∙ sym (expand-next eqb (stepKey t) (startKey t) (firstEvents w) 256 (w - (e + 1)) e from (keysIn count keys) (rowIn e row) (visited ∙ r .is)) ∙ unrolled;
       }
 
       pub expanding-over : (keys′ : List (List ℕ)) (slots′ : List ℕ) (answer : Entered) → Enters (keysIn count keys) k keys′ slots′ answer → answer ≡ Entered.Full → Beyond m
       expanding-over keys′ slots′ answer a q = let r = entered-none (keysIn count keys) k keys′ slots′ answer a q (startKey t) in record {
         keys = r .keys;
         key = r .key;
-        is = sym unrolled ∙ expand-over eqb (stepKey t) (startKey t) (eventsBelow w) 256 (w - (e + 1)) e from (keysIn count keys) (rowIn e row) (visited ∙ r .is);
+        is = sym unrolled ∙ expand-over eqb (stepKey t) (startKey t) (firstEvents w) 256 (w - (e + 1)) e from (keysIn count keys) (rowIn e row) (visited ∙ r .is);
       }
 
     pub expanding-all : w ≤ e → Within m count keys slots (rowIn w row)
@@ -101,7 +102,7 @@ module _ (t : Tables) (w : ℕ) where
         let q : w - e ≡ 0 = omega arith in
         record {
           is = sym (h .is) ∙ ap (λ (j : ℕ). fromEvent j e from (keysIn count keys) (rowIn e row)) q
-              ∙ expand-end eqb (stepKey t) (startKey t) (eventsBelow w) 256 e from (keysIn count keys) (rowIn e row) ∙ ap (λ (a : ℕ). within (keysIn count keys) (rowIn a row)) p;
+              ∙ expand-end eqb (stepKey t) (startKey t) (firstEvents w) 256 e from (keysIn count keys) (rowIn e row) ∙ ap (λ (a : ℕ). within (keysIn count keys) (rowIn a row)) p;
           fit = h .fit;
           slotted = h .slotted;
         }
@@ -109,7 +110,7 @@ module _ (t : Tables) (w : ℕ) where
   -- ---- the rows
 
   abbrev fromState : ℕ → ℕ → List ℕ → List (List ℕ) → Explored ℕ (List (List ℕ))
-  fromState j i keys rows = exploreFrom eqb (stepKey t) (startKey t) (eventsBelow w) 256 j i keys rows
+  fromState j i keys rows = exploreFrom eqb (stepKey t) (startKey t) (firstEvents w) 256 j i keys rows
 
   -- the walk, of which the rows of the states below i are stored
   pub record Walking (m : Explored ℕ (List (List ℕ))) (i count : ℕ) (keys rows : List (List ℕ)) (slots : List ℕ) : Type 0 where
@@ -143,7 +144,7 @@ module _ (t : Tables) (w : ℕ) where
         long = length-set rows i row ∙ h .long;
         upto = omega (arith, h .fit .few);
         is = ap₂ (λ (a : ℕ) (x : List (List ℕ)). fromState (256 - (i + 1)) a (keysIn count′ keys′) x) (add-one i) (front-more (rowIn w) [] rows i row (omega (arith, h .long, h .fit .few)))
-            ∙ sym (explore-next eqb (stepKey t) (startKey t) (eventsBelow w) 256 (256 - (i + 1)) i (keysIn count keys) (rowsIn w i rows) (omega (arith, length-all))
+            ∙ sym (explore-next eqb (stepKey t) (startKey t) (firstEvents w) 256 (256 - (i + 1)) i (keysIn count keys) (rowsIn w i rows) (omega (arith, length-all))
             (ap (λ (k : ℕ). expandKey t w k (keysIn count keys)) this-key ∙ r .is)) ∙ unrolled-walk;
       }
 
@@ -152,14 +153,14 @@ module _ (t : Tables) (w : ℕ) where
       walking-over keys′ slots′ row answer a q = let r = subst (GrownAs (expandKey t w (keyOf (getD keys i [])) (keysIn count keys)) w keys′ slots′ row) q a in record {
         keys = r .keys;
         key = r .key;
-        is = sym unrolled-walk ∙ explore-over eqb (stepKey t) (startKey t) (eventsBelow w) 256 (256 - (i + 1)) i (keysIn count keys) (rowsIn w i rows) (omega (arith, length-all))
+        is = sym unrolled-walk ∙ explore-over eqb (stepKey t) (startKey t) (firstEvents w) 256 (256 - (i + 1)) i (keysIn count keys) (rowsIn w i rows) (omega (arith, length-all))
             (ap (λ (k : ℕ). expandKey t w k (keysIn count keys)) this-key ∙ r .is);
       }
 
     pub walking-all : count ≤ i → Ended m w count keys rows
     walking-all l = record {
       states = rowsIn w i rows;
-      is = sym (h .is) ∙ explore-end eqb (stepKey t) (startKey t) (eventsBelow w) 256 (256 - i) i (keysIn count keys) (rowsIn w i rows) (omega (arith, length-all));
+      is = sym (h .is) ∙ explore-end eqb (stepKey t) (startKey t) (firstEvents w) 256 (256 - i) i (keysIn count keys) (rowsIn w i rows) (omega (arith, length-all));
       fit = h .fit;
       long = h .long;
       successors = λ s e a b. sym (ap (λ (x : List ℕ). getD x e 0) (getD-tab i (λ s. rowIn w (getD rows s [])) s [] (omega arith)) ∙ getD-tab w (λ e. getD (getD rows s []) e 0) e 0 b);

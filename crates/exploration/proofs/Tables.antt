@@ -19,7 +19,7 @@ use Rattle.labelling.specs.Arrays.{TablesIn}
 use Rattle.exploration.specs.Arrays.{setIn, Marked, tablesIn, Tabled}
 use Rattle.exploration.proofs.Words.{set-past}
 
--- ---- a set that an array holds, place by place
+-- ---- a set that an array holds, profile by profile
 
 pub marked-none : {f : ℕ → Bool} {bits : List Bool} → length bits ≡ 256 → Marked 0 f bits
 marked-none e = record { long = e; at = λ q l. absurd (omega arith) }
@@ -53,8 +53,8 @@ starts-below n whole p l = sym (ap (λ (b : Bool). elim b [ true ↦ on (setIn w
 pub starts-from : (n : ℕ) (whole : List Bool) (p : ℕ) → p < 256 → n ≤ p → getD whole p false ≡ ruleTrue n (setIn whole) p
 starts-from n whole p m l = sym (ap (λ (b : Bool). elim b [ true ↦ on (setIn whole) p | false ↦ false ]) (le-leb n p l) ∙ on-set-in whole p m)
 
-module _ {w n : ℕ} {places : List (List ℕ)} {whole : List Bool} (h : Tabled w n places whole) where
-  pub start-is : (bits : List Bool) → Marked 256 (ruleTrue n (setIn whole)) bits → setIn bits ≡ startKey (tablesIn n places whole)
+module _ {w n : ℕ} {profiles : List (List ℕ)} {whole : List Bool} (h : Tabled w n profiles whole) where
+  pub start-is : (bits : List Bool) → Marked 256 (ruleTrue n (setIn whole)) bits → setIn bits ≡ startKey (tablesIn n profiles whole)
   start-is bits k = set-marked (n + n) (ruleTrue n (setIn whole)) bits k (omega (arith, h .few)) (λ p l m. out p (leb n p) (h .past p l))
     where
       out : (p : ℕ) (b : Bool) → on (setIn whole) p ≡ false → elim b [ true ↦ on (setIn whole) p | false ↦ false ] ≡ false
@@ -63,31 +63,31 @@ module _ {w n : ℕ} {places : List (List ℕ)} {whole : List Bool} (h : Tabled 
 
   -- ---- after one event more
 
-  -- a place that there is
-  pub place-below : (p : ℕ) → p < 256 → getD whole p false ≡ true → p < n + n
-  place-below p l e = go (decLt p (n + n))
+  -- a profile that there is
+  pub profile-below : (p : ℕ) → p < 256 → getD whole p false ≡ true → p < n + n
+  profile-below p l e = go (decLt p (n + n))
     where
       go : Dec (p < n + n) → p < n + n
       go (yes m) = m
       go (no m) = let z : _≡_ {A = ℕ} 1 0 = ap (λ (b : Bool). cond b 1 0) (sym e ∙ h .member p l ∙ h .past p (omega arith)) in absurd (omega arith)
 
-  pub leads-out : (A e p : ℕ) → p < 256 → getD whole p false ≡ false → false ≡ preimage n (look places) (setIn whole) A e p
-  leads-out A e p l q = sym (ap (λ (b : Bool). elim b [ true ↦ on A (look places e (p % n)) | false ↦ false ]) (sym (h .member p l) ∙ q))
+  pub leads-out : (A e p : ℕ) → p < 256 → getD whole p false ≡ false → false ≡ preimage n (look profiles) (setIn whole) A e p
+  leads-out A e p l q = sym (ap (λ (b : Bool). elim b [ true ↦ on A (look profiles e (p % n)) | false ↦ false ]) (sym (h .member p l) ∙ q))
 
-  pub leads-in : (A e p y q : ℕ) → p < 256 → getD whole p false ≡ true → y ≡ p % n → q ≡ look places e y → on A q ≡ preimage n (look places) (setIn whole) A e p
+  pub leads-in : (A e p y q : ℕ) → p < 256 → getD whole p false ≡ true → y ≡ p % n → q ≡ look profiles e y → on A q ≡ preimage n (look profiles) (setIn whole) A e p
   leads-in A e p y q l r s t =
-      sym (ap (λ (b : Bool). elim b [ true ↦ on A (look places e (p % n)) | false ↦ false ]) (sym (h .member p l) ∙ r) ∙ ap (on A) (sym (t ∙ ap (look places e) s)))
+      sym (ap (λ (b : Bool). elim b [ true ↦ on A (look profiles e (p % n)) | false ↦ false ]) (sym (h .member p l) ∙ r) ∙ ap (on A) (sym (t ∙ ap (look profiles e) s)))
 
-  pub step-is : (A e : ℕ) (bits : List Bool) → Marked 256 (preimage n (look places) (setIn whole) A e) bits → setIn bits ≡ stepKey (tablesIn n places whole) A e
-  step-is A e bits k = set-marked (n + n) (preimage n (look places) (setIn whole) A e) bits k (omega (arith, h .few)) (λ p l m. ap (λ (b : Bool). elim b [ true ↦ on A (look places e (p % n)) | false ↦ false ]) (h .past p l))
+  pub step-is : (A e : ℕ) (bits : List Bool) → Marked 256 (preimage n (look profiles) (setIn whole) A e) bits → setIn bits ≡ stepKey (tablesIn n profiles whole) A e
+  step-is A e bits k = set-marked (n + n) (preimage n (look profiles) (setIn whole) A e) bits k (omega (arith, h .few)) (λ p l m. ap (λ (b : Bool). elim b [ true ↦ on A (look profiles e (p % n)) | false ↦ false ]) (h .past p l))
 
 -- for fewer events
-pub tabled-fewer : {w n : ℕ} {places : List (List ℕ)} {whole : List Bool} (v : ℕ) → Tabled w n places whole → v ≤ w → Tabled v n places whole
+pub tabled-fewer : {w n : ℕ} {profiles : List (List ℕ)} {whole : List Bool} (v : ℕ) → Tabled w n profiles whole → v ≤ w → Tabled v n profiles whole
 tabled-fewer v h l = record {
   labels = h .labels;
   some = h .some;
   few = h .few;
-  place = λ e y a b. h .place e y (omega arith) b;
+  profile = λ e y a b. h .profile e y (omega arith) b;
   small = λ e y a b. h .small e y (omega arith) b;
   member = h .member;
   past = h .past;
@@ -95,7 +95,7 @@ tabled-fewer v h l = record {
 
 -- ---- tables that the arrays hold
 
-module _ {w n : ℕ} {t : Tables} {places : List (List ℕ)} {whole : List Bool} (h : TablesIn w n t places whole) where
+module _ {w n : ℕ} {t : Tables} {profiles : List (List ℕ)} {whole : List Bool} (h : TablesIn w n t profiles whole) where
   pub whole-is : setIn whole ≡ t .whole
   unfolding setIn
   whole-is = same-members (setIn whole) (t .whole) (λ p. go p (decLt p 256))
@@ -104,37 +104,33 @@ module _ {w n : ℕ} {t : Tables} {places : List (List ℕ)} {whole : List Bool}
       go p (yes l) = on-set-in whole p l ∙ h .member p l
       go p (no l) = on-out (setIn whole) 256 p (set-lt 256 (λ p. getD whole p false)) (omega arith) ∙ sym (h .past p (omega (arith, h .few)))
 
-  pub tabled : Tabled w n places whole
+  pub tabled : Tabled w n profiles whole
   unfolding setIn
   tabled = record {
     labels = refl;
     some = h .some;
     few = h .few;
-    place = λ e y l m. refl;
+    profile = λ e y l m. refl;
     small = h .small;
     member = λ p l. sym (on-set-in whole p l);
     past = λ p l. ap (λ (A : ℕ). on A p) whole-is ∙ h .past p l;
   }
 
-  pub start-same : startKey (tablesIn n places whole) ≡ startKey t
+  pub start-same : startKey (tablesIn n profiles whole) ≡ startKey t
   start-same = ap₂ startFrom (sym (h .labels)) whole-is
 
-  pub step-same : (A e : ℕ) → e < w → stepKey (tablesIn n places whole) A e ≡ stepKey t A e
+  pub step-same : (A e : ℕ) → e < w → stepKey (tablesIn n profiles whole) A e ≡ stepKey t A e
   step-same A e l =
-      ap (λ (W : ℕ). stepFrom n (look places) W A e) whole-is
-      ∙ set-same (n + n) (preimage n (look places) (t .whole) A e) (preimage n (look (t .places)) (t .whole) A e)
-      (λ p m. ap (λ (q : ℕ). elim (on (t .whole) p) [ true ↦ on A q | false ↦ false ]) (h .place e (p % n) l (mod-lt p (h .some))))
-      ∙ ap (λ (k : ℕ). stepFrom k (look (t .places)) (t .whole) A e) (sym (h .labels))
+      ap (λ (W : ℕ). stepFrom n (look profiles) W A e) whole-is
+      ∙ set-same (n + n) (preimage n (look profiles) (t .whole) A e) (preimage n (look (t .profiles)) (t .whole) A e)
+      (λ p m. ap (λ (q : ℕ). elim (on (t .whole) p) [ true ↦ on A q | false ↦ false ]) (h .profile e (p % n) l (mod-lt p (h .some))))
+      ∙ ap (λ (k : ℕ). stepFrom k (look (t .profiles)) (t .whole) A e) (sym (h .labels))
 
 -- ---- numbers
 
--- the label of a place below n + n
+-- the label of a profile below n + n
 pub label-low : (p n : ℕ) → p < n → p ≡ p % n
 label-low p n l = sym (mod-eq-of-lt l)
 
 pub label-high : (p n : ℕ) → n ≤ p → p < n + n → p - n ≡ p % n
 label-high p n l m = sym (ap (λ (x : ℕ). x % n) (let e : p ≡ (p - n) + n = omega arith in e) ∙ add-mod-right (p - n) n ∙ mod-eq-of-lt (omega arith))
-
--- so many events over P signals
-pub width-is : (P : ℕ) → P ≤ 4 → ((1 * 2 ^ P) % 2 ^ 64 ≡ 2 ^ P) × ((1 * 2 ^ P) % 2 ^ 64 ≤ 16)
-width-is P l = let m : 2 ^ P ≤ 2 ^ 4 = pow-mono {i = P} {j = 4} l in (omega arith, omega arith)

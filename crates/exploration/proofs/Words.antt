@@ -1,4 +1,4 @@
--- Sets of places in four words: a word made from its highest bit down, which places are in a key, and that equal words are equal keys.
+-- Sets of profiles in four words: a word made from its highest bit down, which profiles are in a key, and that equal words are equal keys.
 use mathlib.Core.Path.{_≡_, refl, sym, ap, _∙_}
 use mathlib.Core.Bool.{Bool, true, false, cond}
 use mathlib.Core.List.{List}

@@ -5,10 +5,10 @@ use mathlib.Core.List.{List, []}
 use Prim.Native.Nat.{ℕ, _^_, _<_}
 use lib.ListN.{length, getD}
 use lib.Dec.{eqb}
-use Rattle.meaning.specs.Traces.{over}
+use Rattle.meaning.specs.Traces.{over, firstEvents}
 use Rattle.ltl.specs.Keys.{Tables, startKey, stepKey, emptyKey, fullKey}
 use Rattle.walk.specs.Explore.{Explored, within, beyond, enter, expand, explore}
-use Rattle.exploration.specs.Arrays.{eventsBelow, keysIn, KeysFit, Slotted, rowIn}
+use Rattle.exploration.specs.Arrays.{keysIn, KeysFit, Slotted, rowIn}
 use Rattle.exploration.specs.declared.Entered.{Entered}
 use Rattle.exploration.specs.declared.Entered.the-variants as Entered
 use Rattle.exploration.specs.declared.Grown.{Grown}
@@ -18,10 +18,10 @@ use Rattle.exploration.specs.declared.Walked.the-variants as Walked
 
 -- the walk over the keys of the tables, with the events below `width` and at most 256 keys
 abbrev pub expandKey : Tables → ℕ → ℕ → List ℕ → Explored ℕ (List ℕ)
-expandKey t width k keys = expand eqb (stepKey t) (startKey t) (eventsBelow width) 256 k keys
+expandKey t width k keys = expand eqb (stepKey t) (startKey t) (firstEvents width) 256 k keys
 
 abbrev pub exploreBelow : Tables → ℕ → Explored ℕ (List (List ℕ))
-exploreBelow t width = explore eqb (stepKey t) (startKey t) (eventsBelow width) 256
+exploreBelow t width = explore eqb (stepKey t) (startKey t) (firstEvents width) 256
 
 -- over P signals
 abbrev pub exploreKeys : Tables → ℕ → Explored ℕ (List (List ℕ))

@@ -6,12 +6,11 @@ use Prim.Native.Nat.{ℕ, _+_, _*_, _/_, _%_, _^_, _≤_, _<_}
 use lib.ListN.{length, getD}
 use lib.Dec.{eqb}
 use Rattle.sequences.specs.Tabulate.{tabulate}
-use Rattle.meaning.specs.Traces.{Alphabet}
 use Rattle.ltl.specs.Sets.{on, setBelow}
 use Rattle.ltl.specs.Keys.{Tables, look}
 use Rattle.labelling.specs.Arrays.{TablesIn}
 
--- the set of the places at which the array is true
+-- the set of the profiles at which the array is true
 unfoldable pub setIn : List Bool → ℕ
 setIn bits = setBelow 256 (λ p. getD bits p false)
 
@@ -19,12 +18,12 @@ setIn bits = setBelow 256 (λ p. getD bits p false)
 unfoldable pub wordIn : List Bool → ℕ → ℕ
 wordIn bits j = setBelow 64 (λ i. getD bits (64 * j + i) false)
 
--- of the places below p, the array is true at those that pass the test f
+-- of the profiles below p, the array is true at those that pass the test f
 pub record Marked (p : ℕ) (f : ℕ → Bool) (bits : List Bool) : Type 0 where
   pub long : length bits ≡ 256
   pub at : (q : ℕ) → q < p → getD bits q false ≡ f q
 
--- the first n bits of a word are put at a place and after it, and what was before is kept
+-- the first n bits of a word are put at a profile and after it, and what was before is kept
 pub record SpreadFrom (n word from : ℕ) (old new : List Bool) : Type 0 where
   pub long : length new ≡ 256
   pub before : (q : ℕ) → q < from → getD new q false ≡ getD old q false
@@ -32,15 +31,11 @@ pub record SpreadFrom (n word from : ℕ) (old new : List Bool) : Type 0 where
 
 -- the tables that the arrays hold, with n labels
 abbrev pub tablesIn : ℕ → List (List ℕ) → List Bool → Tables
-tablesIn n places whole = record { labels = n; places = places; whole = setIn whole }
+tablesIn n profiles whole = record { labels = n; profiles = profiles; whole = setIn whole }
 
 -- the arrays are in order for n labels and the events below `width`
 abbrev pub Tabled : ℕ → ℕ → List (List ℕ) → List Bool → Type 0
-Tabled width n places whole = TablesIn width n (tablesIn n places whole) places whole
-
--- all events below `width`
-abbrev pub eventsBelow : ℕ → Alphabet
-eventsBelow width = record { width = width; possible = λ _. true }
+Tabled width n profiles whole = TablesIn width n (tablesIn n profiles whole) profiles whole
 
 -- the set of at most 256 numbers in four words: q is in it if bit q % 64 of word q / 64 is 1
 unfoldable pub keyOf : List ℕ → ℕ
@@ -50,9 +45,9 @@ keyOf words = setBelow 256 (λ q. on (getD words (q / 64) 0) (q % 64))
 pub record WordsFit (words : List ℕ) : Type 0 where
   pub small : (j : ℕ) → j < 4 → getD words j 0 < 2 ^ 64
 
--- of the labels from `from` on, `count` of them, those that the event e takes to a place at which the array is true
+-- of the labels from `from` on, `count` of them, those that the event e takes to a profile at which the array is true
 unfoldable pub hitsFrom : List (List ℕ) → List Bool → ℕ → ℕ → ℕ → ℕ
-hitsFrom places held e from count = setBelow count (λ i. getD held (look places e (from + i)) false)
+hitsFrom profiles held e from count = setBelow count (λ i. getD held (look profiles e (from + i)) false)
 
 -- the numbers of the set in the words `full` that are in the words a, b, a, b
 pub record Cut (a b : ℕ) (full words : List ℕ) : Type 0 where

@@ -1,4 +1,4 @@
-// The breadth-first walk over the keys of remaining properties. A key is a set of at most 256 places, in four words.
+// The breadth-first walk over the keys of remaining properties. A key is a set of at most 256 profiles, in four words.
 ghost use mathlib.Core.Path.{_≡_};
 ghost use mathlib.Core.Bool.{cond};
 ghost use mathlib.Core.List.{List, [], _++_};
@@ -11,6 +11,7 @@ ghost use Rattle.ltl.specs.Residuals.{preimage, ruleTrue};
 ghost use Rattle.ltl.specs.Keys.{look, startKey, stepKey};
 ghost use Rattle.exploration.specs.Arrays.{setIn, wordIn, Marked, SpreadFrom, hitsFrom, Cut, tablesIn, Tabled, keyOf, WordsFit, keysIn, KeysFit, metAt, slotOf, Slotted, MetThere};
 ghost use Rattle.exploration.specs.Answers.{expandKey, exploreBelow, classBy, Enters, GrownAs, WalkedAs, Explores};
+use events::width;
 use wire::wide;
 use wire::wide16;
 
@@ -30,14 +31,6 @@ pub enum Entered {
 pub enum Grown {
     To(usize),
     Full,
-}
-
-// How many events there are over so many signals.
-fn width(signals: u8) -> usize
-    requires { ⌜ signals ≤ 4 ⌝ }
-    ensures { λ r. ⌜ (r ≡ 2 ^ signals) × (r ≤ 16) ⌝ }
-{
-    1 << signals
 }
 
 // ---- keys
@@ -95,7 +88,7 @@ fn same_key(a: [u64; 4], b: [u64; 4]) -> bool
     a[3] == b[3]
 }
 
-// Whether a place is in the key before any event.
+// Whether a profile is in the key before any event.
 fn starts(whole: &[bool; 256], n: usize, p: usize) -> bool
     requires { ⌜ p < 256 ⌝ }
     ensures { λ r. ⌜ r ≡ ruleTrue n (setIn (now (whole .entry))) p ⌝ }
@@ -106,7 +99,7 @@ fn starts(whole: &[bool; 256], n: usize, p: usize) -> bool
     whole[p]
 }
 
-fn start_places(whole: &[bool; 256], n: usize) -> [bool; 256]
+fn start_profiles(whole: &[bool; 256], n: usize) -> [bool; 256]
     ensures { λ r. ⌜ Marked 256 (ruleTrue n (setIn (now (whole .entry)))) r ⌝ }
 {
     let mut out = [false; 256];
@@ -118,7 +111,7 @@ fn start_places(whole: &[bool; 256], n: usize) -> [bool; 256]
     out
 }
 
-// The label of a place.
+// The label of a profile.
 fn label_of(p: usize, n: usize) -> usize
     requires { ⌜ p < n + n ⌝ }
     ensures { λ r. ⌜ (r ≡ p % n) × (r < n) ⌝ }
@@ -129,48 +122,48 @@ fn label_of(p: usize, n: usize) -> usize
     p - n
 }
 
-// Whether the event leads from a place into the key.
+// Whether the event leads from a profile into the key.
 fn leads(
-    places: &[[u8; 128]; 16],
+    profiles: &[[u8; 128]; 16],
     whole: &[bool; 256],
     n: usize,
     key: &[u64; 4],
     e: usize,
     p: usize,
 ) -> bool
-    requires { ⌜ Tabled (e + 1) n (now places) (now whole) ⌝ }
+    requires { ⌜ Tabled (e + 1) n (now profiles) (now whole) ⌝ }
     requires { ⌜ (e < 16) × (p < 256) ⌝ }
-    ensures { λ r. ⌜ r ≡ preimage n (look (now (places .entry))) (setIn (now (whole .entry))) (keyOf (now (key .entry))) e p ⌝ }
+    ensures { λ r. ⌜ r ≡ preimage n (look (now (profiles .entry))) (setIn (now (whole .entry))) (keyOf (now (key .entry))) e p ⌝ }
 {
     if !whole[p] {
         return false;
     }
     let y = label_of(p, n);
-    let q = wide(places[e][y]);
+    let q = wide(profiles[e][y]);
     member(key, q)
 }
 
-fn step_places(
-    places: &[[u8; 128]; 16],
+fn step_profiles(
+    profiles: &[[u8; 128]; 16],
     whole: &[bool; 256],
     n: usize,
     key: &[u64; 4],
     e: usize,
 ) -> [bool; 256]
-    requires { ⌜ Tabled (e + 1) n (now places) (now whole) ⌝ }
+    requires { ⌜ Tabled (e + 1) n (now profiles) (now whole) ⌝ }
     requires { ⌜ e < 16 ⌝ }
-    ensures { λ r. ⌜ Marked 256 (preimage n (look (now (places .entry))) (setIn (now (whole .entry))) (keyOf (now (key .entry))) e) r ⌝ }
+    ensures { λ r. ⌜ Marked 256 (preimage n (look (now (profiles .entry))) (setIn (now (whole .entry))) (keyOf (now (key .entry))) e) r ⌝ }
 {
     let mut out = [false; 256];
     let mut p: usize = 0;
     while p < 256 {
-        out[p] = leads(places, whole, n, key, e, p);
+        out[p] = leads(profiles, whole, n, key, e, p);
         p += 1;
     }
     out
 }
 
-// The bits of a word as bools, from a place on.
+// The bits of a word as bools, from an index on.
 fn spread_word(out: &mut [bool; 256], word: u64, from: usize)
     requires { ⌜ (from + 64 ≤ 256) × (length (now out) ≡ 256) ⌝ }
     ensures { λ _. ⌜ SpreadFrom 64 word from (now (out .entry)) (now (out .exit)) ⌝ }
@@ -184,7 +177,7 @@ fn spread_word(out: &mut [bool; 256], word: u64, from: usize)
     }
 }
 
-// A key as one bool for each place below m.
+// A key as one bool for each profile below m.
 fn spread(key: &[u64; 4], m: usize) -> [bool; 256]
     requires { ⌜ m ≤ 256 ⌝ }
     ensures { λ r. ⌜ Marked m (on (keyOf (now (key .entry)))) r ⌝ }
@@ -198,32 +191,32 @@ fn spread(key: &[u64; 4], m: usize) -> [bool; 256]
     out
 }
 
-// Which of the labels `from`, `from + 1`, .., `count` of them, the event takes to a place that is held: label `from + i` is bit i.
-fn hits(places: &[[u8; 128]; 16], held: &[bool; 256], e: usize, from: usize, count: usize) -> u64
+// Which of the labels `from`, `from + 1`, .., `count` of them, the event takes to a profile that is held: label `from + i` is bit i.
+fn hits(profiles: &[[u8; 128]; 16], held: &[bool; 256], e: usize, from: usize, count: usize) -> u64
     requires { ⌜ (e < 16) × (count ≤ 64) × (from + count ≤ 128) ⌝ }
-    ensures { λ r. ⌜ r ≡ hitsFrom (now (places .entry)) (now (held .entry)) e from count ⌝ }
+    ensures { λ r. ⌜ r ≡ hitsFrom (now (profiles .entry)) (now (held .entry)) e from count ⌝ }
 {
     let mut word: u64 = 0;
     let mut i: usize = count;
     while 0 < i {
         i -= 1;
-        let q = wide(places[e][from + i]);
+        let q = wide(profiles[e][from + i]);
         word = word * 2 + digit(held[q]);
     }
     word
 }
 
-// The places of `full` that are in the four words a, b, a, b.
+// The profiles of `full` that are in the four words a, b, a, b.
 fn cut(a: u64, b: u64, full: &[u64; 4]) -> [u64; 4]
     ensures { λ r. ⌜ WordsFit r × Cut a b (now (full .entry)) r ⌝ }
 {
     [full[0] & a, full[1] & b, full[2] & a, full[3] & b]
 }
 
-// The key after one event more; `held` is the key as bools, `full` has all places. The two places of a label are n apart, so where n labels fill
-// words, or all places fit in one, the step goes by words. For any other n it goes place by place.
+// The key after one event more; `held` is the key as bools, `full` has all profiles. The two profiles of a label are n apart, so where n labels fill
+// words, or all profiles fit in one, the step goes by words. For any other n it goes profile by profile.
 fn step_key(
-    places: &[[u8; 128]; 16],
+    profiles: &[[u8; 128]; 16],
     whole: &[bool; 256],
     full: &[u64; 4],
     n: usize,
@@ -231,25 +224,25 @@ fn step_key(
     held: &[bool; 256],
     e: usize,
 ) -> [u64; 4]
-    requires { ⌜ Tabled (e + 1) n (now places) (now whole) ⌝ }
+    requires { ⌜ Tabled (e + 1) n (now profiles) (now whole) ⌝ }
     requires { ⌜ (keyOf (now full) ≡ setIn (now whole)) × (e < 16) × Marked (n + n) (on (keyOf (now key))) (now held) ⌝ }
-    ensures { λ r. ⌜ WordsFit r × (keyOf r ≡ stepKey (tablesIn n (now (places .entry)) (now (whole .entry))) (keyOf (now (key .entry))) e) ⌝ }
+    ensures { λ r. ⌜ WordsFit r × (keyOf r ≡ stepKey (tablesIn n (now (profiles .entry)) (now (whole .entry))) (keyOf (now (key .entry))) e) ⌝ }
 {
     if n <= 32 {
-        let low = hits(places, held, e, 0, n);
+        let low = hits(profiles, held, e, 0, n);
         let both = low + (low << n);
         return cut(both, both, full);
     }
     if n == 64 {
-        let low = hits(places, held, e, 0, 64);
+        let low = hits(profiles, held, e, 0, 64);
         return cut(low, low, full);
     }
     if n == 128 {
-        let low = hits(places, held, e, 0, 64);
-        let high = hits(places, held, e, 64, 64);
+        let low = hits(profiles, held, e, 0, 64);
+        let high = hits(profiles, held, e, 64, 64);
         return cut(low, high, full);
     }
-    let bits = step_places(places, whole, n, key, e);
+    let bits = step_profiles(profiles, whole, n, key, e);
     pack(&bits)
 }
 
@@ -349,7 +342,7 @@ fn enter(
 
 // The row of a key, for event 0 upward.
 fn expand(
-    places: &[[u8; 128]; 16],
+    profiles: &[[u8; 128]; 16],
     whole: &[bool; 256],
     full: &[u64; 4],
     n: usize,
@@ -360,16 +353,16 @@ fn expand(
     source: [u64; 4],
     row: &mut [u16; 16],
 ) -> Grown
-    requires { ⌜ Tabled events n (now places) (now whole) ⌝ }
+    requires { ⌜ Tabled events n (now profiles) (now whole) ⌝ }
     requires { ⌜ keyOf (now full) ≡ setIn (now whole) ⌝ }
     requires { ⌜ (events ≤ 16) × KeysFit count (now keys) × Slotted count (now keys) (now slots) × (length (now row) ≡ 16) ⌝ }
-    ensures { λ r. ⌜ GrownAs (expandKey (tablesIn n (now (places .entry)) (now (whole .entry))) events (keyOf source) (keysIn count (now (keys .entry)))) events (now (keys .exit)) (now (slots .exit)) (now (row .exit)) r ⌝ }
+    ensures { λ r. ⌜ GrownAs (expandKey (tablesIn n (now (profiles .entry)) (now (whole .entry))) events (keyOf source) (keysIn count (now (keys .entry)))) events (now (keys .exit)) (now (slots .exit)) (now (row .exit)) r ⌝ }
 {
     let held = spread(&source, n + n);
     let mut met = count;
     let mut e: usize = 0;
     while e < events {
-        let key = step_key(places, whole, full, n, &source, &held, e);
+        let key = step_key(profiles, whole, full, n, &source, &held, e);
         let entered = enter(keys, slots, met, key);
         let Entered::At(i, next) = entered else {
             return Grown::Full;
@@ -383,7 +376,7 @@ fn expand(
 
 // The rows of all keys that are reached from the first one. They are made from `blank`: "an array of rows, one row of successors per state", by value.
 fn walk(
-    places: &[[u8; 128]; 16],
+    profiles: &[[u8; 128]; 16],
     whole: &[bool; 256],
     full: &[u64; 4],
     n: usize,
@@ -392,11 +385,11 @@ fn walk(
     blank: [[u16; 16]; 256],
     rows: &mut [[u16; 16]; 256],
 ) -> Walked
-    requires { ⌜ Tabled events n (now places) (now whole) ⌝ }
+    requires { ⌜ Tabled events n (now profiles) (now whole) ⌝ }
     requires { ⌜ keyOf (now full) ≡ setIn (now whole) ⌝ }
     requires { ⌜ (events ≤ 16) × KeysFit 1 (now keys) × (length {A = List ℕ} blank ≡ 256) ⌝ }
-    requires { ⌜ keyOf (getD (now keys) 0 []) ≡ startKey (tablesIn n (now places) (now whole)) ⌝ }
-    ensures { λ r. ⌜ WalkedAs (exploreBelow (tablesIn n (now (places .entry)) (now (whole .entry))) events) events (now (keys .exit)) (now (rows .entry)) (now (rows .exit)) r ⌝ }
+    requires { ⌜ keyOf (getD (now keys) 0 []) ≡ startKey (tablesIn n (now profiles) (now whole)) ⌝ }
+    ensures { λ r. ⌜ WalkedAs (exploreBelow (tablesIn n (now (profiles .entry)) (now (whole .entry))) events) events (now (keys .exit)) (now (rows .entry)) (now (rows .exit)) r ⌝ }
 {
     let mut table = blank;
     let first = keys[0];
@@ -407,7 +400,7 @@ fn walk(
         let mut row = [0u16; 16];
         let key = keys[i];
         let grown = expand(
-            places,
+            profiles,
             whole,
             full,
             n,
@@ -460,22 +453,22 @@ fn classify(keys: &[[u64; 4]; 256], count: usize, full: [u64; 4], classes: &mut 
 pub fn explore(
     signals: u8,
     labels: usize,
-    places: &[[u8; 128]; 16],
+    profiles: &[[u8; 128]; 16],
     whole: &[bool; 256],
     rows: &mut [[u16; 16]; 256],
     classes: &mut [u8; 256],
 ) -> Walked
-    requires { ⌜ (signals ≤ 4) × Tabled (2 ^ signals) labels (now places) (now whole) ⌝ }
+    requires { ⌜ (signals ≤ 4) × Tabled (2 ^ signals) labels (now profiles) (now whole) ⌝ }
     requires { ⌜ length (now classes) ≡ 256 ⌝ }
-    ensures { λ r. ⌜ Explores signals (tablesIn labels (now (places .entry)) (now (whole .entry))) r (now (rows .entry)) (now (rows .exit)) (now (classes .entry)) (now (classes .exit)) ⌝ }
+    ensures { λ r. ⌜ Explores signals (tablesIn labels (now (profiles .entry)) (now (whole .entry))) r (now (rows .entry)) (now (rows .exit)) (now (classes .entry)) (now (classes .exit)) ⌝ }
 {
     let events = width(signals);
     let mut keys = [[0u64; 4]; 256];
-    let first = start_places(whole, labels);
+    let first = start_profiles(whole, labels);
     keys[0] = pack(&first);
     let full = pack(whole);
     let walked = walk(
-        places,
+        profiles,
         whole,
         &full,
         labels,

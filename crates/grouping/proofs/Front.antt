@@ -9,12 +9,13 @@ use native.Mathlib.Omega.{arith}
 use lib.Dec.{eqb}
 use lib.ListN.{getD, take}
 use lib.Seq.{getD-take}
+use Rattle.meaning.specs.Traces.{firstEvents}
 use Rattle.sequences.specs.Tabulate.{tabulate, allBelow, leastBelow}
 use Rattle.meaning.specs.Monitors.{keep}
 use Rattle.moore.specs.Counting.{countBelow}
 use Rattle.moore.specs.Grouping.{entry, together, leads, sameStep, nextGroups, sameBelow, rounds}
 use Rattle.moore.specs.Quotient.{leaders, leader, size, number, closed}
-use Rattle.grouping.specs.Machines.{firstEvents, RowBelow, RowsBelow}
+use Rattle.grouping.specs.Machines.{RowBelow, RowsBelow}
 
 -- ---- equal below the bound
 pub tabulate-same : {A : Type 0} (n : ℕ) (f g : ℕ → A) → ((i : ℕ) → i < n → f i ≡ g i) → tabulate n f ≡ tabulate n g

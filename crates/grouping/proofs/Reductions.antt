@@ -7,13 +7,13 @@ use native.Mathlib.Omega.{arith}
 use lib.ListN.{getD, take, drop}
 use Rattle.sequences.specs.Tabulate.{tabulate}
 use Rattle.sequences.proofs.Loops.{getD-tab}
-use Rattle.meaning.specs.Traces.{over}
+use Rattle.meaning.specs.Traces.{over, firstEvents}
 use Rattle.moore.specs.Grouping.{entry, Machine, leads, grouping, Grouped, Stable}
 use Rattle.moore.specs.Quotient.{leader, size, number, closed, verdictByte, verdicts, quotientRows}
 use Rattle.moore.proofs.Counting.{count-le}
 use Rattle.moore.proofs.Grouping.{grouping-grouped, grouping-stable}
 use Rattle.moore.proofs.Quotient.{leader-in, number-in, number-start}
-use Rattle.grouping.specs.Machines.{firstEvents, RowsBelow, ListBelow, Least, Leaders, verdictAt, rowAt}
+use Rattle.grouping.specs.Machines.{RowsBelow, ListBelow, Least, Leaders, verdictAt, rowAt}
 use Rattle.grouping.specs.Reduction.{padded, Reduction}
 use Rattle.grouping.proofs.Laws.{taken-at, rows-fewer}
 use Rattle.grouping.proofs.Front.{tabulate-same, map-tabulate, front-at, size-front, leader-front, number-front, closed-front}

@@ -9,12 +9,12 @@ use native.Mathlib.Decide.{ℕ-discrete}
 use native.Mathlib.Omega.{arith}
 use lib.ListN.{length, getD, set, length-set, drop, List·getD-append}
 use lib.Seq.{getD-set-same, getD-set-other}
+use Rattle.meaning.specs.Traces.{firstEvents}
 use Rattle.sequences.specs.Tabulate.{tabulate, leastBelow}
 use Rattle.sequences.proofs.Loops.{Filled, length-tab, getD-tab, Missed, missed-end}
 use Rattle.moore.specs.Grouping.{entry, sameStep}
 use Rattle.moore.proofs.Tests.{bool-cases, same-name}
 use Rattle.moore.proofs.Grouping.{step→, step-equivalence}
-use Rattle.grouping.specs.Machines.{firstEvents}
 use Rattle.grouping.specs.Slots.{mixed, slotOf, Slotted, InSlot, LeftBelow}
 
 -- ---- mixing

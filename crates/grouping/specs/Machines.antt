@@ -10,10 +10,6 @@ use Rattle.moore.specs.Grouping.{entry}
 use Rattle.moore.specs.Quotient.{leader, size, closed, verdictByte}
 use Rattle.grouping.specs.Reduction.{padded}
 
--- every event below w can happen
-abbrev pub firstEvents : ℕ → Alphabet
-firstEvents w = record { width = w; possible = λ _. true }
-
 -- the first w successors of a row are below n
 pub record RowBelow (w n : ℕ) (row : List ℕ) : Type 0 where
   pub to : (e : ℕ) → e < w → getD row e 0 < n

@@ -4,9 +4,9 @@ use mathlib.Core.Bool.{true}
 use mathlib.Core.List.{List}
 use Prim.Native.Nat.{ℕ, zero, suc, _+_, _*_, _%_, _<_}
 use lib.ListN.{length, getD}
+use Rattle.meaning.specs.Traces.{firstEvents}
 use Rattle.sequences.specs.Tabulate.{leastBelow}
 use Rattle.moore.specs.Grouping.{entry, sameStep}
-use Rattle.grouping.specs.Machines.{firstEvents}
 
 -- s mixed with f 0, f 1, .., f (n - 1)
 unfoldable pub mixed : ℕ → (ℕ → ℕ) → ℕ → ℕ

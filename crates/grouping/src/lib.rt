@@ -5,14 +5,14 @@ ghost use mathlib.Core.List.{List, [], _++_};
 ghost use Prim.Native.Nat.{ℕ, _+_, _≤_, _<_};
 ghost use lib.ListN.{length, getD, take, drop};
 ghost use Rattle.sequences.specs.Tabulate.{tabulate, leastBelow};
-ghost use Rattle.meaning.specs.Traces.{over};
+ghost use Rattle.meaning.specs.Traces.{over, firstEvents};
 ghost use Rattle.moore.specs.Counting.{countBelow};
 ghost use Rattle.moore.specs.Grouping.{entry, Machine, together, leads, sameStep, firstGroups, nextGroups, sameBelow, rounds, grouping};
 ghost use Rattle.moore.specs.Quotient.{number, closed};
-ghost use Rattle.grouping.specs.Machines.{firstEvents, RowBelow, RowsBelow, ListBelow, Least, Leaders, verdictAt, rowAt};
+ghost use Rattle.grouping.specs.Machines.{RowBelow, RowsBelow, ListBelow, Least, Leaders, verdictAt, rowAt};
 ghost use Rattle.grouping.specs.Slots.{slotOf, LeftBelow, InSlot};
 ghost use Rattle.grouping.specs.Reduction.{Reduction};
-use table_file::width;
+use events::width;
 use wire::wide16;
 
 // ---- groups

@@ -2,8 +2,8 @@
 use mathlib.Core.List.{List, [], _∷_, _++_, flatMap}
 use Prim.Native.Nat.{ℕ, _+_}
 use lib.ListN.{length}
+use Rattle.meaning.specs.TableFiles.{verdictNumber}
 use Rattle.meaning.specs.declared.Verdict.{Verdict}
-use Rattle.meaning.specs.declared.Verdict.the-variants.{Undecided, Satisfied, Violated, Moot}
 use Rattle.wire.specs.Wire.{u16Bytes}
 
 -- "A record is: length (two bytes, low byte first, counting all that follows it in the record), kind (two bytes, low first), body."
@@ -41,17 +41,10 @@ pub record Table : Type 0 where
 abbrev pub table : ℕ → List State → Table
 table signals states = record { signals = signals; states = states }
 
--- "Verdict bytes: 0 undecided, 1 satisfied, 2 violated, 3 moot."
-abbrev pub verdictByte : Verdict → ℕ
-verdictByte Undecided = 0
-verdictByte Satisfied = 1
-verdictByte Violated = 2
-verdictByte Moot = 3
-
 -- "First record: kind 512, body P (one byte) and S (two bytes), the number of states. Then S records of kind 513: the verdict byte, then 2^P
 -- successors of two bytes, for event 0 upward."
 unfoldable pub tableFile : Table → List ℕ
 unfolding flatMap
 tableFile t =
     recordOf 512 (t .signals ∷ u16Bytes (length (t .states)))
-    ++ flatMap (λ s. recordOf 513 (verdictByte (s .verdict) ∷ flatMap u16Bytes (s .successors))) (t .states)
+    ++ flatMap (λ s. recordOf 513 (verdictNumber (s .verdict) ∷ flatMap u16Bytes (s .successors))) (t .states)

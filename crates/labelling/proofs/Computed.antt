@@ -15,10 +15,10 @@ use Rattle.ltl.specs.Residuals.{before, wholeSet}
 use Rattle.ltl.specs.Keys.{look, tablesOf}
 use Rattle.ltl.proofs.Sets.{on-out}
 use Rattle.ltl.proofs.Tables.{Tabulates}
-use Rattle.ltl.proofs.Bounds.{place-lt, whole-lt}
+use Rattle.ltl.proofs.Bounds.{profile-lt, whole-lt}
 use Rattle.ltl.proofs.SameTables.{same-whole}
 use Rattle.ltl.proofs.Instance.{made-tabulates}
-use Rattle.valuation.specs.Valued.{Valuable, placeAt, fairsAt}
+use Rattle.valuation.specs.Valued.{Valuable, profileAt, fairsAt}
 use Rattle.valuation.specs.Entries.{Entries, Table}
 use Rattle.realizability.specs.Relations.{below}
 use Rattle.realizability.proofs.Searches.{some-same}
@@ -35,52 +35,52 @@ pub valuable-of : (k count : ℕ) (nodes : List Node) → k ≡ count → Valuab
 valuable-of k count nodes e v = subst (λ (j : ℕ). Valuable j nodes) (sym e) v
 
 -- what the code computes for the first `count` nodes, with w events, n labels and m temporal nodes
-pub record Computed (w n m count : ℕ) (nodes : List Node) (places fairs : List (List ℕ)) (real whole : List Bool) : Type 0 where
-  pub place : Table w n (placeAt count nodes) places
+pub record Computed (w n m count : ℕ) (nodes : List Node) (profiles fairs : List (List ℕ)) (real whole : List Bool) : Type 0 where
+  pub profile : Table w n (profileAt count nodes) profiles
   pub fair : Table w n (fairsAt count nodes) fairs
-  pub labels : Entries n (on (realizable (below w) n (before n (look places)) (look fairs) m)) false real
-  pub marks : AllMarked w n places real whole
+  pub labels : Entries n (on (realizable (below w) n (before n (look profiles)) (look fairs) m)) false real
+  pub marks : AllMarked w n profiles real whole
 
 abbrev temporalsIn : ℕ → List Node → ℕ
 temporalsIn count nodes = temporals (splits (take count nodes))
 
-module _ (P count : ℕ) (nodes : List Node) {places fairs : List (List ℕ)} {real whole : List Bool} where
-  module _ (h : Computed (2 ^ P) (2 ^ temporalsIn count nodes) (temporalsIn count nodes) count nodes places fairs real whole) where
-    tabulates : Tabulates (over P) (splits (take count nodes)) (look places) (look fairs)
-    tabulates = record { place-is = λ e y p l. h .place .entry e y (p .0) l; fair-is = λ e y p l. h .fair .entry e y (p .0) l }
+module _ (P count : ℕ) (nodes : List Node) {profiles fairs : List (List ℕ)} {real whole : List Bool} where
+  module _ (h : Computed (2 ^ P) (2 ^ temporalsIn count nodes) (temporalsIn count nodes) count nodes profiles fairs real whole) where
+    tabulates : Tabulates (over P) (splits (take count nodes)) (look profiles) (look fairs)
+    tabulates = record { profile-is = λ e y p l. h .profile .entry e y (p .0) l; fair-is = λ e y p l. h .fair .entry e y (p .0) l }
 
     member : (p : ℕ) → p < 256 → getD whole p false ≡ on (tablesOf (over P) (splits (take count nodes)) .whole) p
     unfolding tablesOf wholeSet
     member p l =
-        let R = realizable (over P) (2 ^ temporalsIn count nodes) (before (2 ^ temporalsIn count nodes) (look places)) (look fairs) (temporalsIn count nodes) in
+        let R = realizable (over P) (2 ^ temporalsIn count nodes) (before (2 ^ temporalsIn count nodes) (look profiles)) (look fairs) (temporalsIn count nodes) in
         h .marks .is p l
-        ∙ some-same (2 ^ P) (λ e. someBelow (2 ^ temporalsIn count nodes) (hits places real e p)) (λ e. someBelow (2 ^ temporalsIn count nodes) (gives P (2 ^ temporalsIn count nodes) (look places) R p e))
-        (λ e a. some-same (2 ^ temporalsIn count nodes) (hits places real e p) (gives P (2 ^ temporalsIn count nodes) (look places) R p e)
-        (λ y b. ap (λ (t : Bool). elim t [ true ↦ eqb (look places e y) p | false ↦ false ]) (h .labels .entry y b)))
-        ∙ marks-on P (2 ^ temporalsIn count nodes) (look places) R p
+        ∙ some-same (2 ^ P) (λ e. someBelow (2 ^ temporalsIn count nodes) (hits profiles real e p)) (λ e. someBelow (2 ^ temporalsIn count nodes) (gives P (2 ^ temporalsIn count nodes) (look profiles) R p e))
+        (λ e a. some-same (2 ^ temporalsIn count nodes) (hits profiles real e p) (gives P (2 ^ temporalsIn count nodes) (look profiles) R p e)
+        (λ y b. ap (λ (t : Bool). elim t [ true ↦ eqb (look profiles e y) p | false ↦ false ]) (h .labels .entry y b)))
+        ∙ marks-on P (2 ^ temporalsIn count nodes) (look profiles) R p
         ∙ ap (λ (A : ℕ). on A p) (same-whole tabulates (made-tabulates (over P) (splits (take count nodes))))
 
-    tables-in : Valuable count nodes → TablesIn (2 ^ P) (2 ^ temporalsIn count nodes) (tablesOf (over P) (splits (take count nodes))) places whole
+    tables-in : Valuable count nodes → TablesIn (2 ^ P) (2 ^ temporalsIn count nodes) (tablesOf (over P) (splits (take count nodes))) profiles whole
     unfolding tablesOf
     tables-in v = record {
       labels = refl;
       some = pow-pos (temporalsIn count nodes);
       few = pow-mono {j = 7} (v .temporal);
-      place = λ e y a b. h .place .entry e y a b ∙ sym (made-tabulates (over P) (splits (take count nodes)) .place-is e y (a, tt) b);
-      small = λ e y a b. subst (λ (p : ℕ). p < 2 ^ temporalsIn count nodes + 2 ^ temporalsIn count nodes) (sym (h .place .entry e y a b)) (place-lt e y (splits (take count nodes)));
+      profile = λ e y a b. h .profile .entry e y a b ∙ sym (made-tabulates (over P) (splits (take count nodes)) .profile-is e y (a, tt) b);
+      small = λ e y a b. subst (λ (p : ℕ). p < 2 ^ temporalsIn count nodes + 2 ^ temporalsIn count nodes) (sym (h .profile .entry e y a b)) (profile-lt e y (splits (take count nodes)));
       member = member;
       past = λ p a. on-out (tablesOf (over P) (splits (take count nodes)) .whole) (2 ^ temporalsIn count nodes + 2 ^ temporalsIn count nodes) p (whole-lt (made-tabulates (over P) (splits (take count nodes)))) a;
     }
 
 -- the same, where the counts are the code's
-pub all-computed : (P count w n m k : ℕ) (nodes : List Node) {places fairs : List (List ℕ)} {real whole : List Bool} → k ≡ count → m ≡ temporalsIn k nodes → n ≡ 2 ^ m → w ≡ 2 ^ P
-    → Valuable count nodes → Computed w n m k nodes places fairs real whole
-    → (m ≡ temporalsIn count nodes) × TablesIn (2 ^ P) (2 ^ m) (tablesOf (over P) (splits (take count nodes))) places whole
-all-computed P count w n m k nodes {places} {fairs} {real} {whole} a b c d v h =
+pub all-computed : (P count w n m k : ℕ) (nodes : List Node) {profiles fairs : List (List ℕ)} {real whole : List Bool} → k ≡ count → m ≡ temporalsIn k nodes → n ≡ 2 ^ m → w ≡ 2 ^ P
+    → Valuable count nodes → Computed w n m k nodes profiles fairs real whole
+    → (m ≡ temporalsIn count nodes) × TablesIn (2 ^ P) (2 ^ m) (tablesOf (over P) (splits (take count nodes))) profiles whole
+all-computed P count w n m k nodes {profiles} {fairs} {real} {whole} a b c d v h =
     let M = temporalsIn count nodes in
     let e : m ≡ M = b ∙ ap (λ (j : ℕ). temporalsIn j nodes) a in
-    let h₁ = subst (λ (j : ℕ). Computed w n m j nodes places fairs real whole) a h in
-    let h₂ = subst (λ (j : ℕ). Computed w n j count nodes places fairs real whole) e h₁ in
-    let h₃ = subst (λ (j : ℕ). Computed w j M count nodes places fairs real whole) (c ∙ ap (λ (j : ℕ). 2 ^ j) e) h₂ in
-    let h₄ = subst (λ (j : ℕ). Computed j (2 ^ M) M count nodes places fairs real whole) d h₃ in
-    (e, subst (λ (j : ℕ). TablesIn (2 ^ P) (2 ^ j) (tablesOf (over P) (splits (take count nodes))) places whole) (sym e) (tables-in P count nodes h₄ v))
+    let h₁ = subst (λ (j : ℕ). Computed w n m j nodes profiles fairs real whole) a h in
+    let h₂ = subst (λ (j : ℕ). Computed w n j count nodes profiles fairs real whole) e h₁ in
+    let h₃ = subst (λ (j : ℕ). Computed w j M count nodes profiles fairs real whole) (c ∙ ap (λ (j : ℕ). 2 ^ j) e) h₂ in
+    let h₄ = subst (λ (j : ℕ). Computed j (2 ^ M) M count nodes profiles fairs real whole) d h₃ in
+    (e, subst (λ (j : ℕ). TablesIn (2 ^ P) (2 ^ j) (tablesOf (over P) (splits (take count nodes))) profiles whole) (sym e) (tables-in P count nodes h₄ v))

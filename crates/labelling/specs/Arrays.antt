@@ -1,4 +1,4 @@
--- The tables of the residual system (Keys of crate ltl), as arrays hold them: the place by event and next label, and which places there are.
+-- The tables of the residual system (Keys of crate ltl), as arrays hold them: the profile by event and next label, and which profiles there are.
 use mathlib.Core.Path.{_≡_}
 use mathlib.Core.List.{List, []}
 use mathlib.Core.Bool.{Bool, false}
@@ -8,11 +8,11 @@ use Rattle.ltl.specs.Sets.{on}
 use Rattle.ltl.specs.Keys.{Tables, look}
 
 -- n labels; events below `width`
-pub record TablesIn (width n : ℕ) (t : Tables) (places : List (List ℕ)) (whole : List Bool) : Type 0 where
+pub record TablesIn (width n : ℕ) (t : Tables) (profiles : List (List ℕ)) (whole : List Bool) : Type 0 where
   pub labels : t .labels ≡ n
   pub some : 1 ≤ n
   pub few : n ≤ 128
-  pub place : (e y : ℕ) → e < width → y < n → getD (getD places e []) y 0 ≡ look (t .places) e y
-  pub small : (e y : ℕ) → e < width → y < n → getD (getD places e []) y 0 < n + n
+  pub profile : (e y : ℕ) → e < width → y < n → getD (getD profiles e []) y 0 ≡ look (t .profiles) e y
+  pub small : (e y : ℕ) → e < width → y < n → getD (getD profiles e []) y 0 < n + n
   pub member : (p : ℕ) → p < 256 → getD whole p false ≡ on (t .whole) p
   pub past : (p : ℕ) → n + n ≤ p → on (t .whole) p ≡ false

@@ -1,4 +1,4 @@
--- The places of all continuations, marked event by event.
+-- The profiles of all continuations, marked event by event.
 use mathlib.Core.Path.{_≡_}
 use mathlib.Core.List.{List}
 use mathlib.Core.Bool.{Bool, true, false}
@@ -8,16 +8,16 @@ use lib.Dec.{eqb}
 use Rattle.ltl.specs.Sets.{someBelow}
 use Rattle.ltl.specs.Keys.{look}
 
--- by the event e the label y, if some continuation has it, gives the place p
+-- by the event e the label y, if some continuation has it, gives the profile p
 abbrev pub hits : List (List ℕ) → List Bool → ℕ → ℕ → ℕ → Bool
-hits places real e p y = elim (getD real y false) [ true ↦ eqb (look places e y) p | false ↦ false ]
+hits profiles real e p y = elim (getD real y false) [ true ↦ eqb (look profiles e y) p | false ↦ false ]
 
--- the places that a label below n hits, added to those marked before
+-- the profiles that a label below n hits, added to those marked before
 pub record Marked (n : ℕ) (f : ℕ → ℕ → Bool) (old new : List Bool) : Type 0 where
   pub long : length new ≡ 256
   pub is : (p : ℕ) → p < 256 → getD new p false ≡ elim (someBelow n (f p)) [ true ↦ true | false ↦ getD old p false ]
 
--- the places that some of w events and n labels hit
-pub record AllMarked (w n : ℕ) (places : List (List ℕ)) (real whole : List Bool) : Type 0 where
+-- the profiles that some of w events and n labels hit
+pub record AllMarked (w n : ℕ) (profiles : List (List ℕ)) (real whole : List Bool) : Type 0 where
   pub long : length whole ≡ 256
-  pub is : (p : ℕ) → p < 256 → getD whole p false ≡ someBelow w (λ e. someBelow n (hits places real e p))
+  pub is : (p : ℕ) → p < 256 → getD whole p false ≡ someBelow w (λ e. someBelow n (hits profiles real e p))

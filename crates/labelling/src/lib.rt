@@ -9,83 +9,77 @@ ghost use Rattle.ltl.specs.Keys.{tablesOf};
 ghost use Rattle.valuation.specs.Valued.{Valuable};
 ghost use Rattle.labelling.specs.Marks.{hits, Marked, AllMarked};
 ghost use Rattle.labelling.specs.Arrays.{TablesIn};
+use events::power;
+use events::width;
 use meaning::Node;
 use realizability::realizable_labels;
 use valuation::temporal_count;
 use valuation::value_tables;
 use wire::wide;
 
-// A power of 2.
-pub fn power(k: u8) -> usize
-    requires { ⌜ k ≤ 7 ⌝ }
-    ensures { λ r. ⌜ r ≡ 2 ^ k ⌝ }
-{
-    1 << k
-}
-
-// Marks the places that an event gives before the labels that some continuation has.
+// Marks the profiles that an event gives before the labels that some continuation has.
 fn mark_event(
     whole: &mut [bool; 256],
-    places: &[[u8; 128]; 16],
+    profiles: &[[u8; 128]; 16],
     real: &[bool; 128],
     labels: usize,
     e: usize,
 )
     requires { ⌜ (labels ≤ 128) × (e < 16) ⌝ }
-    requires { ⌜ (length {A = List ℕ} (now places) ≡ 16) × (length (now real) ≡ 128) × (length (now whole) ≡ 256) ⌝ }
-    ensures { λ _. ⌜ Marked labels (hits (now (places .entry)) (now (real .entry)) e) (now (whole .entry)) (now (whole .exit)) ⌝ }
+    requires { ⌜ (length {A = List ℕ} (now profiles) ≡ 16) × (length (now real) ≡ 128) × (length (now whole) ≡ 256) ⌝ }
+    ensures { λ _. ⌜ Marked labels (hits (now (profiles .entry)) (now (real .entry)) e) (now (whole .entry)) (now (whole .exit)) ⌝ }
 {
     let mut y: usize = 0;
     while y < labels {
-        let p = wide(places[e][y]);
+        let p = wide(profiles[e][y]);
         let has = real[y];
         whole[p] = has | whole[p];
         y += 1;
     }
 }
 
-// Marks the places of all continuations, and no other.
+// Marks the profiles of all continuations, and no other.
 fn mark_all(
     whole: &mut [bool; 256],
-    places: &[[u8; 128]; 16],
+    profiles: &[[u8; 128]; 16],
     real: &[bool; 128],
     events: usize,
     labels: usize,
 )
     requires { ⌜ (labels ≤ 128) × (events ≤ 16) ⌝ }
-    requires { ⌜ (length {A = List ℕ} (now places) ≡ 16) × (length (now real) ≡ 128) × (length (now whole) ≡ 256) ⌝ }
-    ensures { λ _. ⌜ AllMarked events labels (now (places .entry)) (now (real .entry)) (now (whole .exit)) ⌝ }
+    requires { ⌜ (length {A = List ℕ} (now profiles) ≡ 16) × (length (now real) ≡ 128) × (length (now whole) ≡ 256) ⌝ }
+    ensures { λ _. ⌜ AllMarked events labels (now (profiles .entry)) (now (real .entry)) (now (whole .exit)) ⌝ }
 {
     *whole = [false; 256];
     let mut e: usize = 0;
     while e < events {
-        mark_event(whole, places, real, labels, e);
+        mark_event(whole, profiles, real, labels, e);
         e += 1;
     }
 }
 
-// The tables of a rule's residual system: the place by event and next label, and which places the continuations have.
+// The tables of a rule's residual system: the profile by event and next label, and which profiles the continuations have.
 // Returns the number m of temporal nodes; there are 2^m labels.
 pub fn tables(
     signals: u8,
     count: u8,
     nodes: [Node; 64],
-    places: &mut [[u8; 128]; 16],
+    profiles: &mut [[u8; 128]; 16],
     whole: &mut [bool; 256],
 ) -> u8
     requires { ⌜ signals ≤ 4 ⌝ }
     requires { ⌜ Valuable count nodes ⌝ }
-    requires { ⌜ (length {A = List ℕ} (now places) ≡ 16) × (length (now whole) ≡ 256) ⌝ }
+    requires { ⌜ (length {A = List ℕ} (now profiles) ≡ 16) × (length (now whole) ≡ 256) ⌝ }
     ensures { λ m. ⌜ m ≡ temporals (splits (take count nodes)) ⌝ }
-    ensures { λ m. ⌜ TablesIn (2 ^ signals) (2 ^ m) (tablesOf (over signals) (splits (take count nodes))) (now (places .exit)) (now (whole .exit)) ⌝ }
+    ensures { λ m. ⌜ TablesIn (2 ^ signals) (2 ^ m) (tablesOf (over signals) (splits (take count nodes))) (now (profiles .exit)) (now (whole .exit)) ⌝ }
 {
     let k = wide(count);
     let m = temporal_count(k, nodes);
-    let events = power(signals);
+    let events = width(signals);
     let labels = power(m);
     let mut fairs = [[0u8; 128]; 16];
-    value_tables(events, labels, k, nodes, places, &mut fairs);
-    let real = realizable_labels(places, &fairs, m, events, labels);
-    mark_all(whole, places, &real, events, labels);
+    value_tables(events, labels, k, nodes, profiles, &mut fairs);
+    let real = realizable_labels(profiles, &fairs, m, events, labels);
+    mark_all(whole, profiles, &real, events, labels);
     m
 }

@@ -1,4 +1,4 @@
--- How large the numbers are that specs/ computes: with m temporal nodes and n = 2 ^ m labels, sets of labels are below 2 ^ n and sets of places below 2 ^ (n + n).
+-- How large the numbers are that specs/ computes: with m temporal nodes and n = 2 ^ m labels, sets of labels are below 2 ^ n and sets of profiles below 2 ^ (n + n).
 use mathlib.Core.Path.{sym, subst}
 use mathlib.Core.Bool.{Bool, true, false}
 use mathlib.Core.List.{List}
@@ -13,7 +13,7 @@ use Rattle.sequences.proofs.Loops.{length-tab, getD-tab}
 use Rattle.meaning.specs.Traces.{Alphabet}
 use Rattle.ltl.specs.Sets.{on, someEvent}
 use Rattle.ltl.specs.Nodes.{Split, temporals}
-use Rattle.ltl.specs.Valuation.{valued, placeOf}
+use Rattle.ltl.specs.Valuation.{valued, profileOf}
 use Rattle.ltl.specs.Closure.{row, closure}
 use Rattle.ltl.specs.Realizable.{edgeRow, edgeRows}
 use Rattle.ltl.specs.Residuals.{wholeSet}
@@ -21,15 +21,15 @@ use Rattle.ltl.proofs.Sets.{put-lt, set-lt, members-lt}
 use Rattle.ltl.proofs.Valuation.{sized-none, sized-all}
 use Rattle.ltl.proofs.Labels.{valued-temporals, label-lt}
 use Rattle.ltl.proofs.Closure.{row-pass}
-use Rattle.ltl.proofs.Tables.{Tabulates, place-valued}
-use Rattle.ltl.proofs.Places.{whole-below}
+use Rattle.ltl.proofs.Tables.{Tabulates, profile-valued}
+use Rattle.ltl.proofs.Profiles.{whole-below}
 
 pub fairs-lt : (e y : ℕ) (ns : List Split) → valued e y ns .fairs < 2 ^ temporals ns
 fairs-lt e y ns = rw valued-temporals at (sized-all e y sized-none ns .fairs-lt)
 
-pub place-lt : (e y : ℕ) (ns : List Split) → placeOf (valued e y ns) < 2 ^ temporals ns + 2 ^ temporals ns
-place-lt e y ns =
-    rw (place-valued e y ns) (omega (arith, put-lt (temporals ns) (on (valued e y ns .values) (length ns - 1)) (valued e y ns .label) (label-lt e y ns), pow-suc 2 (temporals ns)))
+pub profile-lt : (e y : ℕ) (ns : List Split) → profileOf (valued e y ns) < 2 ^ temporals ns + 2 ^ temporals ns
+profile-lt e y ns =
+    rw (profile-valued e y ns) (omega (arith, put-lt (temporals ns) (on (valued e y ns .values) (length ns - 1)) (valued e y ns .label) (label-lt e y ns), pow-suc 2 (temporals ns)))
 
 -- ---- sets of labels
 
@@ -57,8 +57,8 @@ module _ (Σ : Alphabet) (n : ℕ) (before : ℕ → ℕ → ℕ) where
   pub row-lt : (k x : ℕ) → row (closure k (edgeRows Σ n before)) x < 2 ^ n
   row-lt k x = closure-lt n k (edgeRows Σ n before) edge-row-lt x
 
--- ---- sets of places
+-- ---- sets of profiles
 
-module _ {Σ : Alphabet} {ns : List Split} {place fair : ℕ → ℕ → ℕ} (table : Tabulates Σ ns place fair) where
-  pub whole-lt : wholeSet Σ (2 ^ temporals ns) place (temporals ns) fair < 2 ^ (2 ^ temporals ns + 2 ^ temporals ns)
-  whole-lt = members-lt (2 ^ temporals ns + 2 ^ temporals ns) (wholeSet Σ (2 ^ temporals ns) place (temporals ns) fair) (whole-below table)
+module _ {Σ : Alphabet} {ns : List Split} {profile fair : ℕ → ℕ → ℕ} (table : Tabulates Σ ns profile fair) where
+  pub whole-lt : wholeSet Σ (2 ^ temporals ns) profile (temporals ns) fair < 2 ^ (2 ^ temporals ns + 2 ^ temporals ns)
+  whole-lt = members-lt (2 ^ temporals ns + 2 ^ temporals ns) (wholeSet Σ (2 ^ temporals ns) profile (temporals ns) fair) (whole-below table)

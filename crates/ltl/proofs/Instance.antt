@@ -14,12 +14,12 @@ use Rattle.meaning.specs.RuleFiles.{Rule, formulas, alphabetOf, propertyOf}
 use Rattle.meaning.specs.declared.Node.{Node}
 use Rattle.residuals.specs.System.{System, keyAfter}
 use Rattle.ltl.specs.Nodes.{Split, split, splits, temporals}
-use Rattle.ltl.specs.Valuation.{Valued, valued, placeOf}
+use Rattle.ltl.specs.Valuation.{Valued, valued, profileOf}
 use Rattle.ltl.specs.Keys.{Tables, look, tableOf, tablesOf, startKey, stepKey, emptyKey, fullKey}
 use Rattle.ltl.proofs.Truth.{iff-trans}
 use Rattle.ltl.proofs.Nodes.{split-formulas}
 use Rattle.ltl.proofs.Tables.{Tabulates}
-use Rattle.ltl.proofs.Places.{root}
+use Rattle.ltl.proofs.Profiles.{root}
 use Rattle.ltl.proofs.Residuals.{Means, key-means, same-iff, empty-iff, whole-iff}
 
 look-is : (Σ : Alphabet) (ns : List Split) (n : ℕ) (f : Valued → ℕ) (e y : ℕ) → Event Σ e → y < n → look (tableOf Σ ns n f) e y ≡ f (valued e y ns)
@@ -29,9 +29,9 @@ look-is Σ ns n f e y h l =
 
 -- the tables that are made hold what they must
 pub made-tabulates : (Σ : Alphabet) (ns : List Split)
-    → Tabulates Σ ns (look (tableOf Σ ns (2 ^ temporals ns) placeOf)) (look (tableOf Σ ns (2 ^ temporals ns) (λ v. v .fairs)))
+    → Tabulates Σ ns (look (tableOf Σ ns (2 ^ temporals ns) profileOf)) (look (tableOf Σ ns (2 ^ temporals ns) (λ v. v .fairs)))
 made-tabulates Σ ns = record {
-  place-is = look-is Σ ns (2 ^ temporals ns) placeOf;
+  profile-is = look-is Σ ns (2 ^ temporals ns) profileOf;
   fair-is = look-is Σ ns (2 ^ temporals ns) (λ v. v .fairs);
 }
 

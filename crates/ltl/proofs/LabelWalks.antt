@@ -26,12 +26,12 @@ use Rattle.ltl.proofs.Tables.{Tabulates, before-is, before-lt}
 one-on : (d i j : ℕ) → j ≡ i + suc (suc d) → j ≡ suc i + suc d
 one-on d i j e = omega arith
 
-module _ {Σ : Alphabet} {ns : List Split} {place fair : ℕ → ℕ → ℕ} (table : Tabulates Σ ns place fair) (ρ : Lasso) (c : Continuation Σ ρ) where
+module _ {Σ : Alphabet} {ns : List Split} {profile fair : ℕ → ℕ → ℕ} (table : Tabulates Σ ns profile fair) (ρ : Lasso) (c : Continuation Σ ρ) where
   abbrev label : ℕ → ℕ
   label i = labelOf ρ ns i
 
   abbrev E : ℕ → ℕ → ℕ → Type 0
-  E x e y = Edge Σ (2 ^ temporals ns) (before (2 ^ temporals ns) place) x e y
+  E x e y = Edge Σ (2 ^ temporals ns) (before (2 ^ temporals ns) profile) x e y
 
   edge-at : (i : ℕ) → E (label i) (at ρ i) (label (suc i))
   edge-at i = record {
@@ -90,8 +90,8 @@ module _ {Σ : Alphabet} {ns : List Split} {place fair : ℕ → ℕ → ℕ} (t
       join (close (λ x e y. Unit {0}) i h (record { time = i; after = le-refl i; there = tt }) .walk) (temporals ns)
       (λ j l. close (Fair fair j) i h (fair-at j l i))
 
-  pub label-realizable : (i : ℕ) → T (on (realizable Σ (2 ^ temporals ns) (before (2 ^ temporals ns) place) fair (temporals ns)) (label i))
+  pub label-realizable : (i : ℕ) → T (on (realizable Σ (2 ^ temporals ns) (before (2 ^ temporals ns) profile) fair (temporals ns)) (label i))
   label-realizable i =
-      →realizable Σ (2 ^ temporals ns) (before (2 ^ temporals ns) place) fair (temporals ns) (before-lt table)
+      →realizable Σ (2 ^ temporals ns) (before (2 ^ temporals ns) profile) fair (temporals ns) (before-lt table)
       (label i) (label (i + suc (length (ρ .stem)))) (label-of-lt ρ ns i) (label-of-lt ρ ns (i + suc (length (ρ .stem))))
       (round (i + suc (length (ρ .stem))) (omega arith)) (inr (along (length (ρ .stem)) i (i + suc (length (ρ .stem))) refl))

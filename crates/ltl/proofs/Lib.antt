@@ -16,7 +16,7 @@ pub mod Tables
 pub mod Lassos
 pub mod LabelWalks
 pub mod Realized
-pub mod Places
+pub mod Profiles
 pub mod Residuals
 pub mod SameTables
 pub mod Bounds

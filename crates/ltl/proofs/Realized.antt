@@ -26,32 +26,32 @@ pub record Realized (Σ : Alphabet) (ns : List Split) (x : ℕ) : Type 0 where
   pub continuation : Continuation Σ lasso
   pub is : labelOf lasso ns 0 ≡ x
 
-module _ {Σ : Alphabet} {ns : List Split} {place fair : ℕ → ℕ → ℕ} (table : Tabulates Σ ns place fair) where
+module _ {Σ : Alphabet} {ns : List Split} {profile fair : ℕ → ℕ → ℕ} (table : Tabulates Σ ns profile fair) where
   abbrev E : ℕ → ℕ → ℕ → Type 0
-  E x e y = Edge Σ (2 ^ temporals ns) (before (2 ^ temporals ns) place) x e y
+  E x e y = Edge Σ (2 ^ temporals ns) (before (2 ^ temporals ns) profile) x e y
 
   module _ {c x : ℕ} (r : Round E (Fair fair) (temporals ns) c) (w : Walk E x c) where
     abbrev lassoOf : Lasso
     lassoOf = record { stem = events w; loop = events (r .walk); nonEmpty = events-pos (r .walk) }
 
     abbrev state : ℕ → State E c
-    state i = after (r .walk) (record { place = x; rest = w }) i
+    state i = after (r .walk) (record { label = x; rest = w }) i
 
     abbrev label-at : ℕ → ℕ
-    label-at i = state i .place
+    label-at i = state i .label
 
     abbrev event-at : ℕ → ℕ
     event-at i = event (r .walk) (state i .rest)
 
     edge-at : (i : ℕ) → E (label-at i) (event-at i) (label-at (suc i))
-    edge-at i = after-edge (r .walk) (record { place = x; rest = w }) i
+    edge-at i = after-edge (r .walk) (record { label = x; rest = w }) i
 
     consistent : (i : ℕ) → valued (event-at i) (label-at (suc i)) ns .label ≡ label-at i
     consistent i = sym (before-is table (event-at i) (label-at (suc i)) (edge-at i .event) (edge-at i .to)) ∙ edge-at i .is
 
     fair-later : (q : ℕ) → q < temporals ns → (i : ℕ) → Later (λ n. T (on (valued (event-at n) (label-at (suc n)) ns .fairs) q)) i
     fair-later q h i =
-        let l = again (r .walk) (Fair fair q) (r .has q h) (record { place = x; rest = w }) i in
+        let l = again (r .walk) (Fair fair q) (r .has q h) (record { label = x; rest = w }) i in
         record { time = l .time; after = l .after; there = rw (table .fair-is (event-at (l .time)) (label-at (suc (l .time))) (edge-at (l .time) .event) (edge-at (l .time) .to)) at (l .there) }
 
     label-right : LabelRight (at lassoOf) 0 [] 0 x ns
@@ -68,7 +68,7 @@ module _ {Σ : Alphabet} {ns : List Split} {place fair : ℕ → ℕ → ℕ} (t
   realized-way {c} r (inl e) h = realized-walk r (subst (λ (n : ℕ). Walk E n c) (sym e) (r .walk)) h
   realized-way r (inr w) h = realized-walk r w h
 
-  pub realized : (x : ℕ) → T (on (realizable Σ (2 ^ temporals ns) (before (2 ^ temporals ns) place) fair (temporals ns)) x) → Realized Σ ns x
+  pub realized : (x : ℕ) → T (on (realizable Σ (2 ^ temporals ns) (before (2 ^ temporals ns) profile) fair (temporals ns)) x) → Realized Σ ns x
   realized x t =
-      let p = realizable→ Σ (2 ^ temporals ns) (before (2 ^ temporals ns) place) fair (temporals ns) (before-lt table) x t in
+      let p = realizable→ Σ (2 ^ temporals ns) (before (2 ^ temporals ns) profile) fair (temporals ns) (before-lt table) x t in
       realized-way (p .1 .round) (p .1 .way) (p .0)

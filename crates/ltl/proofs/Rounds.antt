@@ -13,8 +13,8 @@ use Rattle.ltl.proofs.Walks.{Walk, one, step, events, Has}
 
 -- where we stand, and the walk ahead to c
 pub record State (E : ℕ → ℕ → ℕ → Type 0) (c : ℕ) : Type 0 where
-  pub place : ℕ
-  pub rest : Walk E place c
+  pub label : ℕ
+  pub rest : Walk E label c
 
 module _ {E : ℕ → ℕ → ℕ → Type 0} {c : ℕ} (round : Walk E c c) where
   abbrev pub event : {x : ℕ} → Walk E x c → ℕ
@@ -22,10 +22,10 @@ module _ {E : ℕ → ℕ → ℕ → Type 0} {c : ℕ} (round : Walk E c c) whe
   event (step {e = e} s w) = e
 
   abbrev pub ahead : {x : ℕ} → Walk E x c → State E c
-  ahead (one s) = record { place = c; rest = round }
-  ahead (step {y = y} s w) = record { place = y; rest = w }
+  ahead (one s) = record { label = c; rest = round }
+  ahead (step {y = y} s w) = record { label = y; rest = w }
 
-  pub edge : {x : ℕ} (w : Walk E x c) → E x (event w) (ahead w .place)
+  pub edge : {x : ℕ} (w : Walk E x c) → E x (event w) (ahead w .label)
   edge (one s) = s
   edge (step s w) = s
 
@@ -41,24 +41,24 @@ module _ {E : ℕ → ℕ → ℕ → Type 0} {c : ℕ} (round : Walk E c c) whe
   after-add s zero k = rw zero-add
   after-add s (suc i) k = rw suc-add (after-add (ahead (s .rest)) i k)
 
-  pub after-edge : (s : State E c) (i : ℕ) → E (after s i .place) (event (after s i .rest)) (after s (suc i) .place)
-  after-edge s i = subst (λ (t : State E c). E (after s i .place) (event (after s i .rest)) (t .place)) (after-suc s i) (edge (after s i .rest))
+  pub after-edge : (s : State E c) (i : ℕ) → E (after s i .label) (event (after s i .rest)) (after s (suc i) .label)
+  after-edge s i = subst (λ (t : State E c). E (after s i .label) (event (after s i .rest)) (t .label)) (after-suc s i) (edge (after s i .rest))
 
   -- F holds of the edge that is taken at s
   abbrev pub Now : (F : ℕ → ℕ → ℕ → Type 0) → State E c → Type 0
-  Now F s = F (s .place) (event (s .rest)) (ahead (s .rest) .place)
+  Now F s = F (s .label) (event (s .rest)) (ahead (s .rest) .label)
 
   module _ (F : ℕ → ℕ → ℕ → Type 0) where
-    has-soon : {x : ℕ} (w : Walk E x c) → Has F w → (k : ℕ) × Now F (after (record { place = x; rest = w }) k)
+    has-soon : {x : ℕ} (w : Walk E x c) → Has F w → (k : ℕ) × Now F (after (record { label = x; rest = w }) k)
     has-soon (one s) h = (0, h)
     has-soon (step s w) (inl h) = (0, h)
     has-soon (step s w) (inr h) = let r = has-soon w h in (suc (r .0), r .1)
 
-    soon : Has F round → {x : ℕ} (w : Walk E x c) → (k : ℕ) × Now F (after (record { place = x; rest = w }) k)
+    soon : Has F round → {x : ℕ} (w : Walk E x c) → (k : ℕ) × Now F (after (record { label = x; rest = w }) k)
     soon h (one s) = let r = has-soon round h in (suc (r .0), r .1)
     soon h (step s w) = let r = soon h w in (suc (r .0), r .1)
 
-    pub again : Has F round → (s : State E c) (i : ℕ) → Later (λ k. F (after s k .place) (event (after s k .rest)) (after s (suc k) .place)) i
+    pub again : Has F round → (s : State E c) (i : ℕ) → Later (λ k. F (after s k .label) (event (after s k .rest)) (after s (suc k) .label)) i
     again h s i =
         let r = soon h (after s i .rest) in
         record {
@@ -66,7 +66,7 @@ module _ {E : ℕ → ℕ → ℕ → Type 0} {c : ℕ} (round : Walk E c c) whe
           after = omega arith;
           there =
               let x : Now F (after s (i + r .0)) = rw after-add (r .1) in
-              subst (λ (t : State E c). F (after s (i + r .0) .place) (event (after s (i + r .0) .rest)) (t .place)) (after-suc s (i + r .0)) x;
+              subst (λ (t : State E c). F (after s (i + r .0) .label) (event (after s (i + r .0) .rest)) (t .label)) (after-suc s (i + r .0)) x;
         }
 
 -- ---- the events are a lasso's
@@ -91,7 +91,7 @@ turn-loop l i = go (decLt i (length l))
         ap (λ (n : ℕ). getD l n 0) (mod-eq-sub-mod g) ∙ sym (turn-past l l (i - length l)) ∙ ap (turn l l) e
 
 module _ {E : ℕ → ℕ → ℕ → Type 0} {c : ℕ} (round : Walk E c c) where
-  pub word : {x : ℕ} (w : Walk E x c) (i : ℕ) → event round (after round (record { place = x; rest = w }) i .rest) ≡ turn (events w) (events round) i
+  pub word : {x : ℕ} (w : Walk E x c) (i : ℕ) → event round (after round (record { label = x; rest = w }) i .rest) ≡ turn (events w) (events round) i
   word (one s) zero = refl
   word (step s w) zero = refl
   word (one s) (suc i) = word round i ∙ sym (turn-loop (events round) i)

@@ -13,21 +13,21 @@ use Rattle.ltl.specs.Residuals.{preimage, stepFrom, wholeSet}
 use Rattle.ltl.proofs.Sets.{same-members, set-same}
 use Rattle.ltl.proofs.Truth.{t-equal}
 use Rattle.ltl.proofs.Tables.{Tabulates}
-use Rattle.ltl.proofs.Places.{whole-complete, whole-sound}
+use Rattle.ltl.proofs.Profiles.{whole-complete, whole-sound}
 
-module _ {Σ : Alphabet} {ns : List Split} {place fair place′ fair′ : ℕ → ℕ → ℕ} (t : Tabulates Σ ns place fair) (t′ : Tabulates Σ ns place′ fair′) where
+module _ {Σ : Alphabet} {ns : List Split} {profile fair profile′ fair′ : ℕ → ℕ → ℕ} (t : Tabulates Σ ns profile fair) (t′ : Tabulates Σ ns profile′ fair′) where
   abbrev n : ℕ
   n = 2 ^ temporals ns
 
-  pub same-whole : wholeSet Σ n place (temporals ns) fair ≡ wholeSet Σ n place′ (temporals ns) fair′
+  pub same-whole : wholeSet Σ n profile (temporals ns) fair ≡ wholeSet Σ n profile′ (temporals ns) fair′
   same-whole =
-      same-members (wholeSet Σ n place (temporals ns) fair) (wholeSet Σ n place′ (temporals ns) fair′)
-      (λ p. t-equal (on (wholeSet Σ n place (temporals ns) fair) p) (on (wholeSet Σ n place′ (temporals ns) fair′) p)
-      (λ h. let r = whole-sound t p h in subst (λ (q : ℕ). T (on (wholeSet Σ n place′ (temporals ns) fair′) q)) (r .is) (whole-complete t′ (r .lasso) (r .continuation)))
-      (λ h. let r = whole-sound t′ p h in subst (λ (q : ℕ). T (on (wholeSet Σ n place (temporals ns) fair) q)) (r .is) (whole-complete t (r .lasso) (r .continuation))))
+      same-members (wholeSet Σ n profile (temporals ns) fair) (wholeSet Σ n profile′ (temporals ns) fair′)
+      (λ p. t-equal (on (wholeSet Σ n profile (temporals ns) fair) p) (on (wholeSet Σ n profile′ (temporals ns) fair′) p)
+      (λ h. let r = whole-sound t p h in subst (λ (q : ℕ). T (on (wholeSet Σ n profile′ (temporals ns) fair′) q)) (r .is) (whole-complete t′ (r .lasso) (r .continuation)))
+      (λ h. let r = whole-sound t′ p h in subst (λ (q : ℕ). T (on (wholeSet Σ n profile (temporals ns) fair) q)) (r .is) (whole-complete t (r .lasso) (r .continuation))))
 
-  pub same-step : (whole A e : ℕ) → Event Σ e → stepFrom n place whole A e ≡ stepFrom n place′ whole A e
+  pub same-step : (whole A e : ℕ) → Event Σ e → stepFrom n profile whole A e ≡ stepFrom n profile′ whole A e
   same-step whole A e h =
-      set-same (n + n) (preimage n place whole A e) (preimage n place′ whole A e)
+      set-same (n + n) (preimage n profile whole A e) (preimage n profile′ whole A e)
       (λ p l. ap (λ (q : ℕ). elim (on whole p) [ true ↦ on A q | false ↦ false ])
-      (t .place-is e (p % n) h (mod-lt p (pow-pos (temporals ns))) ∙ sym (t′ .place-is e (p % n) h (mod-lt p (pow-pos (temporals ns))))))
+      (t .profile-is e (p % n) h (mod-lt p (pow-pos (temporals ns))) ∙ sym (t′ .profile-is e (p % n) h (mod-lt p (pow-pos (temporals ns))))))

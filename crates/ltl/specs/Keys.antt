@@ -1,4 +1,4 @@
--- The residual system of a list of nodes, computed: tables made once, and the key after each event, a set of places.
+-- The residual system of a list of nodes, computed: tables made once, and the key after each event, a set of profiles.
 use mathlib.Core.Bool.{Bool}
 use mathlib.Core.List.{List, []}
 use Prim.Native.Nat.{ℕ, _^_}
@@ -7,13 +7,13 @@ use lib.Dec.{eqb}
 use Rattle.sequences.specs.Tabulate.{tabulate}
 use Rattle.meaning.specs.Traces.{Alphabet}
 use Rattle.ltl.specs.Nodes.{Split, temporals}
-use Rattle.ltl.specs.Valuation.{Valued, valued, placeOf}
+use Rattle.ltl.specs.Valuation.{Valued, valued, profileOf}
 use Rattle.ltl.specs.Residuals.{startFrom, stepFrom, wholeSet}
 
--- how many labels there are, the place by event and next label, and the places of all continuations
+-- how many labels there are, the profile by event and next label, and the profiles of all continuations
 pub record Tables : Type 0 where
   pub labels : ℕ
-  pub places : List (List ℕ)
+  pub profiles : List (List ℕ)
   pub whole : ℕ
 
 -- the entry by event and next label
@@ -26,11 +26,11 @@ tableOf Σ ns n f = tabulate (Σ .width) (λ e. tabulate n (λ y. f (valued e y 
 
 -- m temporal nodes, n labels
 abbrev pub tablesFrom : Alphabet → ℕ → ℕ → List (List ℕ) → List (List ℕ) → Tables
-tablesFrom Σ m n places fairs = record { labels = n; places = places; whole = wholeSet Σ n (look places) m (look fairs) }
+tablesFrom Σ m n profiles fairs = record { labels = n; profiles = profiles; whole = wholeSet Σ n (look profiles) m (look fairs) }
 
 unfoldable pub tablesOf : Alphabet → List Split → Tables
 tablesOf Σ ns =
-    tablesFrom Σ (temporals ns) (2 ^ temporals ns) (tableOf Σ ns (2 ^ temporals ns) placeOf) (tableOf Σ ns (2 ^ temporals ns) (λ v. v .fairs))
+    tablesFrom Σ (temporals ns) (2 ^ temporals ns) (tableOf Σ ns (2 ^ temporals ns) profileOf) (tableOf Σ ns (2 ^ temporals ns) (λ v. v .fairs))
 
 -- before any event
 abbrev pub startKey : Tables → ℕ
@@ -38,7 +38,7 @@ startKey t = startFrom (t .labels) (t .whole)
 
 -- after one event more
 abbrev pub stepKey : Tables → ℕ → ℕ → ℕ
-stepKey t A e = stepFrom (t .labels) (look (t .places)) (t .whole) A e
+stepKey t A e = stepFrom (t .labels) (look (t .profiles)) (t .whole) A e
 
 -- no continuation satisfies the rule; every one does
 abbrev pub emptyKey : ℕ → Bool

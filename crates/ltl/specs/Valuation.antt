@@ -78,5 +78,5 @@ abbrev pub valued : ℕ → ℕ → List Split → Valued
 valued e y ns = valueAll e y none ns
 
 -- the label with one more bit on top, the value of the last node: the rule itself
-abbrev pub placeOf : Valued → ℕ
-placeOf s = put (s .temporals) (on (s .values) (s .count - 1)) (s .label)
+abbrev pub profileOf : Valued → ℕ
+profileOf s = put (s .temporals) (on (s .values) (s .count - 1)) (s .label)

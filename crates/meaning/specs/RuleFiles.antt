@@ -13,8 +13,8 @@ use Rattle.meaning.specs.declared.Node.{Node}
 use Rattle.meaning.specs.declared.Header.{Header}
 use Rattle.meaning.specs.declared.Refusal.{Refusal}
 use Rattle.meaning.specs.declared.Refusal.the-variants.{Truncated, WrongLength, WrongKind, WrongSignals, WrongCount, WrongOperand, OutOfRange, EighthTemporal, TrailingBytes}
-use Rattle.meaning.specs.declared.Opening.{Opening}
-use Rattle.meaning.specs.declared.Opening.the-variants as Opening
+use Rattle.meaning.specs.declared.HeaderReading.{HeaderReading}
+use Rattle.meaning.specs.declared.HeaderReading.the-variants as HeaderReading
 use Rattle.meaning.specs.declared.Reading.{Reading}
 use Rattle.meaning.specs.declared.Reading.the-variants as Reading
 
@@ -90,14 +90,14 @@ frameChecks b p kindFits body =
     ∷ []
 
 -- "The first record has kind 256 and body P, N": "P not 1 to 4", "N not 1 to 64"
-unfoldable pub headerOf : List ℕ → Opening
+unfoldable pub headerOf : List ℕ → HeaderReading
 headerOf b =
-    firstOf Opening.Refused
+    firstOf HeaderReading.Refused
     (frameChecks b 0 (eqb (u16At b 2) 256) 2
     ++ ((not (leb 1 (getD b 4 0) && leb (getD b 4 0) 4), WrongSignals)
     ∷ (not (leb 1 (getD b 5 0) && leb (getD b 5 0) 64), WrongCount)
     ∷ []))
-    (Opening.Header (record { signals = getD b 4 0; nodes = getD b 5 0 }))
+    (HeaderReading.Header (record { signals = getD b 4 0; nodes = getD b 5 0 }))
 
 -- the node whose record is at p: its kind, and the bytes of its body
 abbrev pub nodeAt : List ℕ → ℕ → Node
@@ -142,6 +142,6 @@ nodesFrom (suc k) b P p earlier =
 unfoldable pub judge : List ℕ → Judgement
 judge b =
     elim (headerOf b) [
-      | Opening.Header h ↦ nodesFrom (h .nodes) b (h .signals) 6 []
-      | Opening.Refused r ↦ Refused r
+      | HeaderReading.Header h ↦ nodesFrom (h .nodes) b (h .signals) 6 []
+      | HeaderReading.Refused r ↦ Refused r
     ]

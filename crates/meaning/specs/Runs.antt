@@ -1,19 +1,22 @@
 -- "Opening and running".
-use mathlib.Core.List.{List, [], _∷_}
-use mathlib.Core.Bool.{Bool, true, false, cond}
+use mathlib.Core.List.{List, [], _∷_, _++_}
+use mathlib.Core.Bool.{Bool, true, false, cond, _&&_}
 use Prim.Native.Nat.{ℕ, suc, _^_}
-use lib.ListN.{length, getD}
-use lib.Dec.{ltb, leb}
-use Rattle.sequences.specs.Tabulate.{leastBelow}
+use lib.ListN.{length, getD, drop, replicate}
+use lib.Dec.{ltb, leb, eqb}
+use Rattle.sequences.specs.Tabulate.{every, allBelow, leastBelow, tabulate}
 use Rattle.meaning.specs.Monitors.{Monitor, follow}
-use Rattle.meaning.specs.TableFiles.{isTable, signalsIn, statesIn, monitorOf}
+use Rattle.meaning.specs.TableFiles.{isTable, signalsIn, statesIn, verdictByte, successor, tableLength, verdictOf, monitorIn, monitorOf}
 use Rattle.meaning.specs.declared.Verdict.{Verdict}
 use Rattle.meaning.specs.declared.Verdict.the-variants.{Undecided, Satisfied, Violated, Moot}
+use Rattle.meaning.specs.declared.Refusal.{Refusal}
 use Rattle.meaning.specs.declared.Refusal.the-variants.{WrongEvent, WrongState, WrongTable}
 use Rattle.meaning.specs.declared.Decided.{Decided}
 use Rattle.meaning.specs.declared.Decided.the-variants.{After, Never}
 use Rattle.meaning.specs.declared.Ran.{Ran}
 use Rattle.meaning.specs.declared.Ran.the-variants as Ran
+use Rattle.meaning.specs.declared.StateRow.{StateRow}
+use Rattle.meaning.specs.declared.Shown.the-variants as Shown
 
 -- a verdict other than undecided
 abbrev pub decides : Verdict → Bool
@@ -45,3 +48,44 @@ ranOf m P s es =
 -- "A run takes an opened table, a state and a list of events."
 abbrev pub runOf : List ℕ → ℕ → List ℕ → Ran
 runOf t s es = cond (isTable t) (ranOf (monitorOf t) (signalsIn t) s es) (Ran.Refused WrongTable)
+
+-- ---- from bytes and counts in hand, as a step takes them: whatever they are, no answer but a refusal leaves the table
+
+-- P and S are those of a table, and the bytes have that table's length
+abbrev pub countsFit : List ℕ → ℕ → ℕ → Bool
+countsFit t P S = every (leb 1 P ∷ leb P 4 ∷ leb 1 S ∷ leb S 256 ∷ eqb (length t) (tableLength P S) ∷ [])
+
+-- s is one of the S states, and its verdict byte one of the four
+abbrev pub inTable : List ℕ → ℕ → ℕ → ℕ → Bool
+inTable t P S s = ltb s S && leb (verdictByte t P s) 3
+
+-- and so is each state on the way from s over the events
+unfoldable pub onTable : List ℕ → ℕ → ℕ → ℕ → List ℕ → Bool
+onTable t P S s [] = inTable t P S s
+onTable t P S s (e ∷ es) = inTable t P S s && onTable t P S (successor t P s e) es
+
+-- an answer stands where the test holds, and a refusal always; otherwise 14
+abbrev pub tested : Bool → Ran → Ran
+tested ok (Ran.Ended s v d) = cond ok (Ran.Ended s v d) (Ran.Refused WrongTable)
+tested ok (Ran.Refused x) = Ran.Refused x
+
+-- the run over the bytes t as a table of S states over P signals: 14 for counts and length, 13, 12, and 14 where the way leaves the table
+abbrev pub ranIn : List ℕ → ℕ → ℕ → ℕ → List ℕ → Ran
+ranIn t P S s es = cond (countsFit t P S) (tested (onTable t P S s es) (ranOf (monitorIn t P S) P s es)) (Ran.Refused WrongTable)
+
+-- a row that is refused
+abbrev pub noRow : Refusal → StateRow
+noRow x = record { shown = Shown.Refused x; successors = replicate 16 0 }
+
+-- the row of state s: its verdict, and its successor for each event
+abbrev pub rowOf : List ℕ → ℕ → ℕ → StateRow
+rowOf t P s = record { shown = Shown.Verdict (verdictOf (verdictByte t P s)); successors = tabulate (2 ^ P) (successor t P s) ++ drop (2 ^ P) (replicate 16 0) }
+
+-- reading a row: 14 for counts and length, 13, and 14 where the row is none of a table
+abbrev pub rowIn : List ℕ → ℕ → ℕ → ℕ → StateRow
+rowIn t P S s =
+    cond (countsFit t P S)
+    (cond (ltb s S)
+    (cond (leb (verdictByte t P s) 3 && allBelow (2 ^ P) (λ e. ltb (successor t P s e) S)) (rowOf t P s) (noRow WrongTable))
+    (noRow WrongState))
+    (noRow WrongTable)

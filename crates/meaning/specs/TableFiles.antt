@@ -72,6 +72,13 @@ checkedOf t = cond (isTable t) (Checked.Table (signalsIn t) (statesIn t)) (Check
 abbrev pub verdictOf : ℕ → Verdict
 verdictOf v = getD (Undecided ∷ Satisfied ∷ Violated ∷ Moot ∷ []) v Undecided
 
+-- the byte of a verdict
+abbrev pub verdictNumber : Verdict → ℕ
+verdictNumber Undecided = 0
+verdictNumber Satisfied = 1
+verdictNumber Violated = 2
+verdictNumber Moot = 3
+
 -- the monitor in the bytes, over P signals and with S states
 abbrev pub monitorIn : List ℕ → ℕ → ℕ → Monitor
 monitorIn t P S = record { states = S; start = 0; verdict = λ s. verdictOf (verdictByte t P s); next = λ s e. successor t P s e }

@@ -10,9 +10,13 @@ pub record Alphabet : Type 0 where
   pub width : ℕ
   pub possible : ℕ → Bool
 
+-- every event below w can happen
+abbrev pub firstEvents : ℕ → Alphabet
+firstEvents w = record { width = w; possible = λ _. true }
+
 -- all events over P signals
 abbrev pub over : ℕ → Alphabet
-over P = record { width = 2 ^ P; possible = λ _. true }
+over P = firstEvents (2 ^ P)
 
 -- e can happen
 abbrev pub Event : Alphabet → ℕ → Type 0

@@ -86,7 +86,7 @@ pub struct Header {
 }
 
 // The reading of the first record.
-pub enum Opening {
+pub enum HeaderReading {
     Header(Header),
     Refused(Refusal),
 }
@@ -123,4 +123,16 @@ pub enum Ran {
         decided: Decided,
     },
     Refused(Refusal),
+}
+
+// What a state of a table shows.
+pub enum Shown {
+    Verdict(Verdict),
+    Refused(Refusal),
+}
+
+// A row of a table: what its state shows, and its successors for event 0 upward. Past the last event, and on a refusal, they are 0.
+pub struct StateRow {
+    pub shown: Shown,
+    pub successors: [u16; 16],
 }

@@ -95,14 +95,14 @@ module _ (r : Rule) (s : Signals (r .signals)) {rows₀ rows : List (List ℕ)} 
           record { answer = ap (λ (x : Outcome). answerTo x before) (sym e); output = ap (λ (x : Outcome). outputOf x before) (sym e) }
 
 -- the answer of the walk over the arrays, as one over the rule's keys
-pub walks : (r : Rule) (labels m : ℕ) (places : List (List ℕ)) (whole : List Bool) (w w′ : Walked) (rows₀ rows : List (List ℕ)) (classes₀ classes : List ℕ)
-    → TablesIn (2 ^ r .signals) (2 ^ m) (tablesFor r) places whole → labels ≡ 2 ^ m → w ≡ w′
-    → Explores (r .signals) (tablesIn labels places whole) w rows₀ rows classes₀ classes → Walks r w′ rows₀ rows classes₀ classes
-walks r labels m places whole w w′ rows₀ rows classes₀ classes T l e E =
+pub walks : (r : Rule) (labels m : ℕ) (profiles : List (List ℕ)) (whole : List Bool) (w w′ : Walked) (rows₀ rows : List (List ℕ)) (classes₀ classes : List ℕ)
+    → TablesIn (2 ^ r .signals) (2 ^ m) (tablesFor r) profiles whole → labels ≡ 2 ^ m → w ≡ w′
+    → Explores (r .signals) (tablesIn labels profiles whole) w rows₀ rows classes₀ classes → Walks r w′ rows₀ rows classes₀ classes
+walks r labels m profiles whole w w′ rows₀ rows classes₀ classes T l e E =
     subst (λ (x : Walked). Walks r x rows₀ rows classes₀ classes) e
     (record {
       is = explored-same (r .signals) T w rows₀ rows classes₀ classes
-          (subst (λ (n : ℕ). Explores (r .signals) (tablesIn n places whole) w rows₀ rows classes₀ classes) l E);
+          (subst (λ (n : ℕ). Explores (r .signals) (tablesIn n profiles whole) w rows₀ rows classes₀ classes) l E);
     })
 
 -- what the tables ask of the nodes
@@ -110,5 +110,5 @@ pub valuable : (P count : ℕ) (nodes : List Node) → Formed (ruleIn P count no
 valuable P count nodes f l =
     record { some = omega (arith, f .some, length-take count nodes); few = l; temporal = omega (arith, split-temporals (take count nodes), f .temporal) }
 
-pub tabled-at : {P m labels : ℕ} {t : Tables} {places : List (List ℕ)} {whole : List Bool} → TablesIn P m t places whole → labels ≡ m → Tabled P labels places whole
-tabled-at {P} {m} {labels} {t} {places} {whole} T e = subst (λ (n : ℕ). Tabled P n places whole) (sym e) (tabled T)
+pub tabled-at : {P m labels : ℕ} {t : Tables} {profiles : List (List ℕ)} {whole : List Bool} → TablesIn P m t profiles whole → labels ≡ m → Tabled P labels profiles whole
+tabled-at {P} {m} {labels} {t} {profiles} {whole} T e = subst (λ (n : ℕ). Tabled P n profiles whole) (sym e) (tabled T)

@@ -47,7 +47,7 @@ fn finish(
     table_writer::write(table, signals, groups, &verdicts, &to)
 }
 
-fn no_places() -> [[u8; 128]; 16]
+fn no_profiles() -> [[u8; 128]; 16]
     ensures { λ r. ⌜ length {A = List ℕ} r ≡ 16 ⌝ }
 {
     [[0; 128]; 16]
@@ -65,13 +65,13 @@ fn construct(signals: u8, count: u8, nodes: [Node; 64], table: &mut [u8]) -> Bui
     ensures { λ r. ⌜ r ≡ answerOf (Accepted (ruleIn signals count nodes)) (now (table .entry)) ⌝ }
     ensures { λ _. ⌜ now (table .exit) ≡ outputAfter (Accepted (ruleIn signals count nodes)) (now (table .entry)) ⌝ }
 {
-    let mut places = no_places();
+    let mut profiles = no_profiles();
     let mut whole = nowhere();
-    let m = labelling::tables(signals, count, nodes, &mut places, &mut whole);
-    let labels = labelling::power(m);
+    let m = labelling::tables(signals, count, nodes, &mut profiles, &mut whole);
+    let labels = events::power(m);
     let mut rows = no_rows();
     let mut classes = zeros();
-    let walked = exploration::explore(signals, labels, &places, &whole, &mut rows, &mut classes);
+    let walked = exploration::explore(signals, labels, &profiles, &whole, &mut rows, &mut classes);
     let Walked::Closed(states) = walked else {
         return Built::Refused(Refusal::TooManyResiduals);
     };

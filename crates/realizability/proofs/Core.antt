@@ -21,12 +21,12 @@ module _ (r : ℕ → ℕ → Bool) where
   pub no-core : (core : ℕ → Bool) (x c : ℕ) → core c ≡ false → false ≡ toCoreBy r core x c
   no-core core x c e = sym (ap (λ (b : Bool). elim b [ true ↦ leadsBy r x c | false ↦ false ]) e)
 
-  module _ (parts sets : List ℕ) (m c : ℕ) where
+  module _ (components sets : List ℕ) (m c : ℕ) where
     abbrev core-by : Bool → Bool
-    core-by b = elim b [ true ↦ allOf m (getD sets (getD parts c 0) 0) | false ↦ false ]
+    core-by b = elim b [ true ↦ allOf m (getD sets (getD components c 0) 0) | false ↦ false ]
 
-    pub core-round : r c c ≡ true → allOf m (getD sets (getD parts c 0) 0) ≡ coreIn m r parts sets c
+    pub core-round : r c c ≡ true → allOf m (getD sets (getD components c 0) 0) ≡ coreIn m r components sets c
     core-round e = sym (ap core-by e)
 
-    pub core-not : r c c ≡ false → false ≡ coreIn m r parts sets c
+    pub core-not : r c c ≡ false → false ≡ coreIn m r components sets c
     core-not e = sym (ap core-by e)

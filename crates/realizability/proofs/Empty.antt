@@ -11,7 +11,7 @@ use borrow.Author.Tests.{eq-eqb, eqb-true}
 use Rattle.ltl.specs.Sets.{on, someBelow}
 use Rattle.ltl.proofs.Sets.{on-zero}
 use Rattle.sequences.proofs.Loops.{missed-end}
-use Rattle.realizability.specs.Relations.{entry, Matrix, EmptyRow, through, leadsBy, partBy, toCoreBy, realizableBy}
+use Rattle.realizability.specs.Relations.{entry, Matrix, EmptyRow, through, leadsBy, componentBy, toCoreBy, realizableBy}
 
 module _ (m : List ℕ) (x : ℕ) (low : getD m (2 * x) 0 ≡ 0) (high : getD m (2 * x + 1) 0 ≡ 0) where
   pub empty : (y : ℕ) → y < 128 → entry m x y ≡ false
@@ -37,9 +37,9 @@ module _ {m : List ℕ} {x : ℕ} {answer : Bool} (h : EmptyRow x m answer) (is 
       pass true k r e = ap (λ (b : Bool). b || r) e
       pass false k r e = refl
 
-  -- it is its own part
-  pub part-alone : x ≤ 128 → x ≡ partBy (entry m) x
-  part-alone few = sym (missed-end (record { none = λ v l. both-no (entry m v x) (entry m x v) (h .none is v (omega (arith, l, few))) }) x refl)
+  -- it is its own component
+  pub component-alone : x ≤ 128 → x ≡ componentBy (entry m) x
+  component-alone few = sym (missed-end (record { none = λ v l. both-no (entry m v x) (entry m x v) (h .none is v (omega (arith, l, few))) }) x refl)
 
   -- it leads to the core where it is there
   module _ (core : ℕ → Bool) where

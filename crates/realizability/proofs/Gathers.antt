@@ -1,4 +1,4 @@
--- Loops that gather sets by the part of a label.
+-- Loops that gather sets by the component of a label.
 use mathlib.Core.Path.{_≡_, refl, sym, ap, _∙_, subst}
 use mathlib.Core.Bool.{Bool, true, false, _||_}
 use mathlib.Core.List.{List}
@@ -13,7 +13,7 @@ use lib.Dec.{eqb}
 use borrow.Author.Tests.{eq-eqb, ne-eqb}
 use Rattle.ltl.specs.Sets.{on, unionBelow}
 use Rattle.ltl.proofs.Sets.{same-members}
-use Rattle.realizability.specs.Relations.{onlyIf, withinPart, Gathered, AllGathered}
+use Rattle.realizability.specs.Relations.{onlyIf, withinComponent, Gathered, AllGathered}
 use Rattle.realizability.proofs.Words.{on-or}
 
 or-assoc : (a b c : ℕ) → bitOr a (bitOr b c) ≡ bitOr (bitOr a b) c
@@ -32,19 +32,19 @@ or-assoc a b c =
 pub gathered-none : {n : ℕ} {f : ℕ → ℕ → ℕ} {old : List ℕ} → length old ≡ 128 → Gathered 0 n f old old
 gathered-none {old = old} l = record { long = l; is = λ p h. sym (or-zero-l (getD old p 0)) }
 
-module _ (parts : List ℕ) (before fair : ℕ → ℕ → ℕ) (e : ℕ) {j n : ℕ} {old m : List ℕ} (h : Gathered j n (withinPart parts before fair e) old m) (few : n ≤ 128) where
-  module _ (p add : ℕ) (part : p ≡ getD parts j 0) (l : p < n) (adds : add ≡ onlyIf (eqb (getD parts (before e j) 0) p) (fair e j)) where
+module _ (components : List ℕ) (before fair : ℕ → ℕ → ℕ) (e : ℕ) {j n : ℕ} {old m : List ℕ} (h : Gathered j n (withinComponent components before fair e) old m) (few : n ≤ 128) where
+  module _ (p add : ℕ) (component : p ≡ getD components j 0) (l : p < n) (adds : add ≡ onlyIf (eqb (getD components (before e j) 0) p) (fair e j)) where
     abbrev f : ℕ → ℕ → ℕ
-    f = withinPart parts before fair e
+    f = withinComponent components before fair e
 
     abbrev new : List ℕ
     new = set m p (bitOr add (getD m p 0))
 
     adds-here : add ≡ f p j
-    adds-here = adds ∙ sym (ap (λ (t : Bool). elim t [ true ↦ onlyIf (eqb (getD parts (before e j) 0) p) (fair e j) | false ↦ 0 ]) (eq-eqb (getD parts j 0) p (sym part)))
+    adds-here = adds ∙ sym (ap (λ (t : Bool). elim t [ true ↦ onlyIf (eqb (getD components (before e j) 0) p) (fair e j) | false ↦ 0 ]) (eq-eqb (getD components j 0) p (sym component)))
 
     adds-not : (q : ℕ) → (q ≡ p → ⊥) → f q j ≡ 0
-    adds-not q n = ap (λ (t : Bool). elim t [ true ↦ onlyIf (eqb (getD parts (before e j) 0) q) (fair e j) | false ↦ 0 ]) (ne-eqb (getD parts j 0) q (λ g. n (sym g ∙ sym part)))
+    adds-not q n = ap (λ (t : Bool). elim t [ true ↦ onlyIf (eqb (getD components (before e j) 0) q) (fair e j) | false ↦ 0 ]) (ne-eqb (getD components j 0) q (λ g. n (sym g ∙ sym component)))
 
     here : getD new p 0 ≡ bitOr (bitOr (f p j) (unionBelow j (f p))) (getD old p 0)
     here =
@@ -58,7 +58,7 @@ module _ (parts : List ℕ) (before fair : ℕ → ℕ → ℕ) (e : ℕ) {j n :
         ∙ sym (ap (λ (A : ℕ). bitOr (bitOr A (unionBelow j (f q))) (getD old q 0)) (adds-not q d)
         ∙ ap (λ (A : ℕ). bitOr A (getD old q 0)) (or-zero-l (unionBelow j (f q))))
 
-    pub gathered-more : Gathered (j + 1) n (withinPart parts before fair e) old new
+    pub gathered-more : Gathered (j + 1) n (withinComponent components before fair e) old new
     gathered-more = record {
       long = length-set m p (bitOr add (getD m p 0)) ∙ h .long;
       is = λ q k. go q k (ℕ-discrete q p) ∙ ap (λ (i : ℕ). bitOr (unionBelow i (f q)) (getD old q 0)) (sym (add-one j));

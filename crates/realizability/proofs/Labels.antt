@@ -6,6 +6,7 @@ use Prim.Native.Nat.{ℕ, _≤_, _<_}
 use native.Mathlib.Nat.{le-refl, mod-lt}
 use lib.ListN.{getD}
 use lib.Dec.{eqb}
+use Rattle.meaning.specs.Traces.{firstEvents}
 use Rattle.sequences.proofs.Loops.{getD-tab}
 use Rattle.ltl.specs.Sets.{on, someBelow, unionBelow, someEvent}
 use Rattle.ltl.specs.Closure.{closure}
@@ -14,7 +15,7 @@ use Rattle.ltl.specs.Residuals.{before}
 use Rattle.ltl.specs.Keys.{look}
 use Rattle.ltl.proofs.Sets.{on-set}
 use Rattle.valuation.specs.Entries.{Entries}
-use Rattle.realizability.specs.Relations.{entry, Matrix, below, labelAt, edge, closed, leadsBy, viaBy, coreBy, toCoreBy, realizableBy}
+use Rattle.realizability.specs.Relations.{entry, Matrix, labelAt, edge, closed, leadsBy, viaBy, coreBy, toCoreBy, realizableBy}
 use Rattle.realizability.proofs.Searches.{some-same, union-same}
 use Rattle.realizability.proofs.Closures.{Agree, related, closed-related}
 
@@ -43,20 +44,20 @@ module _ {n : ℕ} {r s : ℕ → ℕ → Bool} (h : Agree n r s) where
 
 -- ---- the edges
 
-module _ (w n : ℕ) (places : List (List ℕ)) where
+module _ (w n : ℕ) (profiles : List (List ℕ)) where
   abbrev edges : List ℕ
-  edges = edgeRows (below w) n (labelAt n places)
+  edges = edgeRows (firstEvents w) n (labelAt n profiles)
 
-  edges-related : Agree n (edge w n places) (related edges)
+  edges-related : Agree n (edge w n profiles) (related edges)
   edges-related = record {
     is = λ x y a b.
-        sym (ap (λ (r : ℕ). on r y) (getD-tab n (edgeRow (below w) n (labelAt n places)) x 0 a)
-        ∙ on-set n (λ y. someEvent (below w) (λ e. eqb (labelAt n places e y) x)) y b);
+        sym (ap (λ (r : ℕ). on r y) (getD-tab n (edgeRow (firstEvents w) n (labelAt n profiles)) x 0 a)
+        ∙ on-set n (λ y. someEvent (firstEvents w) (λ e. eqb (labelAt n profiles e y) x)) y b);
   }
 
   module _ (m : ℕ) (fairs : List (List ℕ)) (rows₀ rows : List ℕ) (core out : List Bool) where
-    pub found : 1 ≤ n → Matrix n (edge w n places) rows₀ → Matrix n (closed n (entry rows₀)) rows → Entries n (coreBy m w n (entry rows) (labelAt n places) (look fairs)) false core
-        → Entries n (realizableBy n (entry rows) (λ i. getD core i false)) false out → Entries n (on (realizable (below w) n (before n (look places)) (look fairs) m)) false out
+    pub found : 1 ≤ n → Matrix n (edge w n profiles) rows₀ → Matrix n (closed n (entry rows₀)) rows → Entries n (coreBy m w n (entry rows) (labelAt n profiles) (look fairs)) false core
+        → Entries n (realizableBy n (entry rows) (λ i. getD core i false)) false out → Entries n (on (realizable (firstEvents w) n (before n (look profiles)) (look fairs) m)) false out
     unfolding realizable
     found some h₀ h k l = record { entry = λ x a. l .entry x a ∙ realizable-agree agree (λ i. getD core i false) (on full) same x a ∙ sym (on-set n (λ x. someBelow n (leadsToCore reach full x)) x a) }
       where
@@ -64,7 +65,7 @@ module _ (w n : ℕ) (places : List (List ℕ)) where
         reach = closure n edges
 
         full : ℕ
-        full = coreOf (below w) n (labelAt n places) (look fairs) m reach
+        full = coreOf (firstEvents w) n (labelAt n profiles) (look fairs) m reach
 
         first : Agree n (entry rows₀) (related edges)
         first = record { is = λ x y a b. h₀ .is x y a b ∙ edges-related .is x y a b }
@@ -74,5 +75,5 @@ module _ (w n : ℕ) (places : List (List ℕ)) where
 
         same : (c : ℕ) → c < n → getD core c false ≡ on full c
         same c a =
-            k .entry c a ∙ core-agree agree (labelAt n places) (look fairs) (λ e y. mod-lt (look places e y) some) m w c a
-            ∙ sym (on-set n (isCore (below w) n (labelAt n places) (look fairs) m reach) c a)
+            k .entry c a ∙ core-agree agree (labelAt n profiles) (look fairs) (λ e y. mod-lt (look profiles e y) some) m w c a
+            ∙ sym (on-set n (isCore (firstEvents w) n (labelAt n profiles) (look fairs) m reach) c a)

@@ -5,6 +5,6 @@ pub mod Closures
 pub mod Core
 pub mod Labels
 pub mod Gathers
-pub mod Parts
+pub mod Components
 pub mod Reach
 pub mod Empty

@@ -65,8 +65,8 @@ module _ (r : ℕ → ℕ → Bool) where
       go t v l (yes e) a b = inr (same (subst (λ (z : ℕ). Way k x z) e a) (subst (λ (z : ℕ). Way k z y) e b))
       go t v l (no e) a b = less t v (omega arith) a b
 
-module _ (w n : ℕ) (places : List (List ℕ)) (rows₀ rows : List ℕ) (some : 1 ≤ n) (h₀ : Matrix n (edge w n places) rows₀) (h : Matrix n (closed n (entry rows₀)) rows) where
-  pub reaches : Reaches w n places (entry rows)
+module _ (w n : ℕ) (profiles : List (List ℕ)) (rows₀ rows : List ℕ) (some : 1 ≤ n) (h₀ : Matrix n (edge w n profiles) rows₀) (h : Matrix n (closed n (entry rows₀)) rows) where
+  pub reaches : Reaches w n profiles (entry rows)
   reaches = record { via = via; edges = edges }
     where
       truth : {b : Bool} → b ≡ true → T b
@@ -77,10 +77,10 @@ module _ (w n : ℕ) (places : List (List ℕ)) (rows₀ rows : List ℕ) (some 
           h .is x y a c
           ∙ is-true (closed n (entry rows₀) x y) (chain (entry rows₀) n x v y b (truth (sym (h .is x v a b) ∙ p)) (truth (sym (h .is v y b c) ∙ q)))
 
-      edges : (e y : ℕ) → e < w → y < n → entry rows (labelAt n places e y) y ≡ true
+      edges : (e y : ℕ) → e < w → y < n → entry rows (labelAt n profiles e y) y ≡ true
       edges e y a b =
-          let x = labelAt n places e y in
-          let l = mod-lt (look places e y) some in
+          let x = labelAt n profiles e y in
+          let l = mod-lt (look profiles e y) some in
           h .is x y l b
           ∙ is-true (closed n (entry rows₀) x y)
-          (keeps (entry rows₀) n x y (truth (h₀ .is x y l b ∙ sym (some-found w (λ e. eqb (labelAt n places e y) x) e a (eq-eqb x x refl)))))
+          (keeps (entry rows₀) n x y (truth (h₀ .is x y l b ∙ sym (some-found w (λ e. eqb (labelAt n profiles e y) x) e a (eq-eqb x x refl)))))

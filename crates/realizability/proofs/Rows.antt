@@ -78,26 +78,26 @@ added-to {n = n} {r} {old} {m} h j e = subst (λ (k : ℕ). Added k n r old m) e
 
 -- ---- the edges of all events
 
-pub record Edges (w n : ℕ) (places : List (List ℕ)) (m : List ℕ) : Type 0 where
+pub record Edges (w n : ℕ) (profiles : List (List ℕ)) (m : List ℕ) : Type 0 where
   pub long : length m ≡ 256
-  pub holds : Matrix n (edge w n places) m
+  pub holds : Matrix n (edge w n profiles) m
 
-module _ {n : ℕ} {places : List (List ℕ)} where
-  pub edges-none : n ≤ 128 → Edges 0 n places (replicate 256 0)
+module _ {n : ℕ} {profiles : List (List ℕ)} where
+  pub edges-none : n ≤ 128 → Edges 0 n profiles (replicate 256 0)
   edges-none few = record {
     long = refl;
     holds = record { is = λ x y a b. ap (λ (A : ℕ). on A (y % 64)) (getD-replicate 256 (2 * x + y / 64) 0 0 (omega arith)) ∙ on-zero (y % 64) };
   }
 
-  pub edges-more : {e : ℕ} {m : List ℕ} → Edges e n places m → (new : List ℕ) → Added n n (λ x y. eqb (labelAt n places e y) x) m new → Edges (e + 1) n places new
+  pub edges-more : {e : ℕ} {m : List ℕ} → Edges e n profiles m → (new : List ℕ) → Added n n (λ x y. eqb (labelAt n profiles e y) x) m new → Edges (e + 1) n profiles new
   edges-more {e} {m} h new q = record {
     long = q .long;
     holds = record {
       is = λ x y a b.
-          q .done x y a b b ∙ ap (or (eqb (labelAt n places e y) x)) (h .holds .is x y a b)
-          ∙ ap (λ (j : ℕ). someBelow j (λ e. eqb (labelAt n places e y) x)) (sym (add-one e));
+          q .done x y a b b ∙ ap (or (eqb (labelAt n profiles e y) x)) (h .holds .is x y a b)
+          ∙ ap (λ (j : ℕ). someBelow j (λ e. eqb (labelAt n profiles e y) x)) (sym (add-one e));
     };
   }
 
-  pub edges-to : {w : ℕ} {m : List ℕ} → Edges w n places m → (j : ℕ) → w ≡ j → Matrix n (edge j n places) m
-  edges-to {m = m} h j e = subst (λ (k : ℕ). Matrix n (edge k n places) m) e (h .holds)
+  pub edges-to : {w : ℕ} {m : List ℕ} → Edges w n profiles m → (j : ℕ) → w ≡ j → Matrix n (edge j n profiles) m
+  edges-to {m = m} h j e = subst (λ (k : ℕ). Matrix n (edge k n profiles) m) e (h .holds)

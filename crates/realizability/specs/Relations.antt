@@ -1,4 +1,4 @@
--- The labels that some continuation has, as crate ltl finds them, over a relation between labels in the place of its rows.
+-- The labels that some continuation has, as crate ltl finds them, over a relation between labels in the profile of its rows.
 use mathlib.Core.Path.{_≡_}
 use mathlib.Core.Bool.{Bool, true, false, _&&_, _||_}
 use mathlib.Core.List.{List}
@@ -7,7 +7,6 @@ use lib.ListN.{length, getD}
 use lib.Bits.{bitOr}
 use lib.Dec.{eqb}
 use Rattle.sequences.specs.Tabulate.{leastBelow}
-use Rattle.meaning.specs.Traces.{Alphabet}
 use Rattle.ltl.specs.Sets.{on, someBelow, unionBelow}
 use Rattle.ltl.specs.Realizable.{allOf}
 use Rattle.ltl.specs.Residuals.{before}
@@ -38,17 +37,13 @@ pub record Added (w n : ℕ) (r : ℕ → ℕ → Bool) (old new : List ℕ) : T
   pub done : (x y : ℕ) → x < n → y < w → y < n → entry new x y ≡ elim (r x y) [ true ↦ true | false ↦ entry old x y ]
   pub left : (x y : ℕ) → x < n → w ≤ y → y < n → entry new x y ≡ entry old x y
 
--- all events below w
-abbrev pub below : ℕ → Alphabet
-below w = record { width = w; possible = λ _. true }
-
--- ---- edges: w events, n labels; the place by event and next label
+-- ---- edges: w events, n labels; the profile by event and next label
 
 abbrev pub labelAt : ℕ → List (List ℕ) → ℕ → ℕ → ℕ
-labelAt n places = before n (look places)
+labelAt n profiles = before n (look profiles)
 
 abbrev pub edge : ℕ → ℕ → List (List ℕ) → ℕ → ℕ → Bool
-edge w n places x y = someBelow w (λ e. eqb (labelAt n places e y) x)
+edge w n profiles x y = someBelow w (λ e. eqb (labelAt n profiles e y) x)
 
 -- ---- closure
 
@@ -90,22 +85,22 @@ aroundBy w n r before fair c = unionBelow w (λ e. unionBelow n (viaBy r before 
 abbrev pub coreBy : ℕ → ℕ → ℕ → (ℕ → ℕ → Bool) → (ℕ → ℕ → ℕ) → (ℕ → ℕ → ℕ) → ℕ → Bool
 coreBy m w n r before fair c = elim (r c c) [ true ↦ allOf m (aroundBy w n r before fair c) | false ↦ false ]
 
--- ---- parts: labels that all lead to each other
+-- ---- components: labels that all lead to each other
 
 abbrev pub bothWays : (ℕ → ℕ → Bool) → ℕ → ℕ → Bool
 bothWays r x c = r x c && r c x
 
--- the part of c, by its first label
-abbrev pub partBy : (ℕ → ℕ → Bool) → ℕ → ℕ
-partBy r c = leastBelow c (λ x. bothWays r x c)
+-- the component of c, by its first label
+abbrev pub componentBy : (ℕ → ℕ → Bool) → ℕ → ℕ
+componentBy r c = leastBelow c (λ x. bothWays r x c)
 
-pub record Within (n : ℕ) (parts : List ℕ) : Type 0 where
-  pub is : (y : ℕ) → y < n → getD parts y 0 < n
+pub record Within (n : ℕ) (components : List ℕ) : Type 0 where
+  pub is : (y : ℕ) → y < n → getD components y 0 < n
 
--- the set of temporal nodes to which the edge by e to y is fair, if both its ends are in the part p
-abbrev pub withinPart : List ℕ → (ℕ → ℕ → ℕ) → (ℕ → ℕ → ℕ) → ℕ → ℕ → ℕ → ℕ
-withinPart parts before fair e p y =
-    elim (eqb (getD parts y 0) p) [ true ↦ elim (eqb (getD parts (before e y) 0) p) [ true ↦ fair e y | false ↦ 0 ] | false ↦ 0 ]
+-- the set of temporal nodes to which the edge by e to y is fair, if both its ends are in the component p
+abbrev pub withinComponent : List ℕ → (ℕ → ℕ → ℕ) → (ℕ → ℕ → ℕ) → ℕ → ℕ → ℕ → ℕ
+withinComponent components before fair e p y =
+    elim (eqb (getD components y 0) p) [ true ↦ elim (eqb (getD components (before e y) 0) p) [ true ↦ fair e y | false ↦ 0 ] | false ↦ 0 ]
 
 -- the sets that the labels below w give to each p below n, added to those before
 pub record Gathered (w n : ℕ) (f : ℕ → ℕ → ℕ) (old new : List ℕ) : Type 0 where
@@ -118,13 +113,13 @@ pub record AllGathered (w n : ℕ) (f : ℕ → ℕ → ℕ → ℕ) (sets : Lis
   pub is : (p : ℕ) → p < n → getD sets p 0 ≡ unionBelow w (λ e. unionBelow n (f e p))
 
 -- r is transitive and has all edges
-pub record Reaches (w n : ℕ) (places : List (List ℕ)) (r : ℕ → ℕ → Bool) : Type 0 where
+pub record Reaches (w n : ℕ) (profiles : List (List ℕ)) (r : ℕ → ℕ → Bool) : Type 0 where
   pub via : (x v y : ℕ) → x < n → v < n → y < n → r x v ≡ true → r v y ≡ true → r x y ≡ true
-  pub edges : (e y : ℕ) → e < w → y < n → r (labelAt n places e y) y ≡ true
+  pub edges : (e y : ℕ) → e < w → y < n → r (labelAt n profiles e y) y ≡ true
 
--- c is on a closed walk, and all temporal nodes are in the set of its part
+-- c is on a closed walk, and all temporal nodes are in the set of its component
 abbrev pub coreIn : ℕ → (ℕ → ℕ → Bool) → List ℕ → List ℕ → ℕ → Bool
-coreIn m r parts sets c = elim (r c c) [ true ↦ allOf m (getD sets (getD parts c 0) 0) | false ↦ false ]
+coreIn m r components sets c = elim (r c c) [ true ↦ allOf m (getD sets (getD components c 0) 0) | false ↦ false ]
 
 abbrev pub toCoreBy : (ℕ → ℕ → Bool) → (ℕ → Bool) → ℕ → ℕ → Bool
 toCoreBy r core x c = elim (core c) [ true ↦ leadsBy r x c | false ↦ false ]
@@ -134,9 +129,9 @@ realizableBy n r core x = someBelow n (toCoreBy r core x)
 
 -- ---- arrays of the sizes that the code has
 
-pub record Sizes (w n : ℕ) (places fairs : List (List ℕ)) : Type 0 where
+pub record Sizes (w n : ℕ) (profiles fairs : List (List ℕ)) : Type 0 where
   pub events : w ≤ 16
   pub some : 1 ≤ n
   pub few : n ≤ 128
-  pub places-long : length places ≡ 16
+  pub profiles-long : length profiles ≡ 16
   pub fairs-long : length fairs ≡ 16

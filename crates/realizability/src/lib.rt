@@ -5,21 +5,22 @@ ghost use mathlib.Core.List.{List};
 ghost use Prim.Native.Nat.{ℕ, _+_, _%_, _≤_, _<_};
 ghost use lib.ListN.{length, getD};
 ghost use lib.Dec.{eqb};
+ghost use Rattle.meaning.specs.Traces.{firstEvents};
 ghost use Rattle.ltl.specs.Sets.{on};
 ghost use Rattle.ltl.specs.Realizable.{allOf, realizable};
 ghost use Rattle.valuation.specs.Entries.{Entries};
-ghost use Rattle.realizability.specs.Relations.{entry, Matrix, EmptyRow, MarkedAt, Added, onlyIf, RowPassed, labelAt, edge, through, closed, leadsBy, bothWays, partBy, Within, withinPart, Gathered, AllGathered, Reaches, coreIn, coreBy, toCoreBy, realizableBy, Sizes, below};
+ghost use Rattle.realizability.specs.Relations.{entry, Matrix, EmptyRow, MarkedAt, Added, onlyIf, RowPassed, labelAt, edge, through, closed, leadsBy, bothWays, componentBy, Within, withinComponent, Gathered, AllGathered, Reaches, coreIn, coreBy, toCoreBy, realizableBy, Sizes};
 ghost use Rattle.ltl.specs.Residuals.{before};
 ghost use Rattle.ltl.specs.Keys.{look};
 use valuation::holds;
 use wire::wide;
 
-// The label within a place: the remainder, mostly without a division.
-fn label_in(place: u8, labels: usize) -> usize
+// The label within a profile: the remainder, mostly without a division.
+fn label_in(profile: u8, labels: usize) -> usize
     requires { ⌜ 1 ≤ labels ⌝ }
-    ensures { λ r. ⌜ (r ≡ place % labels) × (r < labels) ⌝ }
+    ensures { λ r. ⌜ (r ≡ profile % labels) × (r < labels) ⌝ }
 {
-    let p = wide(place);
+    let p = wide(profile);
     if p < labels {
         return p;
     }
@@ -63,28 +64,28 @@ fn mark(rows: &mut [u64; 256], x: usize, y: usize)
 // ---- edges
 
 // Adds the edges of an event.
-fn mark_event(rows: &mut [u64; 256], places: &[[u8; 128]; 16], labels: usize, e: usize)
+fn mark_event(rows: &mut [u64; 256], profiles: &[[u8; 128]; 16], labels: usize, e: usize)
     requires { ⌜ (e < 16) × (1 ≤ labels) × (labels ≤ 128) ⌝ }
-    requires { ⌜ (length {A = List ℕ} (now places) ≡ 16) × (length (now rows) ≡ 256) ⌝ }
-    ensures { λ _. ⌜ Added labels labels (λ x y. eqb (labelAt labels (now (places .entry)) e y) x) (now (rows .entry)) (now (rows .exit)) ⌝ }
+    requires { ⌜ (length {A = List ℕ} (now profiles) ≡ 16) × (length (now rows) ≡ 256) ⌝ }
+    ensures { λ _. ⌜ Added labels labels (λ x y. eqb (labelAt labels (now (profiles .entry)) e y) x) (now (rows .entry)) (now (rows .exit)) ⌝ }
 {
     let mut y: usize = 0;
     while y < labels {
-        let x = label_in(places[e][y], labels);
+        let x = label_in(profiles[e][y], labels);
         mark(rows, x, y);
         y += 1;
     }
 }
 
-fn edge_rows(events: usize, labels: usize, places: &[[u8; 128]; 16], rows: &mut [u64; 256])
+fn edge_rows(events: usize, labels: usize, profiles: &[[u8; 128]; 16], rows: &mut [u64; 256])
     requires { ⌜ (events ≤ 16) × (1 ≤ labels) × (labels ≤ 128) ⌝ }
-    requires { ⌜ length {A = List ℕ} (now places) ≡ 16 ⌝ }
-    ensures { λ _. ⌜ (length (now (rows .exit)) ≡ 256) × Matrix labels (edge events labels (now (places .entry))) (now (rows .exit)) ⌝ }
+    requires { ⌜ length {A = List ℕ} (now profiles) ≡ 16 ⌝ }
+    ensures { λ _. ⌜ (length (now (rows .exit)) ≡ 256) × Matrix labels (edge events labels (now (profiles .entry))) (now (rows .exit)) ⌝ }
 {
     *rows = [0; 256];
     let mut e: usize = 0;
     while e < events {
-        mark_event(rows, places, labels, e);
+        mark_event(rows, profiles, labels, e);
         e += 1;
     }
 }
@@ -171,7 +172,7 @@ fn both_ways(rows: &[u64; 256], x: usize, c: usize) -> bool
 // The first label up to c that leads to c and back.
 fn first_both(rows: &[u64; 256], c: usize) -> usize
     requires { ⌜ (c < 128) × (length (now rows) ≡ 256) ⌝ }
-    ensures { λ r. ⌜ r ≡ partBy (entry (now (rows .entry))) c ⌝ }
+    ensures { λ r. ⌜ r ≡ componentBy (entry (now (rows .entry))) c ⌝ }
 {
     let mut x: usize = 0;
     while x < c {
@@ -183,10 +184,10 @@ fn first_both(rows: &[u64; 256], c: usize) -> usize
     c
 }
 
-// The part of c, labels that all lead to each other, by its first label.
-fn part(rows: &[u64; 256], c: usize) -> usize
+// The component of c, labels that all lead to each other, by its first label.
+fn component(rows: &[u64; 256], c: usize) -> usize
     requires { ⌜ (c < 128) × (length (now rows) ≡ 256) ⌝ }
-    ensures { λ r. ⌜ r ≡ partBy (entry (now (rows .entry))) c ⌝ }
+    ensures { λ r. ⌜ r ≡ componentBy (entry (now (rows .entry))) c ⌝ }
 {
     if is_empty(rows, c) {
         return c;
@@ -194,17 +195,17 @@ fn part(rows: &[u64; 256], c: usize) -> usize
     first_both(rows, c)
 }
 
-fn part_row(rows: &[u64; 256], labels: usize) -> [usize; 128]
+fn component_row(rows: &[u64; 256], labels: usize) -> [usize; 128]
     requires { ⌜ (labels ≤ 128) × (length (now rows) ≡ 256) ⌝ }
-    ensures { λ r. ⌜ Entries labels (partBy (entry (now (rows .entry)))) 0 r ⌝ }
+    ensures { λ r. ⌜ Entries labels (componentBy (entry (now (rows .entry)))) 0 r ⌝ }
 {
-    let mut parts = [0usize; 128];
+    let mut components = [0usize; 128];
     let mut c: usize = 0;
     while c < labels {
-        parts[c] = part(rows, c);
+        components[c] = component(rows, c);
         c += 1;
     }
-    parts
+    components
 }
 
 fn fair_if(test: bool, set: u8) -> u8
@@ -213,45 +214,45 @@ fn fair_if(test: bool, set: u8) -> u8
     if test { set } else { 0 }
 }
 
-// Adds to the set of each part the temporal nodes to which its own edges by e are fair.
+// Adds to the set of each component the temporal nodes to which its own edges by e are fair.
 fn gather_event(
-    parts: &[usize; 128],
-    places: &[[u8; 128]; 16],
+    components: &[usize; 128],
+    profiles: &[[u8; 128]; 16],
     fairs: &[[u8; 128]; 16],
     labels: usize,
     e: usize,
     sets: &mut [u8; 128],
 )
-    requires { ⌜ Sizes (e + 1) labels (now places) (now fairs) ⌝ }
-    requires { ⌜ (length (now parts) ≡ 128) × (length (now sets) ≡ 128) × Within labels (now parts) ⌝ }
-    ensures { λ _. ⌜ Gathered labels labels (withinPart (now (parts .entry)) (labelAt labels (now (places .entry))) (look (now (fairs .entry))) e) (now (sets .entry)) (now (sets .exit)) ⌝ }
+    requires { ⌜ Sizes (e + 1) labels (now profiles) (now fairs) ⌝ }
+    requires { ⌜ (length (now components) ≡ 128) × (length (now sets) ≡ 128) × Within labels (now components) ⌝ }
+    ensures { λ _. ⌜ Gathered labels labels (withinComponent (now (components .entry)) (labelAt labels (now (profiles .entry))) (look (now (fairs .entry))) e) (now (sets .entry)) (now (sets .exit)) ⌝ }
 {
     let mut y: usize = 0;
     while y < labels {
-        let x = label_in(places[e][y], labels);
-        let p = parts[y];
-        let add = fair_if(parts[x] == p, fairs[e][y]);
+        let x = label_in(profiles[e][y], labels);
+        let p = components[y];
+        let add = fair_if(components[x] == p, fairs[e][y]);
         sets[p] = add | sets[p];
         y += 1;
     }
 }
 
 fn gather(
-    parts: &[usize; 128],
-    places: &[[u8; 128]; 16],
+    components: &[usize; 128],
+    profiles: &[[u8; 128]; 16],
     fairs: &[[u8; 128]; 16],
     events: usize,
     labels: usize,
     sets: &mut [u8; 128],
 )
-    requires { ⌜ Sizes events labels (now places) (now fairs) ⌝ }
-    requires { ⌜ (length (now parts) ≡ 128) × Within labels (now parts) ⌝ }
-    ensures { λ _. ⌜ AllGathered events labels (withinPart (now (parts .entry)) (labelAt labels (now (places .entry))) (look (now (fairs .entry)))) (now (sets .exit)) ⌝ }
+    requires { ⌜ Sizes events labels (now profiles) (now fairs) ⌝ }
+    requires { ⌜ (length (now components) ≡ 128) × Within labels (now components) ⌝ }
+    ensures { λ _. ⌜ AllGathered events labels (withinComponent (now (components .entry)) (labelAt labels (now (profiles .entry))) (look (now (fairs .entry)))) (now (sets .exit)) ⌝ }
 {
     *sets = [0; 128];
     let mut e: usize = 0;
     while e < events {
-        gather_event(parts, places, fairs, labels, e, sets);
+        gather_event(components, profiles, fairs, labels, e, sets);
         e += 1;
     }
 }
@@ -270,33 +271,33 @@ fn all_of(m: u8, set: u8) -> bool
     true
 }
 
-// Whether c is on a closed walk, and all temporal nodes are in the set of its part.
-fn is_core(rows: &[u64; 256], parts: &[usize; 128], sets: &[u8; 128], m: u8, c: usize) -> bool
-    requires { ⌜ (c < 128) × (length (now rows) ≡ 256) × (length (now parts) ≡ 128) × (length (now sets) ≡ 128) ⌝ }
-    requires { ⌜ getD (now parts) c 0 < 128 ⌝ }
-    ensures { λ r. ⌜ r ≡ coreIn m (entry (now (rows .entry))) (now (parts .entry)) (now (sets .entry)) c ⌝ }
+// Whether c is on a closed walk, and all temporal nodes are in the set of its component.
+fn is_core(rows: &[u64; 256], components: &[usize; 128], sets: &[u8; 128], m: u8, c: usize) -> bool
+    requires { ⌜ (c < 128) × (length (now rows) ≡ 256) × (length (now components) ≡ 128) × (length (now sets) ≡ 128) ⌝ }
+    requires { ⌜ getD (now components) c 0 < 128 ⌝ }
+    ensures { λ r. ⌜ r ≡ coreIn m (entry (now (rows .entry))) (now (components .entry)) (now (sets .entry)) c ⌝ }
 {
     if has(rows, c, c) {
-        return all_of(m, sets[parts[c]]);
+        return all_of(m, sets[components[c]]);
     }
     false
 }
 
 fn core_in(
     rows: &[u64; 256],
-    parts: &[usize; 128],
+    components: &[usize; 128],
     sets: &[u8; 128],
     m: u8,
     labels: usize,
 ) -> [bool; 128]
-    requires { ⌜ (labels ≤ 128) × (length (now rows) ≡ 256) × (length (now parts) ≡ 128) × (length (now sets) ≡ 128) ⌝ }
-    requires { ⌜ Within labels (now parts) ⌝ }
-    ensures { λ r. ⌜ Entries labels (coreIn m (entry (now (rows .entry))) (now (parts .entry)) (now (sets .entry))) false r ⌝ }
+    requires { ⌜ (labels ≤ 128) × (length (now rows) ≡ 256) × (length (now components) ≡ 128) × (length (now sets) ≡ 128) ⌝ }
+    requires { ⌜ Within labels (now components) ⌝ }
+    ensures { λ r. ⌜ Entries labels (coreIn m (entry (now (rows .entry))) (now (components .entry)) (now (sets .entry))) false r ⌝ }
 {
     let mut core = [false; 128];
     let mut c: usize = 0;
     while c < labels {
-        core[c] = is_core(rows, parts, sets, m, c);
+        core[c] = is_core(rows, components, sets, m, c);
         c += 1;
     }
     core
@@ -305,20 +306,20 @@ fn core_in(
 // The labels on a closed walk that is fair to every temporal node.
 fn core_row(
     rows: &[u64; 256],
-    places: &[[u8; 128]; 16],
+    profiles: &[[u8; 128]; 16],
     fairs: &[[u8; 128]; 16],
     m: u8,
     events: usize,
     labels: usize,
 ) -> [bool; 128]
-    requires { ⌜ Sizes events labels (now places) (now fairs) ⌝ }
-    requires { ⌜ (length (now rows) ≡ 256) × Reaches events labels (now places) (entry (now rows)) ⌝ }
-    ensures { λ r. ⌜ Entries labels (coreBy m events labels (entry (now (rows .entry))) (labelAt labels (now (places .entry))) (look (now (fairs .entry)))) false r ⌝ }
+    requires { ⌜ Sizes events labels (now profiles) (now fairs) ⌝ }
+    requires { ⌜ (length (now rows) ≡ 256) × Reaches events labels (now profiles) (entry (now rows)) ⌝ }
+    ensures { λ r. ⌜ Entries labels (coreBy m events labels (entry (now (rows .entry))) (labelAt labels (now (profiles .entry))) (look (now (fairs .entry)))) false r ⌝ }
 {
-    let parts = part_row(rows, labels);
+    let components = component_row(rows, labels);
     let mut sets = [0u8; 128];
-    gather(&parts, places, fairs, events, labels, &mut sets);
-    core_in(rows, &parts, &sets, m, labels)
+    gather(&components, profiles, fairs, events, labels, &mut sets);
+    core_in(rows, &components, &sets, m, labels)
 }
 
 // Whether c is in the core and the rows lead there from x.
@@ -376,18 +377,18 @@ fn leading_row(rows: &[u64; 256], core: &[bool; 128], labels: usize) -> [bool; 1
 
 // The labels that some continuation has, of m temporal nodes: those from which edges lead to the core.
 pub fn realizable_labels(
-    places: &[[u8; 128]; 16],
+    profiles: &[[u8; 128]; 16],
     fairs: &[[u8; 128]; 16],
     m: u8,
     events: usize,
     labels: usize,
 ) -> [bool; 128]
-    requires { ⌜ Sizes events labels (now places) (now fairs) ⌝ }
-    ensures { λ r. ⌜ Entries labels (on (realizable (below events) labels (before labels (look (now (places .entry)))) (look (now (fairs .entry))) m)) false r ⌝ }
+    requires { ⌜ Sizes events labels (now profiles) (now fairs) ⌝ }
+    ensures { λ r. ⌜ Entries labels (on (realizable (firstEvents events) labels (before labels (look (now (profiles .entry)))) (look (now (fairs .entry))) m)) false r ⌝ }
 {
     let mut rows = [0u64; 256];
-    edge_rows(events, labels, places, &mut rows);
+    edge_rows(events, labels, profiles, &mut rows);
     close(labels, &mut rows);
-    let core = core_row(&rows, places, fairs, m, events, labels);
+    let core = core_row(&rows, profiles, fairs, m, events, labels);
     leading_row(&rows, &core, labels)
 }

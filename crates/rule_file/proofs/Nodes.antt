@@ -17,7 +17,7 @@ use Rattle.meaning.specs.declared.Node.{Node}
 use Rattle.meaning.specs.declared.Header.{Header}
 use Rattle.meaning.specs.declared.Refusal.{Refusal}
 use Rattle.meaning.specs.declared.Refusal.the-variants.{TrailingBytes}
-use Rattle.meaning.specs.declared.Opening.the-variants as Opening
+use Rattle.meaning.specs.declared.HeaderReading.the-variants as HeaderReading
 use Rattle.meaning.specs.declared.Reading.{Reading}
 use Rattle.meaning.specs.declared.Reading.the-variants as Reading
 use Rattle.rule_file.specs.Reading.{blank, padded, readOf}
@@ -48,11 +48,11 @@ module _ (b : List ℕ) (P p : ℕ) (earlier : List Node) where
   nodes-end l = rw (le-ltb p (length b) l)
 
 module _ (b : List ℕ) where
-  pub judged : (h : Header) → headerOf b ≡ Opening.Header h → judge b ≡ nodesFrom (h .nodes) b (h .signals) 6 []
+  pub judged : (h : Header) → headerOf b ≡ HeaderReading.Header h → judge b ≡ nodesFrom (h .nodes) b (h .signals) 6 []
   unfolding judge
   judged h e = rw (e, judge)
 
-  pub judged-refused : (x : Refusal) → headerOf b ≡ Opening.Refused x → judge b ≡ Refused x
+  pub judged-refused : (x : Refusal) → headerOf b ≡ HeaderReading.Refused x → judge b ≡ Refused x
   unfolding judge
   judged-refused x e = rw (e, judge)
 

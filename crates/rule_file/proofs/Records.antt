@@ -13,7 +13,7 @@ use Rattle.meaning.specs.declared.Node.{Node}
 use Rattle.meaning.specs.declared.Header.{Header}
 use Rattle.meaning.specs.declared.Refusal.{Refusal}
 use Rattle.meaning.specs.declared.Refusal.the-variants.{Truncated, WrongLength, WrongSignals, WrongCount, WrongOperand, OutOfRange, EighthTemporal}
-use Rattle.meaning.specs.declared.Opening.the-variants as Opening
+use Rattle.meaning.specs.declared.HeaderReading.the-variants as HeaderReading
 use Rattle.meaning.specs.declared.Reading.the-variants as Reading
 use Rattle.rule_file.specs.Reading.{framedOf}
 use Rattle.rule_file.specs.declared.Framed.the-variants as Framed
@@ -81,25 +81,25 @@ module _ (b : List ℕ) where
   abbrev headerAt : Header
   headerAt = record { signals = getD b 4 0; nodes = getD b 5 0 }
 
-  pub header-framed : (r : Refusal) → framedOf b 0 ≡ Framed.Refused r → Opening.Refused r ≡ headerOf b
+  pub header-framed : (r : Refusal) → framedOf b 0 ≡ Framed.Refused r → HeaderReading.Refused r ≡ headerOf b
   unfolding headerOf
-  header-framed r e = sym (framed-refused b 0 Opening.Refused (Opening.Header headerAt) r (drop 3 (headerChecks b)) e)
+  header-framed r e = sym (framed-refused b 0 HeaderReading.Refused (HeaderReading.Header headerAt) r (drop 3 (headerChecks b)) e)
 
   pub header-clear : {l k : ℕ} → Frame b 0 l k → Cleared (headerChecks b) 3
   header-clear f = f .clear (drop 3 (headerChecks b))
 
-  pub header-refused : {i : ℕ} → Cleared (headerChecks b) i → failsAt (headerChecks b) i ≡ true → Opening.Refused (refusalAt (headerChecks b) i) ≡ headerOf b
+  pub header-refused : {i : ℕ} → Cleared (headerChecks b) i → failsAt (headerChecks b) i ≡ true → HeaderReading.Refused (refusalAt (headerChecks b) i) ≡ headerOf b
   unfolding headerOf
-  header-refused {i} h q = sym (first-refused Opening.Refused (Opening.Header headerAt) (headerChecks b) i h q)
+  header-refused {i} h q = sym (first-refused HeaderReading.Refused (HeaderReading.Header headerAt) (headerChecks b) i h q)
 
-  pub header-read : Cleared (headerChecks b) 7 → (h : Header) → h .signals ≡ getD b 4 0 → h .nodes ≡ getD b 5 0 → Opening.Header h ≡ headerOf b
+  pub header-read : Cleared (headerChecks b) 7 → (h : Header) → h .signals ≡ getD b 4 0 → h .nodes ≡ getD b 5 0 → HeaderReading.Header h ≡ headerOf b
   unfolding headerOf
-  header-read f h p q = let e : h ≡ headerAt = ap₂ (λ (s n : ℕ). record { signals = s; nodes = n }) p q in ap Opening.Header e ∙ sym (first-none Opening.Refused (Opening.Header headerAt) (headerChecks b) f)
+  header-read f h p q = let e : h ≡ headerAt = ap₂ (λ (s n : ℕ). record { signals = s; nodes = n }) p q in ap HeaderReading.Header e ∙ sym (first-none HeaderReading.Refused (HeaderReading.Header headerAt) (headerChecks b) f)
 
-  pub header-few : (h : Header) → headerOf b ≡ Opening.Header h → (h .signals ≤ 4) × (h .nodes ≤ 64)
+  pub header-few : (h : Header) → headerOf b ≡ HeaderReading.Header h → (h .signals ≤ 4) × (h .nodes ≤ 64)
   unfolding headerOf
   header-few h e =
-      let f = first-cleared Opening.Refused (Opening.Header headerAt) (Opening.Header h) other (headerChecks b) e in
+      let f = first-cleared HeaderReading.Refused (HeaderReading.Header headerAt) (HeaderReading.Header h) other (headerChecks b) e in
       let q = f .1 in
       let s : h .signals ≡ getD b 4 0 = cc in
       let n : h .nodes ≡ getD b 5 0 = cc in (
@@ -107,7 +107,7 @@ module _ (b : List ℕ) where
         omega (arith, leb-true (getD b 5 0) 64 (and-right (leb 1 (getD b 5 0)) _ (f .0 .none 6 (omega arith)))),
       )
     where
-      other : (r : Refusal) → Opening.Refused r ≡ Opening.Header h → ⊥
+      other : (r : Refusal) → HeaderReading.Refused r ≡ HeaderReading.Header h → ⊥
       other r e = let z : _≡_ {A = ℕ} 0 1 = cc in omega arith
 
 -- ---- a node's record

@@ -9,8 +9,8 @@ use Rattle.meaning.specs.RuleFiles.{Judgement, Accepted, Refused, bodyLength, o
 use Rattle.meaning.specs.declared.Node.{Node}
 use Rattle.meaning.specs.declared.Refusal.{Refusal}
 use Rattle.meaning.specs.declared.Refusal.the-variants.{Truncated, WrongLength}
-use Rattle.meaning.specs.declared.Opening.{Opening}
-use Rattle.meaning.specs.declared.Opening.the-variants as Opening
+use Rattle.meaning.specs.declared.HeaderReading.{HeaderReading}
+use Rattle.meaning.specs.declared.HeaderReading.the-variants as HeaderReading
 use Rattle.meaning.specs.declared.Reading.{Reading}
 use Rattle.meaning.specs.declared.Reading.the-variants as Reading
 use Rattle.rule_file.specs.declared.answer.Read.{Read}
@@ -58,9 +58,9 @@ abbrev pub refusalIn : Framed → Refusal
 refusalIn (Framed.Record l k) = Truncated 0
 refusalIn (Framed.Refused x) = x
 
-abbrev pub handedOnOpening : Opening → Judgement
-handedOnOpening (Opening.Header h) = Refused (Truncated 0)
-handedOnOpening (Opening.Refused x) = Refused x
+abbrev pub handedOnHeader : HeaderReading → Judgement
+handedOnHeader (HeaderReading.Header h) = Refused (Truncated 0)
+handedOnHeader (HeaderReading.Refused x) = Refused x
 
 abbrev pub handedOn : Reading → Judgement
 handedOn (Reading.Node n) = Refused (Truncated 0)

@@ -5,10 +5,11 @@ ghost use Prim.Native.Nat.{_^_, _≤_, _<_};
 ghost use lib.Dec.{leb};
 ghost use lib.ListN.{replicate};
 ghost use Rattle.meaning.specs.RuleFiles.{Refused, bodyLength, operands, operandsFit, rangesFit, headerOf, readingOf, judge};
-ghost use Rattle.rule_file.specs.Reading.{blank, readOf, shape, shapeOf, framedOf, refusalIn, handedOnOpening, handedOn, nodeOf};
+ghost use Rattle.rule_file.specs.Reading.{blank, readOf, shape, shapeOf, framedOf, refusalIn, handedOnHeader, handedOn, nodeOf};
+use events::width;
 use meaning::Header;
 use meaning::Node;
-use meaning::Opening;
+use meaning::HeaderReading;
 use meaning::Reading;
 use meaning::Refusal;
 use wire::byte_at;
@@ -95,34 +96,34 @@ fn refusal_in(framed: Framed) -> Refusal
 }
 
 // The first record.
-fn read_header(b: &[u8]) -> Opening
+fn read_header(b: &[u8]) -> HeaderReading
     ensures { λ r. ⌜ r ≡ headerOf (now (b .entry)) ⌝ }
 {
     let framed = frame(b, 0);
     let Framed::Record { length, kind } = framed else {
-        return Opening::Refused(refusal_in(framed));
+        return HeaderReading::Refused(refusal_in(framed));
     };
     if kind != 256 {
-        return Opening::Refused(Refusal::WrongKind(0));
+        return HeaderReading::Refused(Refusal::WrongKind(0));
     }
     if length != 4 {
-        return Opening::Refused(Refusal::WrongLength(0));
+        return HeaderReading::Refused(Refusal::WrongLength(0));
     }
     let signals = byte_at(b, 4);
     if signals < 1 {
-        return Opening::Refused(Refusal::WrongSignals);
+        return HeaderReading::Refused(Refusal::WrongSignals);
     }
     if 4 < signals {
-        return Opening::Refused(Refusal::WrongSignals);
+        return HeaderReading::Refused(Refusal::WrongSignals);
     }
     let nodes = byte_at(b, 5);
     if nodes < 1 {
-        return Opening::Refused(Refusal::WrongCount);
+        return HeaderReading::Refused(Refusal::WrongCount);
     }
     if 64 < nodes {
-        return Opening::Refused(Refusal::WrongCount);
+        return HeaderReading::Refused(Refusal::WrongCount);
     }
-    Opening::Header(Header { signals, nodes })
+    HeaderReading::Header(Header { signals, nodes })
 }
 
 // The node whose record is at p, with as many bytes of its body as the kind has.
@@ -166,14 +167,6 @@ fn wrong_operand(node: Node, count: u8, number: u8) -> bool
     number <= node.b
 }
 
-// How many masks there are over so many signals.
-fn masks(signals: u8) -> u8
-    requires { ⌜ signals ≤ 4 ⌝ }
-    ensures { λ r. ⌜ r ≡ 2 ^ signals ⌝ }
-{
-    1u8 << signals
-}
-
 // Whether a signal, a mask or a count is out of range.
 fn out_of_range(node: Node, signals: u8) -> bool
     requires { ⌜ signals ≤ 4 ⌝ }
@@ -186,7 +179,7 @@ fn out_of_range(node: Node, signals: u8) -> bool
     if kind != 3 {
         return false;
     }
-    if masks(signals) <= node.a {
+    if width(signals) <= wide(node.a) {
         return true;
     }
     4 < node.b
@@ -254,12 +247,12 @@ fn refused(refusal: Refusal) -> Read
 }
 
 // Hands on the refusal of the first record.
-fn handed_on_opening(opening: Opening) -> Read
-    ensures { λ r. ⌜ r ≡ readOf (handedOnOpening opening) ⌝ }
+fn handed_on_header(first: HeaderReading) -> Read
+    ensures { λ r. ⌜ r ≡ readOf (handedOnHeader first) ⌝ }
 {
-    match opening {
-        Opening::Header(_) => refused(Refusal::Truncated(0)),
-        Opening::Refused(refusal) => refused(refusal),
+    match first {
+        HeaderReading::Header(_) => refused(Refusal::Truncated(0)),
+        HeaderReading::Refused(refusal) => refused(refusal),
     }
 }
 
@@ -284,9 +277,9 @@ fn counted(temporal: bool) -> u8
 pub fn read(bytes: &[u8]) -> Read
     ensures { λ r. ⌜ r ≡ readOf (judge (now (bytes .entry))) ⌝ }
 {
-    let opening = read_header(bytes);
-    let Opening::Header(header) = opening else {
-        return handed_on_opening(opening);
+    let first = read_header(bytes);
+    let HeaderReading::Header(header) = first else {
+        return handed_on_header(first);
     };
     let signals = header.signals;
     let count = header.nodes;

@@ -13,8 +13,8 @@ use Rattle.meaning.specs.declared.Node.{Node}
 use Rattle.meaning.specs.declared.Header.{Header}
 use Rattle.meaning.specs.declared.Refusal.{Refusal}
 use Rattle.meaning.specs.declared.Refusal.the-variants.{WrongSignals, WrongCount, WrongOperand, OutOfRange, EighthTemporal, TrailingBytes}
-use Rattle.meaning.specs.declared.Opening.{Opening}
-use Rattle.meaning.specs.declared.Opening.the-variants as Opening
+use Rattle.meaning.specs.declared.HeaderReading.{HeaderReading}
+use Rattle.meaning.specs.declared.HeaderReading.the-variants as HeaderReading
 use Rattle.meaning.specs.declared.Reading.{Reading}
 use Rattle.meaning.specs.declared.Reading.the-variants as Reading
 
@@ -55,7 +55,7 @@ pub record Counts (h : Header) : Type 0 where
   pub some : 1 ≤ h .nodes
   pub few : h .nodes ≤ 64
 
-header-counts : (b : List ℕ) (h : Header) → headerOf b ≡ Opening.Header h → Counts h
+header-counts : (b : List ℕ) (h : Header) → headerOf b ≡ HeaderReading.Header h → Counts h
 unfolding headerOf
 header-counts b h e =
     subst Counts same
@@ -65,8 +65,8 @@ header-counts b h e =
       few = leb-true (getD b 5 0) 64 (u .1);
     })
   where
-    checked : (Opening.Header (record { signals = getD b 4 0; nodes = getD b 5 0 }) ≡ Opening.Header h) × Clear (headerChecks b)
-    checked = passes Opening.Refused (Opening.Header h) (λ r q. let z : _≡_ {A = ℕ} 0 1 = cc in omega arith) (headerChecks b) (Opening.Header (record { signals = getD b 4 0; nodes = getD b 5 0 })) e
+    checked : (HeaderReading.Header (record { signals = getD b 4 0; nodes = getD b 5 0 }) ≡ HeaderReading.Header h) × Clear (headerChecks b)
+    checked = passes HeaderReading.Refused (HeaderReading.Header h) (λ r q. let z : _≡_ {A = ℕ} 0 1 = cc in omega arith) (headerChecks b) (HeaderReading.Header (record { signals = getD b 4 0; nodes = getD b 5 0 })) e
 
     same : record { signals = getD b 4 0; nodes = getD b 5 0 } ≡ h
     same = cc (checked .0)
@@ -144,12 +144,12 @@ pub accepted-formed : (b : List ℕ) (r : Rule) → judge b ≡ Accepted r → F
 unfolding judge
 accepted-formed b r e = go (headerOf b) refl e
   where
-    go : (x : Opening) → headerOf b ≡ x → elim x as (λ _. Judgement) [ Opening.Header h ↦ nodesFrom (h .nodes) b (h .signals) 6 [] | Opening.Refused r ↦ Refused r ] ≡ Accepted r → Formed r
-    go (Opening.Header h) q e =
+    go : (x : HeaderReading) → headerOf b ≡ x → elim x as (λ _. Judgement) [ HeaderReading.Header h ↦ nodesFrom (h .nodes) b (h .signals) 6 [] | HeaderReading.Refused r ↦ Refused r ] ≡ Accepted r → Formed r
+    go (HeaderReading.Header h) q e =
         let c = header-counts b h q in
         let f = has-from (h .nodes) b (h .signals) 6 [] r e (omega arith) in
         record { signals = subst Signals (sym (f .signals)) (c .signals); some = omega (arith, f .nodes, c .some); few = omega (arith, f .nodes, c .few); temporal = f .temporal }
-    go (Opening.Refused y) q e = let z : _≡_ {A = ℕ} 0 1 = cc in absurd (omega arith)
+    go (HeaderReading.Refused y) q e = let z : _≡_ {A = ℕ} 0 1 = cc in absurd (omega arith)
 
 pub accepted-signals : (b : List ℕ) (r : Rule) → judge b ≡ Accepted r → Signals (r .signals)
 accepted-signals b r e = accepted-formed b r e .signals

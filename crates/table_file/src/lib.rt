@@ -10,6 +10,7 @@ ghost use Rattle.meaning.specs.Monitors.{follow};
 ghost use Rattle.meaning.specs.TableFiles.{rowAt, rowTests, headerTests, checkedOf, verdictOf, verdictByte, successor, monitorIn};
 ghost use Rattle.meaning.specs.Runs.{firstBad, endOf};
 ghost use Rattle.table_file.specs.Tables.{NoneAbove, Copied, Stops, admission, shows, shownBy, ranIn};
+use events::width;
 use meaning::Checked;
 use meaning::Decided;
 use meaning::Ran;
@@ -21,20 +22,6 @@ use wire::wide;
 use wire::wide16;
 
 // ---- form
-
-// How many events there are over so many signals.
-pub fn width(signals: u8) -> usize
-    requires { ⌜ signals ≤ 4 ⌝ }
-    ensures { λ r. ⌜ (r ≡ 2 ^ signals) × (r ≤ 16) ⌝ }
-{
-    match signals {
-        0 => 1,
-        1 => 2,
-        2 => 4,
-        3 => 8,
-        _ => 16,
-    }
-}
 
 // The place of a state's record, which for the number of states is the table's length.
 pub fn row_at(signals: u8, state: u16) -> usize

@@ -11,7 +11,7 @@ use meaning::Verdict;
 use table_file::check;
 use table_file::successor_at;
 use table_file::verdict_at;
-use table_file::width;
+use events::width;
 use wire::wide16;
 
 // What printing a table returns: the length of its text in bytes, or the refusal.

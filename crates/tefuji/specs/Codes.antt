@@ -4,9 +4,8 @@ use mathlib.Core.List.{List, [], _∷_}
 use Prim.Native.Nat.{ℕ, _+_, _-_, _*_, _^_, _/_, _%_}
 use lib.Dec.{ltb}
 use Rattle.meaning.specs.Refusals.{codeOf}
+use Rattle.meaning.specs.TableFiles.{verdictNumber}
 use Rattle.meaning.specs.declared.Refusal.{Refusal}
-use Rattle.meaning.specs.declared.Verdict.{Verdict}
-use Rattle.meaning.specs.declared.Verdict.the-variants.{Undecided, Satisfied, Violated, Moot}
 use Rattle.meaning.specs.declared.Built.{Built}
 use Rattle.meaning.specs.declared.Built.the-variants as Built
 use Rattle.meaning.specs.declared.Checked.{Checked}
@@ -35,13 +34,6 @@ builtCode (Built.Refused r) = refusalCode r
 abbrev pub countsCode : Checked → ℕ
 countsCode (Checked.Table P S) = P * 65536 + S
 countsCode (Checked.Refused r) = refusalCode r
-
--- "Verdict bytes: 0 undecided, 1 satisfied, 2 violated, 3 moot."
-abbrev pub verdictNumber : Verdict → ℕ
-verdictNumber Undecided = 0
-verdictNumber Satisfied = 1
-verdictNumber Violated = 2
-verdictNumber Moot = 3
 
 -- the verdict times 65,536, and the end state
 abbrev pub ranCode : Ran → ℕ

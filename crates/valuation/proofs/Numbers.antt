@@ -1,21 +1,18 @@
 -- Sets as words of 64 bits hold them.
-use mathlib.Core.Path.{_≡_, sym, ap, _∙_}
+use mathlib.Core.Path.{_≡_, sym, ap}
 use mathlib.Core.Bool.{Bool, false}
 use Prim.Native.Nat.{ℕ, suc, _+_, _*_, _%_, _^_, _≤_, _<_}
-use native.Mathlib.Nat.{one-mul, pow-suc}
+use native.Mathlib.Nat.{pow-suc}
 use native.Mathlib.Omega.{arith}
-use lib.Pow.{pow-mono, shl-exact}
+use lib.Pow.{pow-mono}
 use mir.Val.{Fits}
 use mir.Syntax.{w64}
+use Rattle.events.proofs.Powers.{shift-one}
 use Rattle.ltl.specs.Sets.{on, put}
 use Rattle.ltl.proofs.Sets.{on-out, put-lt}
 
 pub on-past : (A i : ℕ) → A < 2 ^ 64 → 64 ≤ i → false ≡ on A i
 on-past A i h l = sym (on-out A 64 i h l)
-
--- a shift of 1 within the word
-pub shift-one : (k : ℕ) → k < 64 → (1 * 2 ^ k) % 2 ^ 64 ≡ 2 ^ k
-shift-one k h = shl-exact {a = 1} 1 k 64 (omega arith) (omega arith) ∙ one-mul (2 ^ k)
 
 pub put-fits : (k A : ℕ) → k < 64 → A < 2 ^ k → Fits w64 (A + (1 * 2 ^ k) % 2 ^ 64)
 put-fits k A h l = record { fits = rw shift-one (omega (arith, pow-suc 2 k, pow-mono {i = suc k} {j = 64} h)) }
@@ -23,5 +20,5 @@ put-fits k A h l = record { fits = rw shift-one (omega (arith, pow-suc 2 k, pow-
 pub put-is : (k A : ℕ) → k < 64 → A + (1 * 2 ^ k) % 2 ^ 64 ≡ A + 2 ^ k
 put-is k A h = ap (λ (x : ℕ). A + x) (shift-one k h)
 
-pub place-fits : (k : ℕ) (b : Bool) (A : ℕ) → k ≤ 7 → A < 2 ^ k → put k b A < 256
-place-fits k b A h l = omega (arith, put-lt k b A l, pow-mono {i = suc k} {j = 8} (omega arith))
+pub profile-fits : (k : ℕ) (b : Bool) (A : ℕ) → k ≤ 7 → A < 2 ^ k → put k b A < 256
+profile-fits k b A h l = omega (arith, put-lt k b A l, pow-mono {i = suc k} {j = 8} (omega arith))

@@ -17,10 +17,10 @@ use Rattle.ltl.specs.Valuation.{value, valueAll, valued, none}
 use Rattle.ltl.proofs.Sets.{same-set}
 use Rattle.ltl.proofs.Valuation.{sized-none, sized-all}
 use Rattle.ltl.proofs.Labels.{valued-temporals}
-use Rattle.valuation.specs.Valued.{Valuable, placeAt, fairsAt}
+use Rattle.valuation.specs.Valued.{Valuable, profileAt, fairsAt}
 use Rattle.valuation.specs.Words.{labelOf}
 use Rattle.valuation.specs.Columns.{Planes, Held, Byte}
-use Rattle.valuation.proofs.Numbers.{place-fits}
+use Rattle.valuation.proofs.Numbers.{profile-fits}
 use Rattle.valuation.specs.Entries.{Entries}
 use Rattle.valuation.proofs.Entries.{entries-more, entries-to}
 use Rattle.valuation.proofs.Held.{planes-put, held-same}
@@ -82,9 +82,9 @@ module _ (e : ℕ) (high : Bool) (nodes : List Node) (count : ℕ) where
   abbrev s : ℕ → ltl.Valued
   s l = valued e (labelOf high l) (splits (take count nodes))
 
-  pub prefix-places : (m : ℕ) {values label fairs : List ℕ} → Prefix e high nodes count m values label fairs → m < length label
-      → Planes (λ l. placeAt count nodes e (labelOf high l)) (set label m (getD values (count - 1) 0))
-  prefix-places m {values} {label} h r =
+  pub prefix-profiles : (m : ℕ) {values label fairs : List ℕ} → Prefix e high nodes count m values label fairs → m < length label
+      → Planes (λ l. profileAt count nodes e (labelOf high l)) (set label m (getD values (count - 1) 0))
+  prefix-profiles m {values} {label} h r =
       planes-put m (getD values (count - 1) 0) (λ l. s l .temporals) (λ l. h .state l .temporals) (λ l. on (s l .values) (s l .count - 1)) label r (λ l. h .state l .label)
       (λ l q. h .of-values .plane l (count - 1) q ∙ ap (λ (k : ℕ). on (s l .values) (k - 1)) (sym (h .state l .count))) (h .of-label)
 
@@ -94,8 +94,8 @@ module _ {count : ℕ} {nodes : List Node} (v : Valuable count nodes) (e y : ℕ
   few : valued e y (splits (take count nodes)) .temporals ≤ 7
   few = omega (arith, valued-temporals e y (splits (take count nodes)), v .temporal)
 
-  pub place-size : placeAt count nodes e y < 256
-  place-size = place-fits (valued e y (splits (take count nodes)) .temporals) (on (valued e y (splits (take count nodes)) .values) (valued e y (splits (take count nodes)) .count - 1)) (valued e y (splits (take count nodes)) .label) few (sized-all e y sized-none (splits (take count nodes)) .label-lt)
+  pub profile-size : profileAt count nodes e y < 256
+  profile-size = profile-fits (valued e y (splits (take count nodes)) .temporals) (on (valued e y (splits (take count nodes)) .values) (valued e y (splits (take count nodes)) .count - 1)) (valued e y (splits (take count nodes)) .label) few (sized-all e y sized-none (splits (take count nodes)) .label-lt)
 
   pub fairs-size : fairsAt count nodes e y < 256
   fairs-size = omega (arith, sized-all e y sized-none (splits (take count nodes)) .fairs-lt, few, pow-mono {i = valued e y (splits (take count nodes)) .temporals} {j = 7} few)

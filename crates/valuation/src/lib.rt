@@ -1,4 +1,4 @@
-// The values of a rule's nodes at an event before a label, and the rows of places and of fairness that they give.
+// The values of a rule's nodes at an event before a label, and the rows of profiles and of fairness that they give.
 // 64 labels are valued at once: bit l of a word is for label l of the lower or of the upper half.
 ghost use mathlib.Core.Path.{_≡_};
 ghost use Prim.Native.Nat.{ℕ, _+_, _^_, _≤_, _<_};
@@ -7,7 +7,7 @@ ghost use lib.ListN.{length, take, getD};
 ghost use Rattle.ltl.specs.Nodes.{split, splits, temporals};
 ghost use Rattle.valuation.specs.Words.{plainWords, promiseWords, labelOf, Lanes, Flipped, Everywhere, LabelBits};
 ghost use Rattle.valuation.specs.Columns.{Advanced, Planes, Byte};
-ghost use Rattle.valuation.specs.Valued.{Valuable, placeAt, fairsAt};
+ghost use Rattle.valuation.specs.Valued.{Valuable, profileAt, fairsAt};
 ghost use Rattle.valuation.specs.Entries.{Entries, Table};
 ghost use mathlib.Core.List.{List, _∷_, []};
 use events::at_least;
@@ -22,16 +22,16 @@ pub struct Words {
     pub temporal: bool,
 }
 
-// The bits of the places and of the sets of fairness, a word for each bit; and how many nodes are temporal.
+// The bits of the profiles and of the sets of fairness, a word for each bit; and how many nodes are temporal.
 pub struct Columns {
-    pub places: [u64; 8],
+    pub profiles: [u64; 8],
     pub fairs: [u64; 8],
     pub temporals: u8,
 }
 
-// The places and the sets of fairness before each label.
+// The profiles and the sets of fairness before each label.
 pub struct Rows {
-    pub places: [u8; 128],
+    pub profiles: [u8; 128],
     pub fairs: [u8; 128],
 }
 
@@ -181,7 +181,7 @@ fn value_node(
 fn value_nodes(event: u8, high: bool, count: usize, nodes: [Node; 64]) -> Columns
     requires { ⌜ Valuable count nodes ⌝ }
     ensures { λ r. ⌜ r .temporals ≡ temporals (splits (take count nodes)) ⌝ }
-    ensures { λ r. ⌜ Planes (λ l. placeAt count nodes event (labelOf high l)) (r .places) ⌝ }
+    ensures { λ r. ⌜ Planes (λ l. profileAt count nodes event (labelOf high l)) (r .profiles) ⌝ }
     ensures { λ r. ⌜ Planes (λ l. fairsAt count nodes event (labelOf high l)) (r .fairs) ⌝ }
 {
     let mut values = [0u64; 64];
@@ -197,7 +197,7 @@ fn value_nodes(event: u8, high: bool, count: usize, nodes: [Node; 64]) -> Column
     }
     label[m as usize] = values[count - 1];
     Columns {
-        places: label,
+        profiles: label,
         fairs,
         temporals: m,
     }
@@ -237,23 +237,23 @@ fn fill_half(
     to: usize,
     count: usize,
     nodes: [Node; 64],
-    places: &mut [u8; 128],
+    profiles: &mut [u8; 128],
     fairs: &mut [u8; 128],
 )
     requires { ⌜ Valuable count nodes ⌝ }
     requires { ⌜ (from ≡ labelOf high 0) × (from ≤ to) × (to ≤ from + 64) × (to ≤ 128) ⌝ }
-    requires { ⌜ (length (now places) ≡ 128) × Entries from (placeAt count nodes event) 0 (now places) ⌝ }
+    requires { ⌜ (length (now profiles) ≡ 128) × Entries from (profileAt count nodes event) 0 (now profiles) ⌝ }
     requires { ⌜ (length (now fairs) ≡ 128) × Entries from (fairsAt count nodes event) 0 (now fairs) ⌝ }
-    ensures { λ _. ⌜ (length (now (places .exit)) ≡ 128) × Entries to (placeAt count nodes event) 0 (now (places .exit)) ⌝ }
+    ensures { λ _. ⌜ (length (now (profiles .exit)) ≡ 128) × Entries to (profileAt count nodes event) 0 (now (profiles .exit)) ⌝ }
     ensures { λ _. ⌜ (length (now (fairs .exit)) ≡ 128) × Entries to (fairsAt count nodes event) 0 (now (fairs .exit)) ⌝ }
 {
     let columns = value_nodes(event, high, count, nodes);
-    let p = columns.places;
+    let p = columns.profiles;
     let f = columns.fairs;
     let mut y = from;
     while y < to {
         let l = (y - from) as u8;
-        places[y] = byte_at(&p, l);
+        profiles[y] = byte_at(&p, l);
         fairs[y] = byte_at(&f, l);
         y += 1;
     }
@@ -262,10 +262,10 @@ fn fill_half(
 fn value_rows(event: u8, labels: usize, count: usize, nodes: [Node; 64]) -> Rows
     requires { ⌜ Valuable count nodes ⌝ }
     requires { ⌜ labels ≤ 128 ⌝ }
-    ensures { λ r. ⌜ Entries labels (placeAt count nodes event) 0 (r .places) ⌝ }
+    ensures { λ r. ⌜ Entries labels (profileAt count nodes event) 0 (r .profiles) ⌝ }
     ensures { λ r. ⌜ Entries labels (fairsAt count nodes event) 0 (r .fairs) ⌝ }
 {
-    let mut places = [0u8; 128];
+    let mut profiles = [0u8; 128];
     let mut fairs = [0u8; 128];
     if labels <= 64 {
         fill_half(
@@ -275,12 +275,12 @@ fn value_rows(event: u8, labels: usize, count: usize, nodes: [Node; 64]) -> Rows
             labels,
             count,
             nodes,
-            &mut places,
+            &mut profiles,
             &mut fairs,
         );
-        return Rows { places, fairs };
+        return Rows { profiles, fairs };
     }
-    fill_half(event, false, 0, 64, count, nodes, &mut places, &mut fairs);
+    fill_half(event, false, 0, 64, count, nodes, &mut profiles, &mut fairs);
     fill_half(
         event,
         true,
@@ -288,33 +288,33 @@ fn value_rows(event: u8, labels: usize, count: usize, nodes: [Node; 64]) -> Rows
         labels,
         count,
         nodes,
-        &mut places,
+        &mut profiles,
         &mut fairs,
     );
-    Rows { places, fairs }
+    Rows { profiles, fairs }
 }
 
-// The places and the sets of fairness by event and next label.
+// The profiles and the sets of fairness by event and next label.
 pub fn value_tables(
     events: usize,
     labels: usize,
     count: usize,
     nodes: [Node; 64],
-    places: &mut [[u8; 128]; 16],
+    profiles: &mut [[u8; 128]; 16],
     fairs: &mut [[u8; 128]; 16],
 )
     requires { ⌜ Valuable count nodes ⌝ }
     requires { ⌜ (events ≤ 16) × (labels ≤ 128) ⌝ }
-    requires { ⌜ (length {A = List ℕ} (now places) ≡ 16) × (length {A = List ℕ} (now fairs) ≡ 16) ⌝ }
-    ensures { λ _. ⌜ (length {A = List ℕ} (now (places .exit)) ≡ 16) × Table events labels (placeAt count nodes) (now (places .exit)) ⌝ }
+    requires { ⌜ (length {A = List ℕ} (now profiles) ≡ 16) × (length {A = List ℕ} (now fairs) ≡ 16) ⌝ }
+    ensures { λ _. ⌜ (length {A = List ℕ} (now (profiles .exit)) ≡ 16) × Table events labels (profileAt count nodes) (now (profiles .exit)) ⌝ }
     ensures { λ _. ⌜ (length {A = List ℕ} (now (fairs .exit)) ≡ 16) × Table events labels (fairsAt count nodes) (now (fairs .exit)) ⌝ }
 {
     let mut e: usize = 0;
     while e < events {
         let rows = value_rows(e as u8, labels, count, nodes);
-        let p = rows.places;
+        let p = rows.profiles;
         let f = rows.fairs;
-        places[e] = p;
+        profiles[e] = p;
         fairs[e] = f;
         e += 1;
     }

@@ -11,10 +11,10 @@ use Rattle.exploration.proofs.expand.Statement.{statement}
 use Rattle.exploration.proofs.expand.Tie as tie
 
 abbrev Inv-loop : tie.InvT-loop
-Inv-loop places whole full n events keys₀ slots₀ count row₀ source held met₀ e₀ keys slots row met e = Expanding (tablesIn n places whole) events (expandKey (tablesIn n places whole) events (keyOf source) (keysIn count keys₀)) (keyOf source) e met keys slots row
+Inv-loop profiles whole full n events keys₀ slots₀ count row₀ source held met₀ e₀ keys slots row met e = Expanding (tablesIn n profiles whole) events (expandKey (tablesIn n profiles whole) events (keyOf source) (keysIn count keys₀)) (keyOf source) e met keys slots row
 
 abbrev μ-loop : tie.MeasureT-loop
-μ-loop places whole full n events keys₀ slots₀ count row₀ source held met₀ e₀ keys slots row met e = events - e
+μ-loop profiles whole full n events keys₀ slots₀ count row₀ source held met₀ e₀ keys slots row met e = events - e
 
 add-spread : tie.Need-add-spread Inv-loop μ-loop
 add-spread c = search needs
@@ -25,7 +25,7 @@ spread-requires c κs = omega (arith, c .before .pre .0 .few)
 loop-holds : tie.Need-loop-holds Inv-loop μ-loop
 loop-holds c =
     let c₀ = c .before .before in
-    expanding-none (tablesIn (c₀ .args .n) (now (c₀ .args .places)) (now (c₀ .args .whole))) (c₀ .args .events) (keyOf (c₀ .args .t9)) (c₀ .pre .1 .1 .1) (c₀ .pre .1 .1 .2) (c₀ .pre .1 .1 .3)
+    expanding-none (tablesIn (c₀ .args .n) (now (c₀ .args .profiles)) (now (c₀ .args .whole))) (c₀ .args .events) (keyOf (c₀ .args .t9)) (c₀ .pre .1 .1 .1) (c₀ .pre .1 .1 .2) (c₀ .pre .1 .1 .3)
 
 step-key-requires : tie.Need-step-key-requires Inv-loop μ-loop
 step-key-requires c κs =
@@ -48,7 +48,7 @@ returns c =
     let c₀ = c .before .before .before .before .before .before .before .before .before .before .before .before in
     let step-key = c .before .before .before .before .before .step-key in
     let enter = c .before .before .enter in
-    expanding-over (tablesIn (c₀ .args .n) (now (c₀ .args .places)) (now (c₀ .args .whole))) (c₀ .args .events) (c .before .before .before .before .before .before .before .before .before .loop .inv) (c .before .before .before .before .before .before .before .before .loop-test .taken) (keyOf (step-key .result)) (step-key .ensures .1) (enter .last .0) (enter .last .1 .0) (enter .result) (enter .ensures) (c .enum-told .given .1)
+    expanding-over (tablesIn (c₀ .args .n) (now (c₀ .args .profiles)) (now (c₀ .args .whole))) (c₀ .args .events) (c .before .before .before .before .before .before .before .before .before .loop .inv) (c .before .before .before .before .before .before .before .before .loop-test .taken) (keyOf (step-key .result)) (step-key .ensures .1) (enter .last .0) (enter .last .1 .0) (enter .result) (enter .ensures) (c .enum-told .given .1)
 
 cast-row : tie.Need-cast-row Inv-loop μ-loop
 cast-row c =
@@ -73,12 +73,12 @@ loop-again c =
     let c₀ = c .before .before .before .before .before .before .before .before .before .before .before .before .before in
     let step-key = c .before .before .before .before .before .before .step-key in
     let enter = c .before .before .before .enter in
-    expanding-more (tablesIn (c₀ .args .n) (now (c₀ .args .places)) (now (c₀ .args .whole))) (c₀ .args .events) (c .before .before .before .before .before .before .before .before .before .before .loop .inv) (c .before .before .before .before .before .before .before .before .before .loop-test .taken) (keyOf (step-key .result)) (step-key .ensures .1) (c₀ .pre .1 .1 .0) (enter .last .0) (enter .last .1 .0) (enter .result) (enter .ensures) (c .before .entered .given .1)
+    expanding-more (tablesIn (c₀ .args .n) (now (c₀ .args .profiles)) (now (c₀ .args .whole))) (c₀ .args .events) (c .before .before .before .before .before .before .before .before .before .before .loop .inv) (c .before .before .before .before .before .before .before .before .before .loop-test .taken) (keyOf (step-key .result)) (step-key .ensures .1) (c₀ .pre .1 .1 .0) (enter .last .0) (enter .last .1 .0) (enter .result) (enter .ensures) (c .before .entered .given .1)
 
 returns-2 : tie.Need-returns-2 Inv-loop μ-loop
 returns-2 c =
     let c₀ = c .before .before .before .before in
-    expanding-all (tablesIn (c₀ .args .n) (now (c₀ .args .places)) (now (c₀ .args .whole))) (c₀ .args .events) (c .before .loop .inv) (c .loop-test .left)
+    expanding-all (tablesIn (c₀ .args .n) (now (c₀ .args .profiles)) (now (c₀ .args .whole))) (c₀ .args .events) (c .before .loop .inv) (c .loop-test .left)
 
 pub expand-spec : {M : Type 1} → statement M
 expand-spec =

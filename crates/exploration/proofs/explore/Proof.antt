@@ -15,8 +15,8 @@ use Rattle.exploration.proofs.explore.Tie as tie
 width-requires : tie.Need-width-requires
 width-requires c κs = search needs
 
-start-places-requires : tie.Need-start-places-requires
-start-places-requires c κs = search needs
+start-profiles-requires : tie.Need-start-profiles-requires
+start-profiles-requires c κs = search needs
 
 pack-requires : tie.Need-pack-requires
 pack-requires c κs = search needs
@@ -32,10 +32,10 @@ walk-requires c κs =
     let c₀ = c .before .before .before .before .before .before .before .before in
     let pack = c .before .before .before .before .pack in
     let width = c .before .before .before .before .before .before .before .width in
-    let start-places = c .before .before .before .before .before .before .start-places in
+    let start-profiles = c .before .before .before .before .before .before .start-profiles in
     let first = keys-first (replicate 256 (replicate {A = ℕ} 4 0)) (pack .result) (length-replicate 256 (replicate {A = ℕ} 4 0)) (pack .ensures .0) in
-    let tabled = subst (λ (w : ℕ). Tabled w (c₀ .args .labels) (now (c₀ .args .places)) (now (c₀ .args .whole))) (sym (width .ensures .0)) (c₀ .pre .0 .1) in
-    (tabled, (c .before .before .before .pack2 .ensures .1, ((width .ensures .1, first .0, length-replicate 256 (replicate {A = ℕ} 16 0)), pack .ensures .1 ∙ start-is (c₀ .pre .0 .1) (start-places .result) (start-places .ensures))))
+    let tabled = subst (λ (w : ℕ). Tabled w (c₀ .args .labels) (now (c₀ .args .profiles)) (now (c₀ .args .whole))) (sym (width .ensures .0)) (c₀ .pre .0 .1) in
+    (tabled, (c .before .before .before .pack2 .ensures .1, ((width .ensures .1, first .0, length-replicate 256 (replicate {A = ℕ} 16 0)), pack .ensures .1 ∙ start-is (c₀ .pre .0 .1) (start-profiles .result) (start-profiles .ensures))))
 
 enum-known-walked : tie.Need-enum-known-walked
 enum-known-walked c = search needs
@@ -48,7 +48,7 @@ returns c =
     let c₀ = c .before .before .before .before .before .before .before .before .before .before .before in
     let width = c .before .before .before .before .before .before .before .before .before .before .width in
     let walk = c .before .before .walk in
-    let t = tablesIn (c₀ .args .labels) (now (c₀ .args .places)) (now (c₀ .args .whole)) in
+    let t = tablesIn (c₀ .args .labels) (now (c₀ .args .profiles)) (now (c₀ .args .whole)) in
     let stopped = walked-over (c₀ .args .signals) t (width .result) (width .ensures .0) (walk .last .1 .1 .1 .1 .1 .0) (now (c₀ .args .rows)) (walk .last .1 .1 .1 .1 .1 .1 .1 .0) (walk .result) (walk .ensures) (c .enum-told .given .1) in
     explored-over (c₀ .args .signals) t (exploreKeys t (c₀ .args .signals)) (now (c₀ .args .rows)) (walk .last .1 .1 .1 .1 .1 .1 .1 .0) (now (c₀ .args .classes)) (now (c₀ .args .classes)) (stopped .0) (stopped .1) refl
 
@@ -60,7 +60,7 @@ classify-requires c κs =
     let c₀ = c .before .before .before .before .before .before .before .before .before .before .before .before .before .before .before in
     let walk = c .before .before .before .before .before .before .walk in
     let width = c .before .before .before .before .before .before .before .before .before .before .before .before .before .before .width in
-    (subst (λ (n : ℕ). KeysFit n (walk .last .1 .1 .1 .1 .1 .0)) (sym (c .before .wide16 .ensures .0)) ((walked-closed (c₀ .args .signals) (tablesIn (c₀ .args .labels) (now (c₀ .args .places)) (now (c₀ .args .whole))) (width .result) (width .ensures .0) (walk .last .1 .1 .1 .1 .1 .0) (now (c₀ .args .rows)) (walk .last .1 .1 .1 .1 .1 .1 .1 .0) (walk .result) (walk .ensures) (c .before .before .before .before .walked .given .1)) .fit), c .before .before .before .before .before .before .before .before .before .before .pack2 .ensures .0, c₀ .pre .1)
+    (subst (λ (n : ℕ). KeysFit n (walk .last .1 .1 .1 .1 .1 .0)) (sym (c .before .wide16 .ensures .0)) ((walked-closed (c₀ .args .signals) (tablesIn (c₀ .args .labels) (now (c₀ .args .profiles)) (now (c₀ .args .whole))) (width .result) (width .ensures .0) (walk .last .1 .1 .1 .1 .1 .0) (now (c₀ .args .rows)) (walk .last .1 .1 .1 .1 .1 .1 .1 .0) (walk .result) (walk .ensures) (c .before .before .before .before .walked .given .1)) .fit), c .before .before .before .before .before .before .before .before .before .before .pack2 .ensures .0, c₀ .pre .1)
 
 returns-2 : tie.Need-returns-2
 returns-2 c =
@@ -69,7 +69,7 @@ returns-2 c =
     let walk = c .before .before .before .before .before .before .before .walk in
     let pack2 = c .before .before .before .before .before .before .before .before .before .before .before .pack2 in
     let wide16 = c .before .before .wide16 in
-    let t = tablesIn (c₀ .args .labels) (now (c₀ .args .places)) (now (c₀ .args .whole)) in
+    let t = tablesIn (c₀ .args .labels) (now (c₀ .args .profiles)) (now (c₀ .args .whole)) in
     let ended = (walked-closed (c₀ .args .signals) t (width .result) (width .ensures .0) (walk .last .1 .1 .1 .1 .1 .0) (now (c₀ .args .rows)) (walk .last .1 .1 .1 .1 .1 .1 .1 .0) (walk .result) (walk .ensures) (c .before .before .before .before .before .walked .given .1)) in
     explored-closed (c₀ .args .signals) t (exploreKeys t (c₀ .args .signals)) (now (c₀ .args .rows)) (walk .last .1 .1 .1 .1 .1 .1 .1 .0) (now (c₀ .args .classes)) (c .classify .last .1 .1 .1 .0) ended (class-at t (keyOf (pack2 .result)) (pack2 .ensures .1) (wide16 .result) (wide16 .ensures .0) (ended .fit) (now (c₀ .args .classes)) (c .classify .last .1 .1 .1 .0) (c .classify .ensures)) (classes-length t (keyOf (pack2 .result)) (pack2 .ensures .1) (wide16 .result) (wide16 .ensures .0) (ended .fit) (now (c₀ .args .classes)) (c .classify .last .1 .1 .1 .0) (c .classify .ensures) (c₀ .pre .1))
 
@@ -78,7 +78,7 @@ explore-spec =
     tie.close
     (tie.spec
     width-requires
-    start-places-requires
+    start-profiles-requires
     pack-requires
     array-set-from-keys
     pack-requires-2

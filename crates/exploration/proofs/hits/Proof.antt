@@ -13,10 +13,10 @@ use Rattle.exploration.proofs.hits.Statement.{statement}
 use Rattle.exploration.proofs.hits.Tie as tie
 
 abbrev Inv-loop : tie.InvT-loop
-Inv-loop places held e from count word₀ i₀ word i = (i ≤ count) × Begun count (λ k. getD held (look places e (from + k)) false) i word
+Inv-loop profiles held e from count word₀ i₀ word i = (i ≤ count) × Begun count (λ k. getD held (look profiles e (from + k)) false) i word
 
 abbrev μ-loop : tie.MeasureT-loop
-μ-loop places held e from count word₀ i₀ word i = i
+μ-loop profiles held e from count word₀ i₀ word i = i
 
 loop-holds : tie.Need-loop-holds Inv-loop μ-loop
 loop-holds c = (omega arith, begun-none (c .args .count))
@@ -62,7 +62,7 @@ loop-again c =
 returns : tie.Need-returns Inv-loop μ-loop
 returns c =
     let c₀ = c .before .before in
-    hits-all (now (c₀ .args .places)) (now (c₀ .args .held)) (c₀ .args .e) (c₀ .args .from) (c₀ .args .count) (c .before .loop .inv .1) (omega arith)
+    hits-all (now (c₀ .args .profiles)) (now (c₀ .args .held)) (c₀ .args .e) (c₀ .args .from) (c₀ .args .count) (c .before .loop .inv .1) (omega arith)
 
 pub hits-spec : {M : Type 1} → statement M
 hits-spec =

@@ -5,7 +5,7 @@ use mathlib.Core.Path.{_∙_}
 use denote.Ref.{now}
 use borrow.Author.Tests.{not-true, not-false}
 use Rattle.exploration.specs.Arrays.{keyOf}
-use Rattle.exploration.proofs.Tables.{place-below, leads-out, leads-in}
+use Rattle.exploration.proofs.Tables.{profile-below, leads-out, leads-in}
 use Rattle.exploration.proofs.leads.Statement.{statement}
 use Rattle.exploration.proofs.leads.Tie as tie
 
@@ -20,7 +20,7 @@ returns c =
 label-of-requires : tie.Need-label-of-requires
 label-of-requires c κs =
     let c₀ = c .before .before in
-    place-below (c₀ .pre .0) (c₀ .args .p) (c₀ .pre .1 .1) (not-false _ (c .if1 .left))
+    profile-below (c₀ .pre .0) (c₀ .args .p) (c₀ .pre .1 .1) (not-false _ (c .if1 .left))
 
 mul-wide : tie.Need-mul-wide
 mul-wide c = search needs

@@ -12,10 +12,10 @@ use Rattle.exploration.proofs.walk.Statement.{statement}
 use Rattle.exploration.proofs.walk.Tie as tie
 
 abbrev Inv-loop : tie.InvT-loop
-Inv-loop places whole full n events keys₀ rows table₀ slots₀ count₀ i₀ keys table slots count i = Walking (tablesIn n places whole) events (exploreBelow (tablesIn n places whole) events) i count keys table slots
+Inv-loop profiles whole full n events keys₀ rows table₀ slots₀ count₀ i₀ keys table slots count i = Walking (tablesIn n profiles whole) events (exploreBelow (tablesIn n profiles whole) events) i count keys table slots
 
 abbrev μ-loop : tie.MeasureT-loop
-μ-loop places whole full n events keys₀ rows table₀ slots₀ count₀ i₀ keys table slots count i = 256 - i
+μ-loop profiles whole full n events keys₀ rows table₀ slots₀ count₀ i₀ keys table slots count i = 256 - i
 
 element-copy-out-first : tie.Need-element-copy-out-first Inv-loop μ-loop
 element-copy-out-first c = search needs
@@ -26,7 +26,7 @@ first-slots-requires c κs = search needs
 loop-holds : tie.Need-loop-holds Inv-loop μ-loop
 loop-holds c =
     let c₀ = c .before .before in
-    walking-none (tablesIn (c₀ .args .n) (now (c₀ .args .places)) (now (c₀ .args .whole))) (c₀ .args .events) (c₀ .pre .1 .1 .0 .1) (slotted-first (c .first-slots .ensures .0) (c .first-slots .ensures .1)) (c₀ .pre .1 .1 .0 .2) (c₀ .pre .1 .1 .1)
+    walking-none (tablesIn (c₀ .args .n) (now (c₀ .args .profiles)) (now (c₀ .args .whole))) (c₀ .args .events) (c₀ .pre .1 .1 .0 .1) (slotted-first (c .first-slots .ensures .0) (c .first-slots .ensures .1)) (c₀ .pre .1 .1 .0 .2) (c₀ .pre .1 .1 .1)
 
 mul-key : tie.Need-mul-key Inv-loop μ-loop
 mul-key c = omega (arith, c .before .loop .inv .fit .few)
@@ -50,7 +50,7 @@ returns : tie.Need-returns Inv-loop μ-loop
 returns c =
     let c₀ = c .before .before .before .before .before .before .before .before .before .before .before in
     let expand = c .before .before .expand in
-    (walking-over (tablesIn (c₀ .args .n) (now (c₀ .args .places)) (now (c₀ .args .whole))) (c₀ .args .events) (c .before .before .before .before .before .before .before .before .loop .inv) (c .before .before .before .before .before .before .before .loop-test .taken) (expand .last .1 .1 .1 .1 .1 .0) (expand .last .1 .1 .1 .1 .1 .1 .0) (expand .last .1 .1 .1 .1 .1 .1 .1 .1 .1 .0) (expand .result) (expand .ensures) (c .enum-told .given .1), refl)
+    (walking-over (tablesIn (c₀ .args .n) (now (c₀ .args .profiles)) (now (c₀ .args .whole))) (c₀ .args .events) (c .before .before .before .before .before .before .before .before .loop .inv) (c .before .before .before .before .before .before .before .loop-test .taken) (expand .last .1 .1 .1 .1 .1 .0) (expand .last .1 .1 .1 .1 .1 .1 .0) (expand .last .1 .1 .1 .1 .1 .1 .1 .1 .1 .0) (expand .result) (expand .ensures) (c .enum-told .given .1), refl)
 
 mul-table : tie.Need-mul-table Inv-loop μ-loop
 mul-table c = omega (arith, c .before .before .before .before .before .before .before .before .before .loop .inv .fit .few)
@@ -68,7 +68,7 @@ loop-again : tie.Need-loop-again Inv-loop μ-loop
 loop-again c =
     let c₀ = c .before .before .before .before .before .before .before .before .before .before .before .before in
     let expand = c .before .before .before .expand in
-    walking-more (tablesIn (c₀ .args .n) (now (c₀ .args .places)) (now (c₀ .args .whole))) (c₀ .args .events) (c .before .before .before .before .before .before .before .before .before .loop .inv) (c .before .before .before .before .before .before .before .before .loop-test .taken) (expand .last .1 .1 .1 .1 .1 .0) (expand .last .1 .1 .1 .1 .1 .1 .0) (expand .last .1 .1 .1 .1 .1 .1 .1 .1 .1 .0) (expand .result) (expand .ensures) (c .before .grown .given .1)
+    walking-more (tablesIn (c₀ .args .n) (now (c₀ .args .profiles)) (now (c₀ .args .whole))) (c₀ .args .events) (c .before .before .before .before .before .before .before .before .before .loop .inv) (c .before .before .before .before .before .before .before .before .loop-test .taken) (expand .last .1 .1 .1 .1 .1 .0) (expand .last .1 .1 .1 .1 .1 .1 .0) (expand .last .1 .1 .1 .1 .1 .1 .1 .1 .1 .0) (expand .result) (expand .ensures) (c .before .grown .given .1)
 
 cast-t34 : tie.Need-cast-t34 Inv-loop μ-loop
 cast-t34 c = omega (arith, c .before .loop .inv .fit .few)
@@ -76,7 +76,7 @@ cast-t34 c = omega (arith, c .before .loop .inv .fit .few)
 returns-2 : tie.Need-returns-2 Inv-loop μ-loop
 returns-2 c =
     let c₀ = c .before .before .before .before in
-    walking-all (tablesIn (c₀ .args .n) (now (c₀ .args .places)) (now (c₀ .args .whole))) (c₀ .args .events) (c .before .loop .inv) (c .loop-test .left)
+    walking-all (tablesIn (c₀ .args .n) (now (c₀ .args .profiles)) (now (c₀ .args .whole))) (c₀ .args .events) (c .before .loop .inv) (c .loop-test .left)
 
 pub walk-spec : {M : Type 1} → statement M
 walk-spec =

@@ -3,8 +3,8 @@ use native.Mathlib.Omega.{arith}
 use borrow.Author.Needs.{needs}
 use mathlib.Core.Path.{_∙_, ap}
 use denote.Ref.{now}
+use Rattle.meaning.specs.Traces.{firstEvents}
 use Rattle.moore.specs.Grouping.{rounds, grouping}
-use Rattle.grouping.specs.Machines.{firstEvents}
 use Rattle.grouping.proofs.Laws.{first-least}
 use Rattle.grouping.proofs.groups.Statement.{statement}
 use Rattle.grouping.proofs.groups.Tie as tie

@@ -4,9 +4,9 @@ use borrow.Author.Needs.{needs}
 use mathlib.Core.Path.{sym, _∙_}
 use Prim.Native.Nat.{_-_, _≤_}
 use denote.Ref.{now}
+use Rattle.meaning.specs.Traces.{firstEvents}
 use Rattle.sequences.proofs.Loops.{Missed, missed-more, missed-found, missed-end}
 use Rattle.moore.specs.Grouping.{sameStep}
-use Rattle.grouping.specs.Machines.{firstEvents}
 use Rattle.grouping.proofs.Laws.{missed-before}
 use Rattle.grouping.proofs.least_same.Statement.{statement}
 use Rattle.grouping.proofs.least_same.Tie as tie

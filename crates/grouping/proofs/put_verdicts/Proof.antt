@@ -6,8 +6,9 @@ use Prim.Native.Nat.{ℕ, _-_, _≤_}
 use mathlib.Core.List.{[]}
 use denote.Ref.{now}
 use lib.ListN.{getD}
+use Rattle.meaning.specs.Traces.{firstEvents}
 use Rattle.sequences.proofs.Loops.{Filled, filled-none, filled-more, filled-to}
-use Rattle.grouping.specs.Machines.{firstEvents, RowBelow, verdictAt}
+use Rattle.grouping.specs.Machines.{RowBelow, verdictAt}
 use Rattle.grouping.proofs.put_verdicts.Statement.{statement}
 use Rattle.grouping.proofs.put_verdicts.Tie as tie
 

@@ -3,8 +3,9 @@ use native.Mathlib.Omega.{arith}
 use borrow.Author.Needs.{needs}
 use Prim.Native.Nat.{_≤_}
 use denote.Ref.{now}
+use Rattle.meaning.specs.Traces.{firstEvents}
 use Rattle.moore.specs.Grouping.{Machine}
-use Rattle.grouping.specs.Machines.{firstEvents, ListBelow}
+use Rattle.grouping.specs.Machines.{ListBelow}
 use Rattle.grouping.proofs.Reductions.{machine-at, rows-in, group-least, leaders-in, leaders-fewer, reduction}
 use Rattle.grouping.proofs.reduce.Statement.{statement}
 use Rattle.grouping.proofs.reduce.Tie as tie

@@ -4,8 +4,9 @@ use borrow.Author.Needs.{needs}
 use mathlib.Core.Path.{_≡_, refl, sym, _∙_}
 use Prim.Native.Nat.{_-_, _≤_}
 use lib.ListN.{take}
+use Rattle.meaning.specs.Traces.{firstEvents}
 use Rattle.moore.specs.Grouping.{rounds}
-use Rattle.grouping.specs.Machines.{firstEvents, Least}
+use Rattle.grouping.specs.Machines.{Least}
 use Rattle.grouping.proofs.Laws.{rows-fewer, next-least}
 use Rattle.grouping.proofs.Front.{rounds-stop, rounds-step}
 use Rattle.grouping.proofs.refined.Statement.{statement}

@@ -2,10 +2,10 @@
 use native.Mathlib.Omega.{arith}
 use borrow.Author.Needs.{needs}
 use Prim.Native.Nat.{_+_, _-_, _≤_, _<_}
+use Rattle.meaning.specs.Traces.{firstEvents}
 use Rattle.sequences.specs.Tabulate.{leastBelow}
 use Rattle.sequences.proofs.Loops.{Filled, filled-none, filled-more}
 use Rattle.moore.specs.Grouping.{sameStep, nextGroups}
-use Rattle.grouping.specs.Machines.{firstEvents}
 use Rattle.grouping.specs.Slots.{Slotted}
 use Rattle.grouping.proofs.Laws.{filled-take, rows-fewer}
 use Rattle.grouping.proofs.Slots.{left-below, in-slot, slotted-none, slotted-more}

@@ -6,9 +6,9 @@ use borrow.Author.Tests.{not-true, not-false}
 use Prim.Native.Nat.{_-_, _≤_}
 use mathlib.Core.Bool.{true, false}
 use denote.Ref.{now}
+use Rattle.meaning.specs.Traces.{firstEvents}
 use Rattle.sequences.proofs.Loops.{Passed, passed-none, passed-more, passed-all, all-not}
 use Rattle.moore.specs.Grouping.{entry, together}
-use Rattle.grouping.specs.Machines.{firstEvents}
 use Rattle.grouping.proofs.Laws.{step-not, step-is}
 use Rattle.grouping.proofs.same_step.Statement.{statement}
 use Rattle.grouping.proofs.same_step.Tie as tie

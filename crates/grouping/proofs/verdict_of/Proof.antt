@@ -3,7 +3,7 @@ use borrow.Author.Needs.{needs}
 use mathlib.Core.Path.{sym, _∙_}
 use mathlib.Core.Bool.{true, false}
 use denote.Ref.{now}
-use Rattle.grouping.specs.Machines.{firstEvents}
+use Rattle.meaning.specs.Traces.{firstEvents}
 use Rattle.grouping.proofs.Laws.{verdict-of-class, verdict-of-none}
 use Rattle.grouping.proofs.verdict_of.Statement.{statement}
 use Rattle.grouping.proofs.verdict_of.Tie as tie

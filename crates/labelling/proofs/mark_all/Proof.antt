@@ -1,4 +1,4 @@
--- `labelling::mark_all` meets its contract. The loop's invariant: the places that the events passed hit are marked, and no others.
+-- `labelling::mark_all` meets its contract. The loop's invariant: the profiles that the events passed hit are marked, and no others.
 use native.Mathlib.Omega.{arith}
 use borrow.Author.Needs.{needs}
 use Prim.Native.Nat.{_-_, _≤_}
@@ -8,10 +8,10 @@ use Rattle.labelling.proofs.mark_all.Statement.{statement}
 use Rattle.labelling.proofs.mark_all.Tie as tie
 
 abbrev Inv-loop : tie.InvT-loop
-Inv-loop whole₀ places real events labels e₀ whole e = (e ≤ events) × AllMarked e labels places real whole
+Inv-loop whole₀ profiles real events labels e₀ whole e = (e ≤ events) × AllMarked e labels profiles real whole
 
 abbrev μ-loop : tie.MeasureT-loop
-μ-loop whole₀ places real events labels e₀ whole e = events - e
+μ-loop whole₀ profiles real events labels e₀ whole e = events - e
 
 loop-holds : tie.Need-loop-holds Inv-loop μ-loop
 loop-holds c = (omega arith, all-none)

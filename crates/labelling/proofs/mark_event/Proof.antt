@@ -1,4 +1,4 @@
--- `labelling::mark_event` meets its contract. The loop's invariant: the places that the labels passed hit are marked, besides those marked before.
+-- `labelling::mark_event` meets its contract. The loop's invariant: the profiles that the labels passed hit are marked, besides those marked before.
 use native.Mathlib.Omega.{arith}
 use borrow.Author.Needs.{needs}
 use Prim.Native.Nat.{_-_, _≤_}
@@ -9,10 +9,10 @@ use Rattle.labelling.proofs.mark_event.Statement.{statement}
 use Rattle.labelling.proofs.mark_event.Tie as tie
 
 abbrev Inv-loop : tie.InvT-loop
-Inv-loop whole₀ places real labels e y₀ whole y = (y ≤ labels) × Marked y (hits places real e) whole₀ whole
+Inv-loop whole₀ profiles real labels e y₀ whole y = (y ≤ labels) × Marked y (hits profiles real e) whole₀ whole
 
 abbrev μ-loop : tie.MeasureT-loop
-μ-loop whole₀ places real labels e y₀ whole y = labels - y
+μ-loop whole₀ profiles real labels e y₀ whole y = labels - y
 
 loop-holds : tie.Need-loop-holds Inv-loop μ-loop
 loop-holds c = (omega arith, marked-none (c .pre .1 .2))
@@ -45,7 +45,7 @@ loop-less : tie.Need-loop-less Inv-loop μ-loop
 loop-less c = search needs
 
 loop-again : tie.Need-loop-again Inv-loop μ-loop
-loop-again c = (omega arith, marked-more (now (c .before .before .before .before .before .before .args .places)) (now (c .before .before .before .before .before .before .args .real)) (c .before .before .before .before .before .before .args .e) (c .before .before .before .before .before .loop .inv .1) (c .before .before .wide .result) (c .before .before .wide .ensures .0) (c .before .before .wide .ensures .1))
+loop-again c = (omega arith, marked-more (now (c .before .before .before .before .before .before .args .profiles)) (now (c .before .before .before .before .before .before .args .real)) (c .before .before .before .before .before .before .args .e) (c .before .before .before .before .before .loop .inv .1) (c .before .before .wide .result) (c .before .before .wide .ensures .0) (c .before .before .wide .ensures .1))
 
 returns : tie.Need-returns Inv-loop μ-loop
 returns c = marked-to (c .before .loop .inv .1) (c .before .before .args .labels) (omega arith)

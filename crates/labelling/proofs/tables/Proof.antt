@@ -15,10 +15,10 @@ few-temporal : (c : tie.After-temporal-count) → c .temporal-count .result ≤ 
 few-temporal c = omega (arith, c .temporal-count .ensures, valuable (c .before) .temporal)
 
 -- as many events and labels as the arrays have room for
-sizes : (c : tie.After-power2) → (c .before .power .result ≤ 16) × (1 ≤ c .power2 .result) × (c .power2 .result ≤ 128)
+sizes : (c : tie.After-power) → (c .before .width .result ≤ 16) × (1 ≤ c .power .result) × (c .power .result ≤ 128)
 sizes c =
-    let w = within 4 (c .before .before .before .before .args .signals) (c .before .power .result) (c .before .power .ensures) (c .before .before .before .before .pre .0) in
-    let n = within 7 (c .before .before .temporal-count .result) (c .power2 .result) (c .power2 .ensures) (few-temporal (c .before .before)) in
+    let w = within 4 (c .before .before .before .before .args .signals) (c .before .width .result) (c .before .width .ensures .0) (c .before .before .before .before .pre .0) in
+    let n = within 7 (c .before .before .temporal-count .result) (c .power .result) (c .power .ensures .0) (few-temporal (c .before .before)) in
     (w .1, n .0, n .1)
 
 wide-requires : tie.Need-wide-requires
@@ -27,23 +27,23 @@ wide-requires c κs = search needs
 temporal-count-requires : tie.Need-temporal-count-requires
 temporal-count-requires c κs = valuable c
 
-power-requires : tie.Need-power-requires
-power-requires c κs = omega arith
+width-requires : tie.Need-width-requires
+width-requires c κs = omega arith
 
-power-requires-2 : tie.Need-power-requires-2
-power-requires-2 c κs = few-temporal (c .before)
+power-requires : tie.Need-power-requires
+power-requires c κs = few-temporal (c .before)
 
 value-tables-requires : tie.Need-value-tables-requires
 value-tables-requires c κs = let s = sizes (c .before .before) in (valuable (c .before .before .before .before .before), ((s .0, s .2), (c .before .before .before .before .before .before .pre .1 .1 .0, refl)))
 
 realizable-labels-requires : tie.Need-realizable-labels-requires
-realizable-labels-requires c κs = let s = sizes (c .before .before .before .before .before) in record { events = s .0; some = s .1; few = s .2; places-long = c .before .before .value-tables .ensures .0 .0; fairs-long = c .before .before .value-tables .ensures .1 .0 }
+realizable-labels-requires c κs = let s = sizes (c .before .before .before .before .before) in record { events = s .0; some = s .1; few = s .2; profiles-long = c .before .before .value-tables .ensures .0 .0; fairs-long = c .before .before .value-tables .ensures .1 .0 }
 
 mark-all-requires : tie.Need-mark-all-requires
 mark-all-requires c κs = let s = sizes (c .before .before .before .before .before .before .before .before .before) in ((s .2, s .0), (c .before .before .before .before .before .before .value-tables .ensures .0 .0, search needs, c .before .before .before .before .before .before .before .before .before .before .before .before .before .pre .1 .1 .1))
 
 returns : tie.Need-returns
-returns c = all-computed (c .before .before .before .before .before .before .before .before .before .before .before .before .before .before .args .signals) (c .before .before .before .before .before .before .before .before .before .before .before .before .before .before .args .count) (c .before .before .before .before .before .before .before .before .before .before .before .power .result) (c .before .before .before .before .before .before .before .before .before .before .power2 .result) (c .before .before .before .before .before .before .before .before .before .before .before .before .temporal-count .result) (c .before .before .before .before .before .before .before .before .before .before .before .before .before .wide .result) (c .before .before .before .before .before .before .before .before .before .before .before .before .before .before .args .nodes) (c .before .before .before .before .before .before .before .before .before .before .before .before .before .wide .ensures .0) (c .before .before .before .before .before .before .before .before .before .before .before .before .temporal-count .ensures) (c .before .before .before .before .before .before .before .before .before .before .power2 .ensures) (c .before .before .before .before .before .before .before .before .before .before .before .power .ensures) (c .before .before .before .before .before .before .before .before .before .before .before .before .before .before .pre .1 .0) (record { place = c .before .before .before .before .before .before .before .value-tables .ensures .0 .1; fair = c .before .before .before .before .before .before .before .value-tables .ensures .1 .1; labels = c .before .before .before .before .realizable-labels .ensures; marks = c .mark-all .ensures })
+returns c = all-computed (c .before .before .before .before .before .before .before .before .before .before .before .before .before .before .args .signals) (c .before .before .before .before .before .before .before .before .before .before .before .before .before .before .args .count) (c .before .before .before .before .before .before .before .before .before .before .before .width .result) (c .before .before .before .before .before .before .before .before .before .before .power .result) (c .before .before .before .before .before .before .before .before .before .before .before .before .temporal-count .result) (c .before .before .before .before .before .before .before .before .before .before .before .before .before .wide .result) (c .before .before .before .before .before .before .before .before .before .before .before .before .before .before .args .nodes) (c .before .before .before .before .before .before .before .before .before .before .before .before .before .wide .ensures .0) (c .before .before .before .before .before .before .before .before .before .before .before .before .temporal-count .ensures) (c .before .before .before .before .before .before .before .before .before .before .power .ensures .0) (c .before .before .before .before .before .before .before .before .before .before .before .width .ensures .0) (c .before .before .before .before .before .before .before .before .before .before .before .before .before .before .pre .1 .0) (record { profile = c .before .before .before .before .before .before .before .value-tables .ensures .0 .1; fair = c .before .before .before .before .before .before .before .value-tables .ensures .1 .1; labels = c .before .before .before .before .realizable-labels .ensures; marks = c .mark-all .ensures })
 
 pub tables-spec : {M : Type 1} → statement M
 tables-spec =
@@ -51,8 +51,8 @@ tables-spec =
     (tie.spec
     wide-requires
     temporal-count-requires
+    width-requires
     power-requires
-    power-requires-2
     value-tables-requires
     realizable-labels-requires
     mark-all-requires

@@ -12,10 +12,10 @@ use Rattle.realizability.proofs.core_in.Statement.{statement}
 use Rattle.realizability.proofs.core_in.Tie as tie
 
 abbrev Inv-loop : tie.InvT-loop
-Inv-loop rows parts sets m labels core₀ c₀ core c = (c ≤ labels) × (length core ≡ 128) × Entries c (coreIn m (entry rows) parts sets) false core
+Inv-loop rows components sets m labels core₀ c₀ core c = (c ≤ labels) × (length core ≡ 128) × Entries c (coreIn m (entry rows) components sets) false core
 
 abbrev μ-loop : tie.MeasureT-loop
-μ-loop rows parts sets m labels core₀ c₀ core c = labels - c
+μ-loop rows components sets m labels core₀ c₀ core c = labels - c
 
 loop-holds : tie.Need-loop-holds Inv-loop μ-loop
 loop-holds c = (omega arith, refl, entries-none)

@@ -7,10 +7,10 @@ use Rattle.realizability.proofs.edge_rows.Statement.{statement}
 use Rattle.realizability.proofs.edge_rows.Tie as tie
 
 abbrev Inv-loop : tie.InvT-loop
-Inv-loop events labels places rows₀ e₀ rows e = (e ≤ events) × Edges e labels places rows
+Inv-loop events labels profiles rows₀ e₀ rows e = (e ≤ events) × Edges e labels profiles rows
 
 abbrev μ-loop : tie.MeasureT-loop
-μ-loop events labels places rows₀ e₀ rows e = events - e
+μ-loop events labels profiles rows₀ e₀ rows e = events - e
 
 loop-holds : tie.Need-loop-holds Inv-loop μ-loop
 loop-holds c = (omega arith, edges-none (c .before .pre .0 .2))

@@ -1,4 +1,4 @@
--- `realizability::first_both` meets its contract. The loop's invariant: no label passed is in the part of c.
+-- `realizability::first_both` meets its contract. The loop's invariant: no label passed is in the component of c.
 use native.Mathlib.Omega.{arith}
 use borrow.Author.Needs.{needs}
 use mathlib.Core.Path.{sym, _∙_}

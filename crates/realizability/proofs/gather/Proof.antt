@@ -1,24 +1,24 @@
--- `realizability::gather` meets its contract. The loop's invariant: each part has the sets of the events passed.
+-- `realizability::gather` meets its contract. The loop's invariant: each component has the sets of the events passed.
 use native.Mathlib.Omega.{arith}
 use borrow.Author.Needs.{needs}
 use Prim.Native.Nat.{_-_, _≤_}
 use Rattle.ltl.specs.Keys.{look}
 use Rattle.realizability.proofs.Gathers.{all-none, all-more, all-to}
-use Rattle.realizability.specs.Relations.{labelAt, withinPart, AllGathered}
+use Rattle.realizability.specs.Relations.{labelAt, withinComponent, AllGathered}
 use Rattle.realizability.proofs.gather.Statement.{statement}
 use Rattle.realizability.proofs.gather.Tie as tie
 
 abbrev Inv-loop : tie.InvT-loop
-Inv-loop parts places fairs events labels sets₀ e₀ sets e = (e ≤ events) × AllGathered e labels (withinPart parts (labelAt labels places) (look fairs)) sets
+Inv-loop components profiles fairs events labels sets₀ e₀ sets e = (e ≤ events) × AllGathered e labels (withinComponent components (labelAt labels profiles) (look fairs)) sets
 
 abbrev μ-loop : tie.MeasureT-loop
-μ-loop parts places fairs events labels sets₀ e₀ sets e = events - e
+μ-loop components profiles fairs events labels sets₀ e₀ sets e = events - e
 
 loop-holds : tie.Need-loop-holds Inv-loop μ-loop
 loop-holds c = (omega arith, all-none (c .before .pre .0 .few))
 
 gather-event-requires : tie.Need-gather-event-requires Inv-loop μ-loop
-gather-event-requires c κs = (record { events = search needs; some = c .before .before .before .before .pre .0 .some; few = c .before .before .before .before .pre .0 .few; places-long = c .before .before .before .before .pre .0 .places-long; fairs-long = c .before .before .before .before .pre .0 .fairs-long }, (c .before .before .before .before .pre .1 .0, c .before .before .loop .inv .1 .long, c .before .before .before .before .pre .1 .1))
+gather-event-requires c κs = (record { events = search needs; some = c .before .before .before .before .pre .0 .some; few = c .before .before .before .before .pre .0 .few; profiles-long = c .before .before .before .before .pre .0 .profiles-long; fairs-long = c .before .before .before .before .pre .0 .fairs-long }, (c .before .before .before .before .pre .1 .0, c .before .before .loop .inv .1 .long, c .before .before .before .before .pre .1 .1))
 
 add-e : tie.Need-add-e Inv-loop μ-loop
 add-e c = search needs

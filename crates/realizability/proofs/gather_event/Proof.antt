@@ -1,4 +1,4 @@
--- `realizability::gather_event` meets its contract. The loop's invariant: each part has the sets of the labels passed, besides those it had.
+-- `realizability::gather_event` meets its contract. The loop's invariant: each component has the sets of the labels passed, besides those it had.
 use native.Mathlib.Omega.{arith}
 use borrow.Author.Needs.{needs}
 use mathlib.Core.Path.{refl, ap, _∙_}
@@ -8,15 +8,15 @@ use lib.ListN.{getD}
 use lib.Dec.{eqb}
 use Rattle.ltl.specs.Keys.{look}
 use Rattle.realizability.proofs.Gathers.{gathered-none, gathered-more, gathered-to}
-use Rattle.realizability.specs.Relations.{labelAt, onlyIf, withinPart, Gathered}
+use Rattle.realizability.specs.Relations.{labelAt, onlyIf, withinComponent, Gathered}
 use Rattle.realizability.proofs.gather_event.Statement.{statement}
 use Rattle.realizability.proofs.gather_event.Tie as tie
 
 abbrev Inv-loop : tie.InvT-loop
-Inv-loop parts places fairs labels e sets₀ y₀ sets y = (y ≤ labels) × Gathered y labels (withinPart parts (labelAt labels places) (look fairs) e) sets₀ sets
+Inv-loop components profiles fairs labels e sets₀ y₀ sets y = (y ≤ labels) × Gathered y labels (withinComponent components (labelAt labels profiles) (look fairs) e) sets₀ sets
 
 abbrev μ-loop : tie.MeasureT-loop
-μ-loop parts places fairs labels e sets₀ y₀ sets y = labels - y
+μ-loop components profiles fairs labels e sets₀ y₀ sets y = labels - y
 
 loop-holds : tie.Need-loop-holds Inv-loop μ-loop
 loop-holds c = (omega arith, gathered-none (c .pre .1 .1))
@@ -70,7 +70,7 @@ loop-less : tie.Need-loop-less Inv-loop μ-loop
 loop-less c = search needs
 
 loop-again : tie.Need-loop-again Inv-loop μ-loop
-loop-again c = (omega arith, gathered-more (now (c .before .before .before .before .before .before .before .before .before .args .parts)) (labelAt (c .before .before .before .before .before .before .before .before .before .args .labels) (now (c .before .before .before .before .before .before .before .before .before .args .places))) (look (now (c .before .before .before .before .before .before .before .before .before .args .fairs))) (c .before .before .before .before .before .before .before .before .before .args .e) (c .before .before .before .before .before .before .before .before .loop .inv .1) (c .before .before .before .before .before .before .before .before .before .pre .0 .few) (getD (now (c .before .before .before .before .before .before .before .before .before .args .parts)) (c .before .before .before .before .before .before .before .before .loop .y) 0) (c .before .fair-if .result) refl (c .before .before .before .before .before .before .before .before .before .pre .1 .2 .is (c .before .before .before .before .before .before .before .before .loop .y) (c .before .before .before .before .before .before .before .loop-test .taken)) (c .before .fair-if .ensures ∙ ap (λ (x : ℕ). onlyIf (eqb (getD (now (c .before .before .before .before .before .before .before .before .before .args .parts)) x 0) (getD (now (c .before .before .before .before .before .before .before .before .before .args .parts)) (c .before .before .before .before .before .before .before .before .loop .y) 0)) (look (now (c .before .before .before .before .before .before .before .before .before .args .fairs)) (c .before .before .before .before .before .before .before .before .before .args .e) (c .before .before .before .before .before .before .before .before .loop .y))) (c .before .before .before .before .before .label-in .ensures .0)))
+loop-again c = (omega arith, gathered-more (now (c .before .before .before .before .before .before .before .before .before .args .components)) (labelAt (c .before .before .before .before .before .before .before .before .before .args .labels) (now (c .before .before .before .before .before .before .before .before .before .args .profiles))) (look (now (c .before .before .before .before .before .before .before .before .before .args .fairs))) (c .before .before .before .before .before .before .before .before .before .args .e) (c .before .before .before .before .before .before .before .before .loop .inv .1) (c .before .before .before .before .before .before .before .before .before .pre .0 .few) (getD (now (c .before .before .before .before .before .before .before .before .before .args .components)) (c .before .before .before .before .before .before .before .before .loop .y) 0) (c .before .fair-if .result) refl (c .before .before .before .before .before .before .before .before .before .pre .1 .2 .is (c .before .before .before .before .before .before .before .before .loop .y) (c .before .before .before .before .before .before .before .loop-test .taken)) (c .before .fair-if .ensures ∙ ap (λ (x : ℕ). onlyIf (eqb (getD (now (c .before .before .before .before .before .before .before .before .before .args .components)) x 0) (getD (now (c .before .before .before .before .before .before .before .before .before .args .components)) (c .before .before .before .before .before .before .before .before .loop .y) 0)) (look (now (c .before .before .before .before .before .before .before .before .before .args .fairs)) (c .before .before .before .before .before .before .before .before .before .args .e) (c .before .before .before .before .before .before .before .before .loop .y))) (c .before .before .before .before .before .label-in .ensures .0)))
 
 returns : tie.Need-returns Inv-loop μ-loop
 returns c = gathered-to (c .before .loop .inv .1) (c .before .before .args .labels) (omega arith)

@@ -23,10 +23,10 @@ all-of-requires : tie.Need-all-of-requires
 all-of-requires c κs = search needs
 
 returns : tie.Need-returns
-returns c = c .all-of .ensures ∙ core-round (entry (now (c .before .before .before .before .before .args .rows))) (now (c .before .before .before .before .before .args .parts)) (now (c .before .before .before .before .before .args .sets)) (c .before .before .before .before .before .args .m) (c .before .before .before .before .before .args .c) (sym (c .before .before .before .before .has .ensures) ∙ c .before .before .before .if1 .taken)
+returns c = c .all-of .ensures ∙ core-round (entry (now (c .before .before .before .before .before .args .rows))) (now (c .before .before .before .before .before .args .components)) (now (c .before .before .before .before .before .args .sets)) (c .before .before .before .before .before .args .m) (c .before .before .before .before .before .args .c) (sym (c .before .before .before .before .has .ensures) ∙ c .before .before .before .if1 .taken)
 
 returns-2 : tie.Need-returns-2
-returns-2 c = core-not (entry (now (c .before .before .args .rows))) (now (c .before .before .args .parts)) (now (c .before .before .args .sets)) (c .before .before .args .m) (c .before .before .args .c) (sym (c .before .has .ensures) ∙ c .if1 .left)
+returns-2 c = core-not (entry (now (c .before .before .args .rows))) (now (c .before .before .args .components)) (now (c .before .before .args .sets)) (c .before .before .args .m) (c .before .before .args .c) (sym (c .before .has .ensures) ∙ c .if1 .left)
 
 pub is-core-spec : {M : Type 1} → statement M
 is-core-spec =

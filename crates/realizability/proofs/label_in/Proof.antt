@@ -1,4 +1,4 @@
--- `realizability::label_in` meets its contract. The label is the place, or the place less the labels, or the remainder.
+-- `realizability::label_in` meets its contract. The label is the profile, or the profile less the labels, or the remainder.
 use native.Mathlib.Omega.{arith}
 use borrow.Author.Needs.{needs}
 use mathlib.Core.Path.{sym, ap, _∙_}

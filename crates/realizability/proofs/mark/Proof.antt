@@ -3,7 +3,7 @@ use native.Mathlib.Omega.{arith}
 use borrow.Author.Needs.{needs}
 use Prim.Native.Nat.{_%_}
 use denote.Ref.{now}
-use Rattle.valuation.proofs.Numbers.{shift-one}
+use Rattle.events.proofs.Powers.{shift-one}
 use Rattle.realizability.proofs.Words.{marked-at}
 use Rattle.realizability.proofs.mark.Statement.{statement}
 use Rattle.realizability.proofs.mark.Tie as tie

@@ -10,10 +10,10 @@ use Rattle.realizability.proofs.mark_event.Statement.{statement}
 use Rattle.realizability.proofs.mark_event.Tie as tie
 
 abbrev Inv-loop : tie.InvT-loop
-Inv-loop rows₀ places labels e y₀ rows y = (y ≤ labels) × Added y labels (λ x y. eqb (labelAt labels places e y) x) rows₀ rows
+Inv-loop rows₀ profiles labels e y₀ rows y = (y ≤ labels) × Added y labels (λ x y. eqb (labelAt labels profiles e y) x) rows₀ rows
 
 abbrev μ-loop : tie.MeasureT-loop
-μ-loop rows₀ places labels e y₀ rows y = labels - y
+μ-loop rows₀ profiles labels e y₀ rows y = labels - y
 
 loop-holds : tie.Need-loop-holds Inv-loop μ-loop
 loop-holds c = (omega arith, added-none (c .pre .1 .1))
@@ -40,7 +40,7 @@ loop-less : tie.Need-loop-less Inv-loop μ-loop
 loop-less c = search needs
 
 loop-again : tie.Need-loop-again Inv-loop μ-loop
-loop-again c = (omega arith, added-more (λ y. labelAt (c .before .before .before .before .before .before .args .labels) (now (c .before .before .before .before .before .before .args .places)) (c .before .before .before .before .before .before .args .e) y) (c .before .before .before .before .before .loop .inv .1) (c .before .before .before .before .before .before .pre .0 .2) (c .before .before .label-in .result) (c .before .before .label-in .ensures .0) _ (c .mark .ensures))
+loop-again c = (omega arith, added-more (λ y. labelAt (c .before .before .before .before .before .before .args .labels) (now (c .before .before .before .before .before .before .args .profiles)) (c .before .before .before .before .before .before .args .e) y) (c .before .before .before .before .before .loop .inv .1) (c .before .before .before .before .before .before .pre .0 .2) (c .before .before .label-in .result) (c .before .before .label-in .ensures .0) _ (c .mark .ensures))
 
 returns : tie.Need-returns Inv-loop μ-loop
 returns c = added-to (c .before .loop .inv .1) (c .before .before .args .labels) (omega arith)

@@ -11,14 +11,23 @@ returns c = ranges-signal (c .before .before .args .signals) (c .before .before 
 returns-2 : tie.Need-returns-2
 returns-2 c = ranges-other (c .before .before .args .signals) (c .before .before .args .node) (c .before .if1 .left) (c .if2 .taken)
 
-masks-requires : tie.Need-masks-requires
-masks-requires c κs = search needs
+width-requires : tie.Need-width-requires
+width-requires c κs = search needs
+
+wide-requires : tie.Need-wide-requires
+wide-requires c κs = search needs
 
 returns-3 : tie.Need-returns-3
-returns-3 c = ranges-mask (c .before .before .before .before .before .args .signals) (c .before .before .before .before .before .args .node) (c .before .before .before .if2 .left) (omega (arith, c .if3 .taken, c .before .before .masks .ensures))
+returns-3 c =
+    let start = c .before .before .before .before .before in
+    ranges-mask (start .args .signals) (start .args .node) (c .before .before .before .if2 .left)
+    (omega (arith, c .if3 .taken, c .before .wide .ensures, c .before .before .width .ensures))
 
 returns-4 : tie.Need-returns-4
-returns-4 c = ranges-count (c .before .before .before .before .before .before .args .signals) (c .before .before .before .before .before .before .args .node) (c .before .before .before .before .if2 .left) (omega (arith, c .before .if3 .left, c .before .before .before .masks .ensures))
+returns-4 c =
+    let start = c .before .before .before .before .before .before in
+    ranges-count (start .args .signals) (start .args .node) (c .before .before .before .before .if2 .left)
+    (omega (arith, c .before .if3 .left, c .before .before .wide .ensures, c .before .before .before .width .ensures))
 
 pub out-of-range-spec : {M : Type 1} → statement M
-out-of-range-spec = tie.close (tie.spec returns returns-2 masks-requires returns-3 returns-4)
+out-of-range-spec = tie.close (tie.spec returns returns-2 width-requires wide-requires returns-3 returns-4)

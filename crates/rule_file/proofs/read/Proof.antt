@@ -5,9 +5,9 @@ use denote.Ref.{now}
 use mathlib.Core.Path.{sym, ap, _∙_}
 use mathlib.Core.Bool.{cond}
 use Prim.Native.Nat.{_-_}
-use Rattle.meaning.specs.declared.Opening.{Opening}
+use Rattle.meaning.specs.declared.HeaderReading.{HeaderReading}
 use Rattle.meaning.specs.declared.Reading.{Reading}
-use Rattle.rule_file.specs.Reading.{readOf, handedOnOpening, handedOn}
+use Rattle.rule_file.specs.Reading.{readOf, handedOnHeader, handedOn}
 use Rattle.rule_file.specs.declared.Shape.{Shape}
 use Rattle.rule_file.proofs.Records.{header-few, node-kind}
 use Rattle.rule_file.proofs.Nodes.{Progress, judged, judged-refused, progress-none, progress-more, progress-refused, progress-over, progress-accepted}
@@ -23,23 +23,23 @@ abbrev μ-loop : tie.MeasureT-loop
 read-header-requires : tie.Need-read-header-requires Inv-loop μ-loop
 read-header-requires c κs = search needs
 
-enum-known-opening : tie.Need-enum-known-opening Inv-loop μ-loop
-enum-known-opening c = search needs
+enum-known-first : tie.Need-enum-known-first Inv-loop μ-loop
+enum-known-first c = search needs
 
 enum-told : tie.Need-enum-told Inv-loop μ-loop
 enum-told c = search needs
 
-handed-on-opening-requires : tie.Need-handed-on-opening-requires Inv-loop μ-loop
-handed-on-opening-requires c κs = search needs
+handed-on-header-requires : tie.Need-handed-on-header-requires Inv-loop μ-loop
+handed-on-header-requires c κs = search needs
 
 returns : tie.Need-returns Inv-loop μ-loop
-returns c = c .handed-on-opening .ensures ∙ ap (λ (o : Opening). readOf (handedOnOpening o)) (c .before .enum-told .given .1) ∙ sym (ap readOf (judged-refused (now (c .before .before .before .before .before .args .bytes)) _ (sym (c .before .before .before .read-header .ensures) ∙ c .before .enum-told .given .1)))
+returns c = c .handed-on-header .ensures ∙ ap (λ (o : HeaderReading). readOf (handedOnHeader o)) (c .before .enum-told .given .1) ∙ sym (ap readOf (judged-refused (now (c .before .before .before .before .before .args .bytes)) _ (sym (c .before .before .before .read-header .ensures) ∙ c .before .enum-told .given .1)))
 
 blanks-requires : tie.Need-blanks-requires Inv-loop μ-loop
 blanks-requires c κs = search needs
 
 loop-holds : tie.Need-loop-holds Inv-loop μ-loop
-loop-holds c = let few = header-few (now (c .before .before .before .before .before .before .args .bytes)) _ (sym (c .before .before .before .before .read-header .ensures) ∙ c .before .before .opening .given .1) in progress-none (few .0) (few .1) (c .blanks .ensures)
+loop-holds c = let few = header-few (now (c .before .before .before .before .before .before .args .bytes)) _ (sym (c .before .before .before .before .read-header .ensures) ∙ c .before .before .first .given .1) in progress-none (few .0) (few .1) (c .blanks .ensures)
 
 read-node-requires : tie.Need-read-node-requires Inv-loop μ-loop
 read-node-requires c κs = omega (arith, c .before .loop .inv .signals, c .before .loop .inv .near, c .before .loop .inv .within, c .before .loop .inv .room)
@@ -54,7 +54,7 @@ handed-on-requires : tie.Need-handed-on-requires Inv-loop μ-loop
 handed-on-requires c κs = search needs
 
 returns-2 : tie.Need-returns-2 Inv-loop μ-loop
-returns-2 c = c .handed-on .ensures ∙ ap (λ (r : Reading). readOf (handedOn r)) (c .before .enum-told2 .given .1) ∙ sym (ap readOf (judged (now (c .before .before .before .before .before .before .before .before .before .before .before .before .args .bytes)) _ (sym (c .before .before .before .before .before .before .before .before .before .before .read-header .ensures) ∙ c .before .before .before .before .before .before .before .before .opening .given .1) ∙ progress-refused (c .before .before .before .before .before .loop .inv) _ (c .before .before .before .before .loop-test .taken) (sym (c .before .before .before .read-node .ensures) ∙ c .before .enum-told2 .given .1)))
+returns-2 c = c .handed-on .ensures ∙ ap (λ (r : Reading). readOf (handedOn r)) (c .before .enum-told2 .given .1) ∙ sym (ap readOf (judged (now (c .before .before .before .before .before .before .before .before .before .before .before .before .args .bytes)) _ (sym (c .before .before .before .before .before .before .before .before .before .before .read-header .ensures) ∙ c .before .before .before .before .before .before .before .before .first .given .1) ∙ progress-refused (c .before .before .before .before .before .loop .inv) _ (c .before .before .before .before .loop-test .taken) (sym (c .before .before .before .read-node .ensures) ∙ c .before .enum-told2 .given .1)))
 
 shape-of-requires : tie.Need-shape-of-requires Inv-loop μ-loop
 shape-of-requires c κs = node-kind (now (c .before .before .before .before .before .before .before .before .before .before .before .before .args .bytes)) _ (c .before .before .before .before .before .loop .p) (c .before .before .before .before .before .loop .i) (c .before .before .before .before .before .loop .seen) _ (sym (c .before .before .before .read-node .ensures) ∙ c .before .reading .given .1)
@@ -96,10 +96,10 @@ refused-requires : tie.Need-refused-requires Inv-loop μ-loop
 refused-requires c κs = search needs
 
 returns-3 : tie.Need-returns-3 Inv-loop μ-loop
-returns-3 c = c .refused .ensures ∙ sym (ap readOf (judged (now (c .before .before .before .before .before .before .before .before .before .before .args .bytes)) _ (sym (c .before .before .before .before .before .before .before .before .read-header .ensures) ∙ c .before .before .before .before .before .before .opening .given .1) ∙ progress-over (c .before .before .before .loop .inv) (c .before .before .loop-test .left) (c .before .if1 .taken)))
+returns-3 c = c .refused .ensures ∙ sym (ap readOf (judged (now (c .before .before .before .before .before .before .before .before .before .before .args .bytes)) _ (sym (c .before .before .before .before .before .before .before .before .read-header .ensures) ∙ c .before .before .before .before .before .before .first .given .1) ∙ progress-over (c .before .before .before .loop .inv) (c .before .before .loop-test .left) (c .before .if1 .taken)))
 
 returns-4 : tie.Need-returns-4 Inv-loop μ-loop
-returns-4 c = progress-accepted (c .before .before .loop .inv) (c .before .loop-test .left) (c .if1 .left) ∙ sym (ap readOf (judged (now (c .before .before .before .before .before .before .before .before .before .args .bytes)) _ (sym (c .before .before .before .before .before .before .before .read-header .ensures) ∙ c .before .before .before .before .before .opening .given .1)))
+returns-4 c = progress-accepted (c .before .before .loop .inv) (c .before .loop-test .left) (c .if1 .left) ∙ sym (ap readOf (judged (now (c .before .before .before .before .before .before .before .before .before .args .bytes)) _ (sym (c .before .before .before .before .before .before .before .read-header .ensures) ∙ c .before .before .before .before .before .first .given .1)))
 
 pub read-spec : {M : Type 1} → statement M
 read-spec =
@@ -108,9 +108,9 @@ read-spec =
     Inv-loop
     μ-loop
     read-header-requires
-    enum-known-opening
+    enum-known-first
     enum-told
-    handed-on-opening-requires
+    handed-on-header-requires
     returns
     blanks-requires
     loop-holds

@@ -9,7 +9,7 @@ use lib.ListN.{getD}
 use borrow.Author.Tests.{eq-eqb, ne-eqb}
 use Rattle.meaning.specs.Bytes.{u16At}
 use Rattle.meaning.specs.declared.Refusal.{Refusal}
-use Rattle.meaning.specs.declared.Opening.the-variants as Opening
+use Rattle.meaning.specs.declared.HeaderReading.the-variants as HeaderReading
 use Rattle.rule_file.specs.Reading.{refusalIn}
 use Rattle.rule_file.proofs.Checks.{Cleared, cleared-more}
 use Rattle.rule_file.proofs.Fits.{between, below, above}
@@ -59,7 +59,7 @@ refusal-in-requires : tie.Need-refusal-in-requires
 refusal-in-requires c κs = search needs
 
 returns : tie.Need-returns
-returns c = ap Opening.Refused (c .refusal-in .ensures ∙ ap refusalIn (c .before .enum-told .given .1)) ∙ header-framed (now (c .before .before .before .before .before .args .b)) _ (sym (c .before .before .before .frame .ensures) ∙ c .before .enum-told .given .1)
+returns c = ap HeaderReading.Refused (c .refusal-in .ensures ∙ ap refusalIn (c .before .enum-told .given .1)) ∙ header-framed (now (c .before .before .before .before .before .args .b)) _ (sym (c .before .before .before .frame .ensures) ∙ c .before .enum-told .given .1)
 
 returns-2 : tie.Need-returns-2
 returns-2 c = header-refused (now (c .before .before .before .before .before .before .args .b)) (cleared-3 (c .before)) (ap not (ne-eqb (u16At (now (c .before .before .before .before .before .before .args .b)) 2) 256 (λ h. c .if1 .taken (framed (c .before) .kind-is ∙ h))))

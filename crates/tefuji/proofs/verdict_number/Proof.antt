@@ -2,7 +2,7 @@
 use mathlib.Core.Path.{sym, ap}
 use native.Mathlib.Omega.{arith}
 use borrow.Author.Needs.{needs}
-use Rattle.tefuji.specs.Codes.{verdictNumber}
+use Rattle.meaning.specs.TableFiles.{verdictNumber}
 use Rattle.tefuji.proofs.verdict_number.Statement.{statement}
 use Rattle.tefuji.proofs.verdict_number.Tie as tie
 

@@ -1,19 +1,19 @@
 -- `valuation::fill_half` meets its contract. The loop's invariant: the entries below y are the bytes of the columns.
 use native.Mathlib.Omega.{arith}
 use borrow.Author.Needs.{needs}
-use Rattle.valuation.proofs.Prefixes.{Fills, fills-none, fills-more, fills-to, place-size, fairs-size}
+use Rattle.valuation.proofs.Prefixes.{Fills, fills-none, fills-more, fills-to, profile-size, fairs-size}
 use mathlib.Core.Path.{_≡_}
 use Prim.Native.Nat.{_-_, _≤_}
 use lib.ListN.{length, length-set}
-use Rattle.valuation.specs.Valued.{placeAt, fairsAt}
+use Rattle.valuation.specs.Valued.{profileAt, fairsAt}
 use Rattle.valuation.proofs.fill_half.Statement.{statement}
 use Rattle.valuation.proofs.fill_half.Tie as tie
 
 abbrev Inv-loop : tie.InvT-loop
-Inv-loop event high from to count places₀ fairs₀ p f y₀ places fairs y = (from ≤ y) × (y ≤ to) × (length places ≡ 128) × (length fairs ≡ 128) × Fills high from y p places₀ places × Fills high from y f fairs₀ fairs
+Inv-loop event high from to count profiles₀ fairs₀ p f y₀ profiles fairs y = (from ≤ y) × (y ≤ to) × (length profiles ≡ 128) × (length fairs ≡ 128) × Fills high from y p profiles₀ profiles × Fills high from y f fairs₀ fairs
 
 abbrev μ-loop : tie.MeasureT-loop
-μ-loop event high from to count places₀ fairs₀ p f y₀ places fairs y = to - y
+μ-loop event high from to count profiles₀ fairs₀ p f y₀ profiles fairs y = to - y
 
 value-nodes-requires : tie.Need-value-nodes-requires Inv-loop μ-loop
 value-nodes-requires c κs = c .pre .0
@@ -30,8 +30,8 @@ cast-l c = search needs
 byte-at-requires : tie.Need-byte-at-requires Inv-loop μ-loop
 byte-at-requires c κs = search needs
 
-element-write-places : tie.Need-element-write-places Inv-loop μ-loop
-element-write-places c = search needs
+element-write-profiles : tie.Need-element-write-profiles Inv-loop μ-loop
+element-write-profiles c = search needs
 
 byte-at-requires-2 : tie.Need-byte-at-requires-2 Inv-loop μ-loop
 byte-at-requires-2 c κs = search needs
@@ -49,7 +49,7 @@ loop-again : tie.Need-loop-again Inv-loop μ-loop
 loop-again c = (omega arith, omega arith, simp length-set (c .before .before .before .before .before .loop .inv .2), simp length-set (c .before .before .before .before .before .loop .inv .3), fills-more (c .before .before .before .before .before .loop .inv .4) _ (c .before .before .byte-at .ensures) (c .before .before .before .before .before .before .before .before .before .pre .1 .0 .0) (c .before .before .before .before .before .loop .inv .0) (omega arith) (omega arith), fills-more (c .before .before .before .before .before .loop .inv .5) _ (c .byte-at2 .ensures) (c .before .before .before .before .before .before .before .before .before .pre .1 .0 .0) (c .before .before .before .before .before .loop .inv .0) (omega arith) (omega arith))
 
 returns : tie.Need-returns Inv-loop μ-loop
-returns c = let z : c .before .loop .y ≡ c .before .before .before .before .before .args .to = omega arith in ((c .before .loop .inv .2, fills-to (c .before .loop .inv .4) (placeAt (c .before .before .before .before .before .args .count) (c .before .before .before .before .before .args .nodes) (c .before .before .before .before .before .args .event)) (λ z. place-size (c .before .before .before .before .before .pre .0) (c .before .before .before .before .before .args .event) z) (c .before .before .before .before .value-nodes .ensures .1 .0) (c .before .before .before .before .before .pre .1 .1 .0 .1) (c .before .before .before .before .before .args .to) z), (c .before .loop .inv .3, fills-to (c .before .loop .inv .5) (fairsAt (c .before .before .before .before .before .args .count) (c .before .before .before .before .before .args .nodes) (c .before .before .before .before .before .args .event)) (λ z. fairs-size (c .before .before .before .before .before .pre .0) (c .before .before .before .before .before .args .event) z) (c .before .before .before .before .value-nodes .ensures .1 .1) (c .before .before .before .before .before .pre .1 .1 .1 .1) (c .before .before .before .before .before .args .to) z))
+returns c = let z : c .before .loop .y ≡ c .before .before .before .before .before .args .to = omega arith in ((c .before .loop .inv .2, fills-to (c .before .loop .inv .4) (profileAt (c .before .before .before .before .before .args .count) (c .before .before .before .before .before .args .nodes) (c .before .before .before .before .before .args .event)) (λ z. profile-size (c .before .before .before .before .before .pre .0) (c .before .before .before .before .before .args .event) z) (c .before .before .before .before .value-nodes .ensures .1 .0) (c .before .before .before .before .before .pre .1 .1 .0 .1) (c .before .before .before .before .before .args .to) z), (c .before .loop .inv .3, fills-to (c .before .loop .inv .5) (fairsAt (c .before .before .before .before .before .args .count) (c .before .before .before .before .before .args .nodes) (c .before .before .before .before .before .args .event)) (λ z. fairs-size (c .before .before .before .before .before .pre .0) (c .before .before .before .before .before .args .event) z) (c .before .before .before .before .value-nodes .ensures .1 .1) (c .before .before .before .before .before .pre .1 .1 .1 .1) (c .before .before .before .before .before .args .to) z))
 
 pub fill-half-spec : {M : Type 1} → statement M
 fill-half-spec =
@@ -62,7 +62,7 @@ fill-half-spec =
     sub-l
     cast-l
     byte-at-requires
-    element-write-places
+    element-write-profiles
     byte-at-requires-2
     element-write-fairs
     add-y

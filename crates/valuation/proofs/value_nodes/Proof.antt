@@ -2,7 +2,7 @@
 use native.Mathlib.Omega.{arith}
 use borrow.Author.Needs.{needs}
 use Rattle.valuation.proofs.Held.{held-none}
-use Rattle.valuation.proofs.Prefixes.{Prefix, prefix-few, prefix-room, prefix-more, prefix-to, prefix-temporals, prefix-places}
+use Rattle.valuation.proofs.Prefixes.{Prefix, prefix-few, prefix-room, prefix-more, prefix-to, prefix-temporals, prefix-profiles}
 use mathlib.Core.Path.{_≡_, refl}
 use Prim.Native.Nat.{_-_, _≤_}
 use lib.ListN.{length}
@@ -55,7 +55,7 @@ array-write-label : tie.Need-array-write-label Inv-loop μ-loop
 array-write-label c = let k : c .before .loop .m ≤ 7 = prefix-few (c .before .before .args .event) (c .before .before .args .high) (c .before .before .args .t4) (c .before .loop .i) (c .before .loop .m) _ _ _ (c .before .loop .inv .4) (c .before .before .args .count) (omega arith) (c .before .before .pre) in search needs
 
 returns : tie.Need-returns Inv-loop μ-loop
-returns c = let k : c .before .loop .m ≤ 7 = prefix-few (c .before .before .args .event) (c .before .before .args .high) (c .before .before .args .t4) (c .before .loop .i) (c .before .loop .m) _ _ _ (c .before .loop .inv .4) (c .before .before .args .count) (omega arith) (c .before .before .pre) in let z : c .before .loop .i ≡ c .before .before .args .count = omega arith in let h : Prefix (c .before .before .args .event) (c .before .before .args .high) (c .before .before .args .t4) (c .before .before .args .count) (c .before .loop .m) (c .before .loop .values) (c .before .loop .label) (c .before .loop .fairs) = prefix-to (c .before .before .args .event) (c .before .before .args .high) (c .before .before .args .t4) (c .before .loop .i) (c .before .loop .m) (c .before .loop .inv .4) (c .before .before .args .count) z in (prefix-temporals (c .before .before .args .event) (c .before .before .args .high) (c .before .before .args .t4) (c .before .before .args .count) (c .before .loop .m) _ _ _ h, (prefix-places (c .before .before .args .event) (c .before .before .args .high) (c .before .before .args .t4) (c .before .before .args .count) (c .before .loop .m) h (omega arith), h .of-fairs))
+returns c = let k : c .before .loop .m ≤ 7 = prefix-few (c .before .before .args .event) (c .before .before .args .high) (c .before .before .args .t4) (c .before .loop .i) (c .before .loop .m) _ _ _ (c .before .loop .inv .4) (c .before .before .args .count) (omega arith) (c .before .before .pre) in let z : c .before .loop .i ≡ c .before .before .args .count = omega arith in let h : Prefix (c .before .before .args .event) (c .before .before .args .high) (c .before .before .args .t4) (c .before .before .args .count) (c .before .loop .m) (c .before .loop .values) (c .before .loop .label) (c .before .loop .fairs) = prefix-to (c .before .before .args .event) (c .before .before .args .high) (c .before .before .args .t4) (c .before .loop .i) (c .before .loop .m) (c .before .loop .inv .4) (c .before .before .args .count) z in (prefix-temporals (c .before .before .args .event) (c .before .before .args .high) (c .before .before .args .t4) (c .before .before .args .count) (c .before .loop .m) _ _ _ h, (prefix-profiles (c .before .before .args .event) (c .before .before .args .high) (c .before .before .args .t4) (c .before .before .args .count) (c .before .loop .m) h (omega arith), h .of-fairs))
 
 pub value-nodes-spec : {M : Type 1} → statement M
 value-nodes-spec =

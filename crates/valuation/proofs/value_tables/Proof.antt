@@ -6,15 +6,15 @@ use Prim.Native.Nat.{_-_, _≤_}
 use lib.ListN.{length, length-set}
 use Rattle.valuation.proofs.Entries.{table-none, table-more, table-to}
 use Rattle.valuation.specs.Entries.{Table}
-use Rattle.valuation.specs.Valued.{placeAt, fairsAt}
+use Rattle.valuation.specs.Valued.{profileAt, fairsAt}
 use Rattle.valuation.proofs.value_tables.Statement.{statement}
 use Rattle.valuation.proofs.value_tables.Tie as tie
 
 abbrev Inv-loop : tie.InvT-loop
-Inv-loop events labels count nodes places₀ fairs₀ e₀ places fairs e = (e ≤ events) × (length places ≡ length places₀) × (length fairs ≡ length fairs₀) × Table e labels (placeAt count nodes) places × Table e labels (fairsAt count nodes) fairs
+Inv-loop events labels count nodes profiles₀ fairs₀ e₀ profiles fairs e = (e ≤ events) × (length profiles ≡ length profiles₀) × (length fairs ≡ length fairs₀) × Table e labels (profileAt count nodes) profiles × Table e labels (fairsAt count nodes) fairs
 
 abbrev μ-loop : tie.MeasureT-loop
-μ-loop events labels count nodes places₀ fairs₀ e₀ places fairs e = events - e
+μ-loop events labels count nodes profiles₀ fairs₀ e₀ profiles fairs e = events - e
 
 loop-holds : tie.Need-loop-holds Inv-loop μ-loop
 loop-holds c = (omega arith, refl, refl, table-none, table-none)

@@ -1,26 +1,27 @@
--- `start_places` meets its contract. The loop has marked the places below p.
+-- `step_profiles` meets its contract. The loop has marked the profiles below p.
 use native.Mathlib.Omega.{arith}
 use borrow.Author.Needs.{needs}
 use mathlib.Core.Bool.{false}
 use Prim.Native.Nat.{_-_, _≤_}
 use lib.ListN.{length-replicate}
-use Rattle.ltl.specs.Residuals.{ruleTrue}
-use Rattle.exploration.specs.Arrays.{setIn, Marked}
+use Rattle.ltl.specs.Residuals.{preimage}
+use Rattle.ltl.specs.Keys.{look}
+use Rattle.exploration.specs.Arrays.{setIn, Marked, keyOf}
 use Rattle.exploration.proofs.Tables.{marked-none, marked-more, marked-all}
-use Rattle.exploration.proofs.start_places.Statement.{statement}
-use Rattle.exploration.proofs.start_places.Tie as tie
+use Rattle.exploration.proofs.step_profiles.Statement.{statement}
+use Rattle.exploration.proofs.step_profiles.Tie as tie
 
 abbrev Inv-loop : tie.InvT-loop
-Inv-loop whole n out₀ p₀ out p = (p ≤ 256) × Marked p (ruleTrue n (setIn whole)) out
+Inv-loop profiles whole n key e out₀ p₀ out p = (p ≤ 256) × Marked p (preimage n (look profiles) (setIn whole) (keyOf key) e) out
 
 abbrev μ-loop : tie.MeasureT-loop
-μ-loop whole n out₀ p₀ out p = 256 - p
+μ-loop profiles whole n key e out₀ p₀ out p = 256 - p
 
 loop-holds : tie.Need-loop-holds Inv-loop μ-loop
 loop-holds c = (omega arith, marked-none (length-replicate 256 false))
 
-starts-requires : tie.Need-starts-requires Inv-loop μ-loop
-starts-requires c κs = search needs
+leads-requires : tie.Need-leads-requires Inv-loop μ-loop
+leads-requires c κs = (c .before .before .pre .0, (c .before .before .pre .1, c .loop-test .taken))
 
 array-write-out : tie.Need-array-write-out Inv-loop μ-loop
 array-write-out c = search needs
@@ -32,19 +33,19 @@ loop-less : tie.Need-loop-less Inv-loop μ-loop
 loop-less c = search needs
 
 loop-again : tie.Need-loop-again Inv-loop μ-loop
-loop-again c = (omega arith, marked-more (c .before .before .loop .inv .1) (c .before .loop-test .taken) (c .starts .ensures))
+loop-again c = (omega arith, marked-more (c .before .before .loop .inv .1) (c .before .loop-test .taken) (c .leads .ensures))
 
 returns : tie.Need-returns Inv-loop μ-loop
 returns c = marked-all (c .before .loop .inv .1) (omega arith)
 
-pub start-places-spec : {M : Type 1} → statement M
-start-places-spec =
+pub step-profiles-spec : {M : Type 1} → statement M
+step-profiles-spec =
     tie.close
     (tie.spec
     Inv-loop
     μ-loop
     loop-holds
-    starts-requires
+    leads-requires
     array-write-out
     add-p
     loop-less

@@ -1,27 +1,26 @@
--- `step_places` meets its contract. The loop has marked the places below p.
+-- `start_profiles` meets its contract. The loop has marked the profiles below p.
 use native.Mathlib.Omega.{arith}
 use borrow.Author.Needs.{needs}
 use mathlib.Core.Bool.{false}
 use Prim.Native.Nat.{_-_, _≤_}
 use lib.ListN.{length-replicate}
-use Rattle.ltl.specs.Residuals.{preimage}
-use Rattle.ltl.specs.Keys.{look}
-use Rattle.exploration.specs.Arrays.{setIn, Marked, keyOf}
+use Rattle.ltl.specs.Residuals.{ruleTrue}
+use Rattle.exploration.specs.Arrays.{setIn, Marked}
 use Rattle.exploration.proofs.Tables.{marked-none, marked-more, marked-all}
-use Rattle.exploration.proofs.step_places.Statement.{statement}
-use Rattle.exploration.proofs.step_places.Tie as tie
+use Rattle.exploration.proofs.start_profiles.Statement.{statement}
+use Rattle.exploration.proofs.start_profiles.Tie as tie
 
 abbrev Inv-loop : tie.InvT-loop
-Inv-loop places whole n key e out₀ p₀ out p = (p ≤ 256) × Marked p (preimage n (look places) (setIn whole) (keyOf key) e) out
+Inv-loop whole n out₀ p₀ out p = (p ≤ 256) × Marked p (ruleTrue n (setIn whole)) out
 
 abbrev μ-loop : tie.MeasureT-loop
-μ-loop places whole n key e out₀ p₀ out p = 256 - p
+μ-loop whole n out₀ p₀ out p = 256 - p
 
 loop-holds : tie.Need-loop-holds Inv-loop μ-loop
 loop-holds c = (omega arith, marked-none (length-replicate 256 false))
 
-leads-requires : tie.Need-leads-requires Inv-loop μ-loop
-leads-requires c κs = (c .before .before .pre .0, (c .before .before .pre .1, c .loop-test .taken))
+starts-requires : tie.Need-starts-requires Inv-loop μ-loop
+starts-requires c κs = search needs
 
 array-write-out : tie.Need-array-write-out Inv-loop μ-loop
 array-write-out c = search needs
@@ -33,19 +32,19 @@ loop-less : tie.Need-loop-less Inv-loop μ-loop
 loop-less c = search needs
 
 loop-again : tie.Need-loop-again Inv-loop μ-loop
-loop-again c = (omega arith, marked-more (c .before .before .loop .inv .1) (c .before .loop-test .taken) (c .leads .ensures))
+loop-again c = (omega arith, marked-more (c .before .before .loop .inv .1) (c .before .loop-test .taken) (c .starts .ensures))
 
 returns : tie.Need-returns Inv-loop μ-loop
 returns c = marked-all (c .before .loop .inv .1) (omega arith)
 
-pub step-places-spec : {M : Type 1} → statement M
-step-places-spec =
+pub start-profiles-spec : {M : Type 1} → statement M
+start-profiles-spec =
     tie.close
     (tie.spec
     Inv-loop
     μ-loop
     loop-holds
-    leads-requires
+    starts-requires
     array-write-out
     add-p
     loop-less

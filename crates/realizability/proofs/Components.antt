@@ -1,4 +1,4 @@
--- Labels that lead to each other are in one part, and the edges on closed walks through a label are those within its part.
+-- Labels that lead to each other are in one component, and the edges on closed walks through a label are those within its component.
 use mathlib.Core.Path.{_≡_, refl, sym, ap, ap₂, _∙_, subst}
 use mathlib.Core.Logic.{_⊎_, inl, inr}
 use mathlib.Core.Bool.{Bool, true, false, _&&_}
@@ -17,7 +17,7 @@ use Rattle.ltl.specs.Keys.{look}
 use Rattle.ltl.proofs.Truth.{t-equal}
 use Rattle.ltl.proofs.Searches.{both, both-cases}
 use Rattle.valuation.specs.Entries.{Entries}
-use Rattle.realizability.specs.Relations.{labelAt, leadsBy, viaBy, coreBy, onlyIf, bothWays, partBy, Within, withinPart, AllGathered, Reaches, coreIn}
+use Rattle.realizability.specs.Relations.{labelAt, leadsBy, viaBy, coreBy, onlyIf, bothWays, componentBy, Within, withinComponent, AllGathered, Reaches, coreIn}
 use Rattle.realizability.proofs.Searches.{is-true, union-same}
 use Rattle.realizability.proofs.Core.{leads-there, leads-else}
 
@@ -62,38 +62,38 @@ module _ (n : ℕ) (r : ℕ → ℕ → Bool) (via : (x v y : ℕ) → x < n →
   chained x v y a b c (inr p) (inl e) = subst (λ (z : ℕ). Together x z) e (inr p)
   chained x v y a b c (inr p) (inr q) = inr (via x v y a b c (p .0) (q .0), via y v x c b a (q .1) (p .1))
 
-  -- ---- the first of a part
+  -- ---- the first of a component
 
-  least : (c : ℕ) → Least c (λ x. bothWays r x c) (partBy r c)
+  least : (c : ℕ) → Least c (λ x. bothWays r x c) (componentBy r c)
   least c = least-below c (λ x. bothWays r x c)
 
-  part-together : (c : ℕ) → Together (partBy r c) c
-  part-together c = go (decLt (partBy r c) c)
+  component-together : (c : ℕ) → Together (componentBy r c) c
+  component-together c = go (decLt (componentBy r c) c)
     where
-      go : Dec (partBy r c < c) → Together (partBy r c) c
-      go (yes l) = inr (both-true (r (partBy r c) c) (r c (partBy r c)) (least c .here l))
+      go : Dec (componentBy r c < c) → Together (componentBy r c) c
+      go (yes l) = inr (both-true (r (componentBy r c) c) (r c (componentBy r c)) (least c .here l))
       go (no l) = inl (omega (arith, least c .bound))
 
-  part-first : (x c : ℕ) → Together x c → partBy r c ≤ x
-  part-first x c t = go (decLt x (partBy r c)) t
+  component-first : (x c : ℕ) → Together x c → componentBy r c ≤ x
+  component-first x c t = go (decLt x (componentBy r c)) t
     where
-      go : Dec (x < partBy r c) → Together x c → partBy r c ≤ x
+      go : Dec (x < componentBy r c) → Together x c → componentBy r c ≤ x
       go (no l) t = omega arith
       go (yes l) (inl e) = omega (arith, least c .bound)
       go (yes l) (inr p) = absurd (subst T (least c .before x l) (subst T (sym (ap₂ _&&_ (p .0) (p .1))) tt))
 
-  part-lt : (c : ℕ) → c < n → partBy r c < n
-  part-lt c l = omega (arith, least c .bound)
+  component-lt : (c : ℕ) → c < n → componentBy r c < n
+  component-lt c l = omega (arith, least c .bound)
 
-  part-same : (x c : ℕ) → x < n → c < n → Together x c → partBy r x ≡ partBy r c
-  part-same x c a b t =
-      let p : partBy r c ≤ partBy r x = part-first (partBy r x) c (chained (partBy r x) x c (part-lt x a) a b (part-together x) t) in
-      let q : partBy r x ≤ partBy r c = part-first (partBy r c) x (chained (partBy r c) c x (part-lt c b) b a (part-together c) (turned t)) in
+  component-same : (x c : ℕ) → x < n → c < n → Together x c → componentBy r x ≡ componentBy r c
+  component-same x c a b t =
+      let p : componentBy r c ≤ componentBy r x = component-first (componentBy r x) c (chained (componentBy r x) x c (component-lt x a) a b (component-together x) t) in
+      let q : componentBy r x ≤ componentBy r c = component-first (componentBy r c) x (chained (componentBy r c) c x (component-lt c b) b a (component-together c) (turned t)) in
       omega arith
 
-  same-part : (x c : ℕ) → x < n → c < n → partBy r x ≡ partBy r c → Together x c
-  same-part x c a b e =
-      chained x (partBy r x) c a (part-lt x a) b (turned (part-together x)) (subst (λ (z : ℕ). Together z c) (sym e) (part-together c))
+  same-component : (x c : ℕ) → x < n → c < n → componentBy r x ≡ componentBy r c → Together x c
+  same-component x c a b e =
+      chained x (componentBy r x) c a (component-lt x a) b (turned (component-together x)) (subst (λ (z : ℕ). Together z c) (sym e) (component-together c))
 
   -- ---- the edges
 
@@ -124,44 +124,44 @@ module _ (n : ℕ) (r : ℕ → ℕ → Bool) (via : (x v y : ℕ) → x < n →
     start-together (inr p) (inl e) = inr (subst (λ (z : ℕ). r x z ≡ true) e edge, p)
     start-together (inr p) (inr q) = inr (via x y c b d a edge q, p)
 
-  module _ (parts : List ℕ) (h : Entries n (partBy r) 0 parts) where
-    pub parts-within : Within n parts
-    parts-within = record { is = λ y l. subst (λ (p : ℕ). p < n) (sym (h .entry y l)) (part-lt y l) }
+  module _ (components : List ℕ) (h : Entries n (componentBy r) 0 components) where
+    pub components-within : Within n components
+    components-within = record { is = λ y l. subst (λ (p : ℕ). p < n) (sym (h .entry y l)) (component-lt y l) }
 
-    parts-same : (x c : ℕ) → x < n → c < n → Together x c → getD parts x 0 ≡ getD parts c 0
-    parts-same x c a b t = h .entry x a ∙ part-same x c a b t ∙ sym (h .entry c b)
+    components-same : (x c : ℕ) → x < n → c < n → Together x c → getD components x 0 ≡ getD components c 0
+    components-same x c a b t = h .entry x a ∙ component-same x c a b t ∙ sym (h .entry c b)
 
-    same-parts : (x c : ℕ) → x < n → c < n → getD parts x 0 ≡ getD parts c 0 → Together x c
-    same-parts x c a b e = same-part x c a b (sym (h .entry x a) ∙ e ∙ h .entry c b)
+    same-components : (x c : ℕ) → x < n → c < n → getD components x 0 ≡ getD components c 0 → Together x c
+    same-components x c a b e = same-component x c a b (sym (h .entry x a) ∙ e ∙ h .entry c b)
 
     module _ (before fair : ℕ → ℕ → ℕ) (c e y : ℕ) (a : c < n) (b : before e y < n) (d : y < n) (edge : r (before e y) y ≡ true) where
-      via-within : withinPart parts before fair e (getD parts c 0) y ≡ viaBy r before fair c e y
+      via-within : withinComponent components before fair e (getD components c 0) y ≡ viaBy r before fair c e y
       via-within =
-          pick-same (eqb (getD parts y 0) (getD parts c 0)) (eqb (getD parts (before e y) 0) (getD parts c 0)) (leadsBy r c (before e y)) (leadsBy r y c) (fair e y)
+          pick-same (eqb (getD components y 0) (getD components c 0)) (eqb (getD components (before e y) 0) (getD components c 0)) (leadsBy r c (before e y)) (leadsBy r y c) (fair e y)
           (λ s t. (
-            together-leads c (before e y) (turned (same-parts (before e y) c b a (eqb→eq (getD parts (before e y) 0) (getD parts c 0) t))),
-            together-leads y c (same-parts y c d a (eqb→eq (getD parts y 0) (getD parts c 0) s)),
+            together-leads c (before e y) (turned (same-components (before e y) c b a (eqb→eq (getD components (before e y) 0) (getD components c 0) t))),
+            together-leads y c (same-components y c d a (eqb→eq (getD components y 0) (getD components c 0) s)),
           ))
           (λ s t.
           let p = leads-cases c (before e y) s in
           let q = leads-cases y c t in (
-            true-eqb (getD parts y 0) (getD parts c 0) (parts-same y c d a (end-together c (before e y) y a b d edge p q)),
-            true-eqb (getD parts (before e y) 0) (getD parts c 0) (parts-same (before e y) c b a (start-together c (before e y) y a b d edge p q)),
+            true-eqb (getD components y 0) (getD components c 0) (components-same y c d a (end-together c (before e y) y a b d edge p q)),
+            true-eqb (getD components (before e y) 0) (getD components c 0) (components-same (before e y) c b a (start-together c (before e y) y a b d edge p q)),
           ))
 
 -- ---- the core
 
-module _ (m w n : ℕ) (places fairs : List (List ℕ)) (r : ℕ → ℕ → Bool) (some : 1 ≤ n) (reach : Reaches w n places r) where
-  pub within-parts : (parts : List ℕ) → Entries n (partBy r) 0 parts → Within n parts
-  within-parts parts h = parts-within n r (reach .via) parts h
+module _ (m w n : ℕ) (profiles fairs : List (List ℕ)) (r : ℕ → ℕ → Bool) (some : 1 ≤ n) (reach : Reaches w n profiles r) where
+  pub within-components : (components : List ℕ) → Entries n (componentBy r) 0 components → Within n components
+  within-components components h = components-within n r (reach .via) components h
 
-  pub core-parts : (parts sets : List ℕ) (core : List Bool) → Entries n (partBy r) 0 parts → AllGathered w n (withinPart parts (labelAt n places) (look fairs)) sets
-      → Entries n (coreIn m r parts sets) false core → Entries n (coreBy m w n r (labelAt n places) (look fairs)) false core
-  core-parts parts sets core h g k = record { entry = λ c l. k .entry c l ∙ ap (λ (A : ℕ). elim (r c c) [ true ↦ allOf m A | false ↦ false ]) (around c l) }
+  pub core-components : (components sets : List ℕ) (core : List Bool) → Entries n (componentBy r) 0 components → AllGathered w n (withinComponent components (labelAt n profiles) (look fairs)) sets
+      → Entries n (coreIn m r components sets) false core → Entries n (coreBy m w n r (labelAt n profiles) (look fairs)) false core
+  core-components components sets core h g k = record { entry = λ c l. k .entry c l ∙ ap (λ (A : ℕ). elim (r c c) [ true ↦ allOf m A | false ↦ false ]) (around c l) }
     where
-      around : (c : ℕ) → c < n → getD sets (getD parts c 0) 0 ≡ unionBelow w (λ e. unionBelow n (viaBy r (labelAt n places) (look fairs) c e))
+      around : (c : ℕ) → c < n → getD sets (getD components c 0) 0 ≡ unionBelow w (λ e. unionBelow n (viaBy r (labelAt n profiles) (look fairs) c e))
       around c l =
-          g .is (getD parts c 0) (within-parts parts h .is c l)
-          ∙ union-same w (λ e. unionBelow n (withinPart parts (labelAt n places) (look fairs) e (getD parts c 0))) (λ e. unionBelow n (viaBy r (labelAt n places) (look fairs) c e))
-          (λ e u. union-same n (withinPart parts (labelAt n places) (look fairs) e (getD parts c 0)) (viaBy r (labelAt n places) (look fairs) c e)
-          (λ y v. via-within n r (reach .via) parts h (labelAt n places) (look fairs) c e y l (mod-lt (look places e y) some) v (reach .edges e y u v)))
+          g .is (getD components c 0) (within-components components h .is c l)
+          ∙ union-same w (λ e. unionBelow n (withinComponent components (labelAt n profiles) (look fairs) e (getD components c 0))) (λ e. unionBelow n (viaBy r (labelAt n profiles) (look fairs) c e))
+          (λ e u. union-same n (withinComponent components (labelAt n profiles) (look fairs) e (getD components c 0)) (viaBy r (labelAt n profiles) (look fairs) c e)
+          (λ y v. via-within n r (reach .via) components h (labelAt n profiles) (look fairs) c e y l (mod-lt (look profiles e y) some) v (reach .edges e y u v)))

@@ -1,4 +1,4 @@
--- The place of a lasso: its label at 0 with the rule's truth there on top. `wholeSet` holds the places of all continuations and no others.
+-- The profile of a lasso: its label at 0 with the rule's truth there on top. `wholeSet` holds the profiles of all continuations and no others.
 use mathlib.Core.Path.{_≡_, sym, ap, ap₂, _∙_, subst}
 use mathlib.Core.Bool.{Bool}
 use mathlib.Core.List.{List, [], _∷_}
@@ -13,7 +13,7 @@ use Rattle.ltl.specs.Sets.{on, put, unionBelow}
 use Rattle.ltl.specs.Nodes.{Split, temporals, operand, splitFormulas}
 use Rattle.ltl.specs.Valuation.{valued}
 use Rattle.ltl.specs.Realizable.{realizable}
-use Rattle.ltl.specs.Residuals.{before, placeFrom, wholeSet}
+use Rattle.ltl.specs.Residuals.{before, profileFrom, wholeSet}
 use Rattle.ltl.proofs.Sets.{put-lt, single-in, in-single}
 use Rattle.ltl.proofs.Searches.{only, only-cases, in-union, union-in, in-events, events-in}
 use Rattle.ltl.proofs.Truth.{iff-trans, t-eq}
@@ -23,7 +23,7 @@ use Rattle.ltl.proofs.Labels.{truth, truth-right, value-right}
 use Rattle.ltl.proofs.Lassos.{labelOf, label-of-lt, label-same, label-of-step}
 use Rattle.ltl.proofs.LabelWalks.{label-realizable}
 use Rattle.ltl.proofs.Realized.{realized}
-use Rattle.ltl.proofs.Tables.{Tabulates, place-valued, put-mod}
+use Rattle.ltl.proofs.Tables.{Tabulates, profile-valued, put-mod}
 
 -- the rule: the last node's formula
 abbrev pub root : List Split → Formula
@@ -32,14 +32,14 @@ root ns = operand (splitFormulas [] ns) (length ns - 1)
 abbrev pub rootOf : Lasso → List Split → ℕ → Bool
 rootOf ρ ns i = truth (at ρ) (decHolds ρ) (root ns) i
 
-abbrev pub lassoPlace : Lasso → List Split → ℕ
-lassoPlace ρ ns = put (temporals ns) (rootOf ρ ns 0) (labelOf ρ ns 0)
+abbrev pub lassoProfile : Lasso → List Split → ℕ
+lassoProfile ρ ns = put (temporals ns) (rootOf ρ ns 0) (labelOf ρ ns 0)
 
-pub lasso-place-lt : (ρ : Lasso) (ns : List Split) → lassoPlace ρ ns < 2 ^ temporals ns + 2 ^ temporals ns
-lasso-place-lt ρ ns = omega (arith, put-lt (temporals ns) (rootOf ρ ns 0) (labelOf ρ ns 0) (label-of-lt ρ ns 0), pow-suc 2 (temporals ns))
+pub lasso-profile-lt : (ρ : Lasso) (ns : List Split) → lassoProfile ρ ns < 2 ^ temporals ns + 2 ^ temporals ns
+lasso-profile-lt ρ ns = omega (arith, put-lt (temporals ns) (rootOf ρ ns 0) (labelOf ρ ns 0) (label-of-lt ρ ns 0), pow-suc 2 (temporals ns))
 
-pub lasso-place-label : (ρ : Lasso) (ns : List Split) → lassoPlace ρ ns % 2 ^ temporals ns ≡ labelOf ρ ns 0
-lasso-place-label ρ ns = put-mod (temporals ns) (rootOf ρ ns 0) (labelOf ρ ns 0) (label-of-lt ρ ns 0)
+pub lasso-profile-label : (ρ : Lasso) (ns : List Split) → lassoProfile ρ ns % 2 ^ temporals ns ≡ labelOf ρ ns 0
+lasso-profile-label ρ ns = put-mod (temporals ns) (rootOf ρ ns 0) (labelOf ρ ns 0) (label-of-lt ρ ns 0)
 
 root-step : (ρ : Lasso) (ns : List Split) → rootOf ρ ns 0 ≡ on (valued (at ρ 0) (labelOf ρ ns 1) ns .values) (length ns - 1)
 root-step ρ ns = t-eq _ _ (truth-right (at ρ) (decHolds ρ) (root ns) 0) (value-right (at ρ) (decHolds ρ) ns 0 (length ns - 1))
@@ -61,53 +61,53 @@ pub continuation-after : (Σ : Alphabet) (e : ℕ) (ρ : Lasso) → Event Σ e �
 continuation-after Σ e ρ h c zero = h
 continuation-after Σ e ρ h c (suc i) = c i
 
-module _ {Σ : Alphabet} {ns : List Split} {place fair : ℕ → ℕ → ℕ} (table : Tabulates Σ ns place fair) where
-  -- the place of a lasso, by its first event and the label of its rest
-  place-of-first : (ρ : Lasso) → Event Σ (at ρ 0) → lassoPlace ρ ns ≡ place (at ρ 0) (labelOf ρ ns 1)
-  place-of-first ρ h =
+module _ {Σ : Alphabet} {ns : List Split} {profile fair : ℕ → ℕ → ℕ} (table : Tabulates Σ ns profile fair) where
+  -- the profile of a lasso, by its first event and the label of its rest
+  profile-of-first : (ρ : Lasso) → Event Σ (at ρ 0) → lassoProfile ρ ns ≡ profile (at ρ 0) (labelOf ρ ns 1)
+  profile-of-first ρ h =
       let e = at ρ 0 in let y = labelOf ρ ns 1 in
       ap₂ (λ (b : Bool) (x : ℕ). put (temporals ns) b x)
       (root-step ρ ns) (sym (label-of-step ρ ns 0))
-      ∙ sym (table .place-is e y h (label-of-lt ρ ns 1) ∙ place-valued e y ns)
+      ∙ sym (table .profile-is e y h (label-of-lt ρ ns 1) ∙ profile-valued e y ns)
 
-  pub place-after : (e : ℕ) (ρ : Lasso) → Event Σ e → lassoPlace (after e ρ) ns ≡ place e (labelOf ρ ns 0)
-  place-after e ρ h = place-of-first (after e ρ) h ∙ ap (place e) (label-after e ρ ns)
+  pub profile-after : (e : ℕ) (ρ : Lasso) → Event Σ e → lassoProfile (after e ρ) ns ≡ profile e (labelOf ρ ns 0)
+  profile-after e ρ h = profile-of-first (after e ρ) h ∙ ap (profile e) (label-after e ρ ns)
 
   abbrev whole : ℕ
-  whole = wholeSet Σ (2 ^ temporals ns) place (temporals ns) fair
+  whole = wholeSet Σ (2 ^ temporals ns) profile (temporals ns) fair
 
   abbrev labels : ℕ
-  labels = realizable Σ (2 ^ temporals ns) (before (2 ^ temporals ns) place) fair (temporals ns)
+  labels = realizable Σ (2 ^ temporals ns) (before (2 ^ temporals ns) profile) fair (temporals ns)
 
-  pub whole-complete : (ρ : Lasso) → Continuation Σ ρ → T (on whole (lassoPlace ρ ns))
+  pub whole-complete : (ρ : Lasso) → Continuation Σ ρ → T (on whole (lassoProfile ρ ns))
   unfolding wholeSet
   whole-complete ρ c =
-      let e = at ρ 0 in let y = labelOf ρ ns 1 in let p = lassoPlace ρ ns in
-      events-in Σ (λ e. unionBelow (2 ^ temporals ns) (placeFrom place labels e)) p e (c 0)
-      (union-in (2 ^ temporals ns) (placeFrom place labels e) p y (label-of-lt ρ ns 1)
-      (only (on labels y) (2 ^ place e y) p (label-realizable table ρ c 1)
-      (subst (λ (q : ℕ). T (on (2 ^ place e y) q)) (sym (place-of-first ρ (c 0))) (single-in (place e y)))))
+      let e = at ρ 0 in let y = labelOf ρ ns 1 in let p = lassoProfile ρ ns in
+      events-in Σ (λ e. unionBelow (2 ^ temporals ns) (profileFrom profile labels e)) p e (c 0)
+      (union-in (2 ^ temporals ns) (profileFrom profile labels e) p y (label-of-lt ρ ns 1)
+      (only (on labels y) (2 ^ profile e y) p (label-realizable table ρ c 1)
+      (subst (λ (q : ℕ). T (on (2 ^ profile e y) q)) (sym (profile-of-first ρ (c 0))) (single-in (profile e y)))))
 
-  -- a continuation with the place p
+  -- a continuation with the profile p
   pub record Placed (p : ℕ) : Type 0 where
     pub lasso : Lasso
     pub continuation : Continuation Σ lasso
-    pub is : lassoPlace lasso ns ≡ p
+    pub is : lassoProfile lasso ns ≡ p
 
   pub whole-sound : (p : ℕ) → T (on whole p) → Placed p
   unfolding wholeSet
   whole-sound p t =
-      let s = in-events Σ (λ e. unionBelow (2 ^ temporals ns) (placeFrom place labels e)) p t in
+      let s = in-events Σ (λ e. unionBelow (2 ^ temporals ns) (profileFrom profile labels e)) p t in
       let e = s .event in
-      let v = in-union (2 ^ temporals ns) (placeFrom place labels e) p (s .test) in
+      let v = in-union (2 ^ temporals ns) (profileFrom profile labels e) p (s .test) in
       let y = v .index in
-      let q = only-cases (on labels y) (2 ^ place e y) p (v .test) in
+      let q = only-cases (on labels y) (2 ^ profile e y) p (v .test) in
       let r = realized table y (q .0) in
       record {
         lasso = after e (r .lasso);
         continuation = continuation-after Σ e (r .lasso) (s .possible) (r .continuation);
-        is = place-after e (r .lasso) (s .possible) ∙ ap (place e) (r .is) ∙ sym (in-single (place e y) p (q .1));
+        is = profile-after e (r .lasso) (s .possible) ∙ ap (profile e) (r .is) ∙ sym (in-single (profile e y) p (q .1));
       }
 
   pub whole-below : (p : ℕ) → T (on whole p) → p < 2 ^ temporals ns + 2 ^ temporals ns
-  whole-below p t = let r = whole-sound p t in subst (λ (q : ℕ). q < 2 ^ temporals ns + 2 ^ temporals ns) (r .is) (lasso-place-lt (r .lasso) ns)
+  whole-below p t = let r = whole-sound p t in subst (λ (q : ℕ). q < 2 ^ temporals ns + 2 ^ temporals ns) (r .is) (lasso-profile-lt (r .lasso) ns)
