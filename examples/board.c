@@ -60,5 +60,9 @@ int main(void) {
     /* An event that needs a third signal is refused, with its number and place. */
     uint64_t refused = tefuji_step(table, length, counts, state, 4);
     printf("event 4: refused %u at %llu\n", tefuji_refusal(refused), (unsigned long long)tefuji_place(refused));
+
+    /* A table cut short after it was checked: no verdict, but a refusal. */
+    refused = tefuji_step(table, 20, counts, 1, DOSE);
+    printf("table cut to 20 bytes: refused %u at %llu\n", tefuji_refusal(refused), (unsigned long long)tefuji_place(refused));
     return 0;
 }

@@ -154,10 +154,3 @@ impl<'a> Opened<'a> {
         answered(answer).map(reached)
     }
 }
-
-/// One step with counts of any value, as a C program could pass them.
-pub fn step_with(table: &[u8], counts: u64, state: u16, event: u8) -> Result<Reached, Refusal> {
-    // The slice is lent for the call, and the library takes any counts.
-    let answer = unsafe { library::tefuji_step(table.as_ptr(), table.len(), counts, state, event) };
-    answered(answer).map(reached)
-}

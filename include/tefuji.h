@@ -23,7 +23,7 @@
  *   11      more than 256 different remaining properties                  0
  *   12      an event is not below 2^signals                               its index, from 0
  *   13      a state is not below the number of states                     0
- *   14      the bytes are not a table                                     0
+ *   14      the bytes are not a table, or not one of the counts given     0
  *
  * Stack: where nothing is said, at most 1 KiB.
  *
@@ -59,12 +59,16 @@ uint64_t tefuji_check(const uint8_t *table, size_t table_length);
 
 /* Checks the table and runs it from a state over a list of events.
  * Answers verdict * 65536 + end state, and stores in `count` how many events had been read when a verdict other than undecided was first
- * shown: 0 if the given state shows one, TEFUJI_NONE if never. Refuses by 14, then 13, then 12, and leaves `count` as it was. Needs about 17 KiB of stack. */
+ * shown: 0 if the given state shows one, TEFUJI_NONE if never. Refuses by 14, then 13, then 12, and leaves `count` as it was.
+ * From 4,096 events on it needs about 9 KiB of stack. */
 uint64_t tefuji_run(const uint8_t *table, size_t table_length, uint16_t state, const uint8_t *events, size_t events_length, uint64_t *count);
 
 /* Reads one event, at a cost that does not grow with the table. `counts` is what tefuji_check answered for the same bytes; with it a step
- * is a run over that one event, and a refusal handed on as counts is refused by 14. With other counts it still returns, and means nothing.
- * Answers verdict * 65536 + successor, or refuses by 14, 13, 12. */
+ * is a run over that one event. Answers verdict * 65536 + successor, or refuses by 14, then 13, then 12.
+ * 14: the counts are no table's (a refusal of tefuji_check handed on as counts is none), or the bytes have not exactly the length of that
+ * table. A step also tests what it reads: a successor that is not below the number of states, or a verdict byte above 3, of either state, is
+ * refused by 14 as well. So whatever the bytes and counts, also when memory went bad after the check, no answer names a state that the table does
+ * not have, or a verdict that does not stand in its bytes. */
 uint64_t tefuji_step(const uint8_t *table, size_t table_length, uint64_t counts, uint16_t state, uint8_t event);
 
 /* Writes the table as text, a line for its counts and one for each state, into the front of `text`, which has at least TEFUJI_TEXT_ROOM bytes.

@@ -55,7 +55,8 @@ fn measure() {
     print("build, 244 states", || _ = black_box(tefuji::build(&rule, &mut spare)));
     print("check", || _ = black_box(Opened::open(table)));
     print("run, 10 events", || _ = black_box(tefuji::run(table, 0, &events[..10])));
-    print("run, 5,000 events", || _ = black_box(tefuji::run(table, 0, &events)));
+    print("run, 4,095 events", || _ = black_box(tefuji::run(table, 0, &events[..4095])));
+    print("run, 4,096 events", || _ = black_box(tefuji::run(table, 0, &events[..4096])));
     print("step", || _ = black_box(opened.step(0, 0)));
     print("text", || _ = black_box(tefuji::text(table, &mut text)));
 }

@@ -85,7 +85,8 @@ impl Generator {
     }
 
     fn step(&self, rng: &mut Rng) -> Case {
-        let Made { origin, bytes: table } = self.mostly_good(rng);
+        let made = if rng.chance(60) { self.tables.good(rng) } else { self.tables.spoilt(rng) };
+        let Made { origin, bytes: table } = made;
         let steps = (0..4).map(|_| events::step(rng, &table)).collect();
         let strays = (0..6).map(|_| events::stray(rng, &table)).collect();
         Case { origin, input: Input::Step { table, steps, strays } }

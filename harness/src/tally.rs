@@ -6,11 +6,21 @@ use std::fmt;
 const KINDS: [&str; 5] = ["build", "check", "run", "step", "text"];
 const REFUSALS: std::ops::RangeInclusive<u8> = 1..=14;
 
+/// How far a step with counts that need not be the table's comes.
+const STRAYS: [&str; 5] = [
+    "no table's counts or length",
+    "no state or event",
+    "a successor past the states",
+    "a verdict byte above 3",
+    "answered",
+];
+
 #[derive(Default)]
 pub struct Tally {
     origins: BTreeMap<(&'static str, &'static str), u64>,
     accepted: BTreeMap<&'static str, u64>,
     refused: BTreeMap<u8, u64>,
+    stray_steps: BTreeMap<&'static str, u64>,
 }
 
 impl Tally {
@@ -26,12 +36,20 @@ impl Tally {
         }
     }
 
+    /// Adds a step with counts that need not be the table's, by how far it came.
+    pub fn add_stray(&mut self, came: &'static str) {
+        *self.stray_steps.entry(came).or_default() += 1;
+    }
+
     /// What has to be met at least once and was not.
     pub fn missing(&self) -> Vec<String> {
         let kinds = KINDS.iter().filter(|kind| !self.accepted.contains_key(*kind));
         let numbers = REFUSALS.filter(|number| !self.refused.contains_key(number));
         let kinds = kinds.map(|kind| format!("an answer of {kind} other than a refusal"));
-        kinds.chain(numbers.map(|number| format!("refusal {number}"))).collect()
+        let numbers = numbers.map(|number| format!("refusal {number}"));
+        let strays = STRAYS.iter().filter(|came| !self.stray_steps.contains_key(*came));
+        let strays = strays.map(|came| format!("a step with other counts, {came}"));
+        kinds.chain(numbers).chain(strays).collect()
     }
 
     fn write_kind(&self, out: &mut fmt::Formatter<'_>, kind: &str) -> fmt::Result {
@@ -50,6 +68,8 @@ impl fmt::Display for Tally {
             self.write_kind(out, kind)?;
         }
         let refused = self.refused.iter().map(|(number, count)| format!("{number}: {count}"));
-        write!(out, "refused {}", refused.collect::<Vec<_>>().join(", "))
+        write!(out, "refused {}; ", refused.collect::<Vec<_>>().join(", "))?;
+        let strays = self.stray_steps.iter().map(|(came, count)| format!("{came} {count}"));
+        write!(out, "steps with other counts: {}", strays.collect::<Vec<_>>().join(", "))
     }
 }

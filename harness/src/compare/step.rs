@@ -58,38 +58,49 @@ impl Checked<'_> {
 
 /// A step with counts of any value.
 fn compare_stray(table: &[u8], counts: u64, step: Step, tally: &mut Tally) -> Compared {
-    let Step { state, event } = step;
-    let expected = stray_step(table, counts, step);
-    let code = library::step(table, counts, state, event);
+    let (came, expected) = stray_step(table, counts, step);
+    let code = library::step(table, counts, step.state, step.event);
     same_code("answer of step with other counts", code, answer::ran(expected))?;
-    let wrapped = tefuji::step_with(table, counts, state, event);
-    let expected = expected.map(answer::reached).map_err(answer::refusal);
-    same("step with other counts", wrapped, expected)?;
     tally.add_answer("step", refused_by(code));
+    tally.add_stray(came);
     Ok(())
 }
 
-/// The contract for any bytes and counts: rows lie where the counts say, bytes past the end are 0,
-/// and a verdict byte above 3 is undecided. The library's users are not promised that much.
+/// What is promised for any bytes and counts: 14 unless the counts are a table's and the bytes have
+/// its length; then 13 and 12; and 14 where a state or a verdict byte that is read is none of a
+/// table's. With it, how far the step comes.
 fn stray_step(
     table: &[u8],
     counts: u64,
     Step { state, event }: Step,
-) -> Result<RunResult, Refusal> {
-    let (signals, states) = (counts / 65536, counts % 65536);
-    if signals > 4 || states == 0 {
-        return Err(Refusal::new(14, 0));
-    }
-    if u64::from(state) >= states {
-        return Err(Refusal::new(13, 0));
+) -> (&'static str, Result<RunResult, Refusal>) {
+    let no_table = Err(Refusal::new(14, 0));
+    let Some((signals, states)) = fitting(table, counts) else {
+        return ("no table's counts or length", no_table);
+    };
+    if state >= states {
+        return ("no state or event", Err(Refusal::new(13, 0)));
     }
     if event >= 1 << signals {
-        return Err(Refusal::new(12, 0));
+        return ("no state or event", Err(Refusal::new(12, 0)));
     }
-    let byte = |place: usize| table.get(place).copied().unwrap_or(0);
-    let row = |state: u16| HEADER_LENGTH + usize::from(state) * row_length(signals as u8);
-    let place = row(state) + 5 + 2 * usize::from(event);
-    let end_state = u16::from_le_bytes([byte(place), byte(place + 1)]);
-    let verdict = Verdict::from_byte(byte(row(end_state) + 4)).unwrap_or(Verdict::Undecided);
-    Ok(RunResult { end_state, verdict, count: None })
+    let row = |state: u16| &table[HEADER_LENGTH + usize::from(state) * row_length(signals)..];
+    let place = 5 + 2 * usize::from(event);
+    let end_state = u16::from_le_bytes([row(state)[place], row(state)[place + 1]]);
+    if end_state >= states {
+        return ("a successor past the states", no_table);
+    }
+    let verdicts = [state, end_state].map(|state| Verdict::from_byte(row(state)[4]));
+    let [Some(_), Some(verdict)] = verdicts else {
+        return ("a verdict byte above 3", no_table);
+    };
+    ("answered", Ok(RunResult { end_state, verdict, count: None }))
+}
+
+/// The signals and states of the counts, where they are a table's and the bytes have its length.
+fn fitting(table: &[u8], counts: u64) -> Option<(u8, u16)> {
+    let signals = u8::try_from(counts >> 16).ok().filter(|signals| (1..=4).contains(signals))?;
+    let states = Some(counts as u16).filter(|states| (1..=256).contains(states))?;
+    let length = HEADER_LENGTH + usize::from(states) * row_length(signals);
+    (table.len() == length).then_some((signals, states))
 }

@@ -1,6 +1,7 @@
 //! States, events and counts to run a table with. The table need not be good.
 
 use oracle::rng::Rng;
+use oracle::table::{row_length, HEADER_LENGTH};
 
 use crate::case::Step;
 
@@ -94,21 +95,34 @@ pub fn step(rng: &mut Rng, table: &[u8]) -> Step {
     Step { state, event }
 }
 
+/// Counts of a table that would have as many bytes, whatever stands in them: those of a table whose
+/// bytes changed after it was checked. Over this many signals, if there are such.
+fn fitting(table: &[u8], signals: u8) -> Option<u64> {
+    let rows = table.len().checked_sub(HEADER_LENGTH)?;
+    let states = rows / row_length(signals);
+    let fits = rows % row_length(signals) == 0;
+    fits.then_some(u64::from(signals) * 65536 + states as u64)
+}
+
 /// A step with counts that need not be the table's.
 pub fn stray(rng: &mut Rng, table: &[u8]) -> (u64, Step) {
     let any = number(rng);
     let refusal = rng.below(15) as u64 * (1 << 56) + rng.below(300) as u64;
     let mut step = step(rng, table);
-    let counts = match rng.below(8) {
+    let fit: Vec<u64> = (1..=4).filter_map(|signals| fitting(table, signals)).collect();
+    let counts = match rng.below(12) {
         0 => any,
         1 => refusal,
         2 => 4 * 65536 + 65535,
         3 => rng.between(0, 6) as u64 * 65536,
         4 => 5 * 65536 + u64::from(states(table)),
         5 => rng.between(0, 5) as u64 * 65536 + rng.below(65536) as u64,
-        _ => rng.between(0, 5) as u64 * 65536 + rng.below(300) as u64,
+        6 => rng.between(0, 5) as u64 * 65536 + rng.below(300) as u64,
+        7 if !fit.is_empty() => rng.pick(&fit).wrapping_add(rng.below(3) as u64).wrapping_sub(1),
+        _ if !fit.is_empty() => *rng.pick(&fit),
+        _ => u64::from(signals(rng, table)) * 65536 + u64::from(states(table)),
     };
-    if rng.chance(30) {
+    if rng.chance(60) {
         step.state = rng.below(((counts % 65536) as usize).max(1)) as u16;
     }
     (counts, step)
