@@ -6,7 +6,7 @@ use Prim.Native.Nat.{ℕ, _+_, _^_, _≤_, _<_}
 use lib.ListN.{getD, take}
 use lib.Dec.{eqb}
 use lib.Pow.{pow-pos, pow-mono}
-use Rattle.meaning.specs.Traces.{over}
+use Rattle.meaning.specs.Traces.{firstEvents, over}
 use Rattle.meaning.specs.declared.Node.{Node}
 use Rattle.ltl.specs.Sets.{on, someBelow}
 use Rattle.ltl.specs.Nodes.{splits, temporals}
@@ -20,7 +20,6 @@ use Rattle.ltl.proofs.SameTables.{same-whole}
 use Rattle.ltl.proofs.Instance.{made-tabulates}
 use Rattle.valuation.specs.Valued.{Valuable, profileAt, fairsAt}
 use Rattle.valuation.specs.Entries.{Entries, Table}
-use Rattle.realizability.specs.Relations.{below}
 use Rattle.realizability.proofs.Searches.{some-same}
 use Rattle.labelling.specs.Arrays.{TablesIn}
 use Rattle.labelling.specs.Marks.{hits, AllMarked}
@@ -38,7 +37,7 @@ valuable-of k count nodes e v = subst (λ (j : ℕ). Valuable j nodes) (sym e) v
 pub record Computed (w n m count : ℕ) (nodes : List Node) (profiles fairs : List (List ℕ)) (real whole : List Bool) : Type 0 where
   pub profile : Table w n (profileAt count nodes) profiles
   pub fair : Table w n (fairsAt count nodes) fairs
-  pub labels : Entries n (on (realizable (below w) n (before n (look profiles)) (look fairs) m)) false real
+  pub labels : Entries n (on (realizable (firstEvents w) n (before n (look profiles)) (look fairs) m)) false real
   pub marks : AllMarked w n profiles real whole
 
 abbrev temporalsIn : ℕ → List Node → ℕ

@@ -21,7 +21,7 @@ pub data Split : Type 0 where
   plain : Plain → Split
   temporal : Temporal → Split
 
--- the table of kinds: what the kind k with the operands a and b is, at profile k
+-- the table of kinds: what the kind k with the operands a and b is, at index k
 abbrev pub kinds : ℕ → ℕ → List Split
 kinds a b =
     plain falsum ∷ plain verum

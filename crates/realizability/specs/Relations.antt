@@ -1,4 +1,4 @@
--- The labels that some continuation has, as crate ltl finds them, over a relation between labels in the profile of its rows.
+-- The labels that some continuation has, as crate ltl finds them, over a relation between labels instead of its rows.
 use mathlib.Core.Path.{_≡_}
 use mathlib.Core.Bool.{Bool, true, false, _&&_, _||_}
 use mathlib.Core.List.{List}
