@@ -1,20 +1,21 @@
--- Laws of the form of a table, and of the answers that rest on it.
-use mathlib.Core.Path.{_≡_, refl}
-use mathlib.Core.List.{List}
+-- Laws of the form of a table.
+use mathlib.Core.Path.{_≡_, refl, sym, _∙_}
+use mathlib.Core.List.{List, [], _∷_}
 use mathlib.Core.Bool.{Bool, true, false, cond, _&&_}
-use Prim.Native.Nat.{ℕ, zero, suc, _≤_}
+use Prim.Native.Nat.{ℕ, zero, suc, _^_, _≤_, _<_}
 use native.Mathlib.Omega.{arith}
-use borrow.Author.Tests.{leb-true, le-leb}
+use lib.ListN.{length}
+use lib.Dec.{leb, ltb, eqb}
+use borrow.Author.Tests.{leb-true, ltb-true}
 use Rattle.sequences.specs.Tabulate.{every, allBelow}
 use Rattle.sequences.proofs.Tests.{holds}
-use Rattle.meaning.specs.TableFiles.{headerTests, rowTests, signalsIn, statesIn, isTable, checkedOf, verdictOf}
-use Rattle.meaning.specs.Runs.{runOf}
+use Rattle.sequences.proofs.Loops.{all-not}
+use Rattle.meaning.specs.Bytes.{u16At}
+use Rattle.meaning.specs.TableFiles.{headerTests, rowTests, tableLength, signalsIn, statesIn, verdictByte, successor, isTable, checkedOf, verdictOf}
+use Rattle.meaning.specs.Runs.{countsFit}
 use Rattle.meaning.specs.declared.Verdict.the-variants.{Undecided}
-use Rattle.meaning.specs.declared.Refusal.{Refusal}
 use Rattle.meaning.specs.declared.Refusal.the-variants.{WrongTable}
 use Rattle.meaning.specs.declared.Checked.the-variants as Checked
-use Rattle.meaning.specs.declared.Ran.the-variants as Ran
-use Rattle.table_file.specs.Tables.{ranIn}
 
 pub verdict-else : (v : ℕ) → (v ≡ 1 → ⊥) → (v ≡ 2 → ⊥) → (v ≡ 3 → ⊥) → Undecided ≡ verdictOf v
 verdict-else zero a b c = refl
@@ -22,6 +23,27 @@ verdict-else (suc zero) a b c = absurd (a refl)
 verdict-else (suc (suc zero)) a b c = absurd (b refl)
 verdict-else (suc (suc (suc zero))) a b c = absurd (c refl)
 verdict-else (suc (suc (suc (suc v)))) a b c = refl
+
+never : {A : Type 0} → false ≡ true → A
+never q = let z : _≡_ {A = ℕ} 0 1 = cc in absurd (omega arith)
+
+all-holds : (n : ℕ) (p : ℕ → Bool) → allBelow n p ≡ true → (i : ℕ) → i < n → p i ≡ true
+all-holds n p h i l = go (p i) refl
+  where
+    go : (b : Bool) → p i ≡ b → p i ≡ true
+    go true e = e
+    go false e = never (sym (all-not n p i l e) ∙ h)
+
+-- the tests of countsFit
+abbrev pub countsTests : List ℕ → ℕ → ℕ → List Bool
+countsTests t P S = leb 1 P ∷ leb P 4 ∷ leb 1 S ∷ leb S 256 ∷ eqb (length t) (tableLength P S) ∷ []
+
+-- the tests after the first three
+after-three : (a b c : Bool) (l : List Bool) → every (a ∷ b ∷ c ∷ l) ≡ true → every l ≡ true
+after-three true true true l h = h
+after-three true true false l h = never h
+after-three true false c l h = never h
+after-three false b c l h = never h
 
 module _ (t : List ℕ) where
   abbrev rowsFit : Bool
@@ -46,6 +68,31 @@ module _ (t : List ℕ) where
       go true e = refl
       go false e = e
 
+  -- what the counts of a table tell
+  module _ (h : isTable t ≡ true) where
+    pub table-counts : countsFit t (signalsIn t) (statesIn t) ≡ true
+    table-counts = after-three (leb 7 (length t)) (eqb (u16At t 0) 5) (eqb (u16At t 2) 512) (countsTests t (signalsIn t) (statesIn t)) (table-header h)
+
+    table-row : (s : ℕ) → s < statesIn t → every (rowTests t (signalsIn t) (statesIn t) s) ≡ true
+    unfolding isTable
+    table-row s l = all-holds (statesIn t) (λ k. every (rowTests t (signalsIn t) (statesIn t) k)) (go (every (headerTests t)) h) s l
+      where
+        go : (b : Bool) → (b && rowsFit) ≡ true → rowsFit ≡ true
+        go true e = e
+        go false e = never e
+
+    -- a state's verdict byte and its successors
+    pub table-verdict : (s : ℕ) → s < statesIn t → leb (verdictByte t (signalsIn t) s) 3 ≡ true
+    table-verdict s l = holds (rowTests t (signalsIn t) (statesIn t) s) (table-row s l) 2
+
+    pub table-successors : (s : ℕ) → s < statesIn t → allBelow (2 ^ signalsIn t) (λ e. ltb (successor t (signalsIn t) s e) (statesIn t)) ≡ true
+    table-successors s l = holds (rowTests t (signalsIn t) (statesIn t) s) (table-row s l) 3
+
+    pub table-inside : (s e : ℕ) → s < statesIn t → e < 2 ^ signalsIn t → successor t (signalsIn t) s e < statesIn t
+    table-inside s e l b =
+        ltb-true (successor t (signalsIn t) s e) (statesIn t)
+        (all-holds (2 ^ signalsIn t) (λ k. ltb (successor t (signalsIn t) s k) (statesIn t)) (table-successors s l) e b)
+
   pub checked-table : (P S : ℕ) → every (headerTests t) ≡ true → P ≡ signalsIn t → S ≡ statesIn t → allBelow S (λ s. every (rowTests t P S s)) ≡ true
       → Checked.Table P S ≡ checkedOf t
   unfolding isTable
@@ -66,21 +113,3 @@ module _ (t : List ℕ) where
   unfolding isTable
   checked-header h = rw h
 
-  module _ (s : ℕ) (es : List ℕ) where
-    pub run-refused : (x : Refusal) → checkedOf t ≡ Checked.Refused x → Ran.Refused WrongTable ≡ runOf t s es
-    run-refused x h = go (isTable t) refl
-      where
-        go : (b : Bool) → isTable t ≡ b → Ran.Refused WrongTable ≡ runOf t s es
-        go true e = let f = rw e at h in let z : _≡_ {A = ℕ} 0 1 = cc in absurd (omega arith)
-        go false e = rw e
-
-    pub run-table : (P S : ℕ) → checkedOf t ≡ Checked.Table P S → ranIn t P S s es ≡ runOf t s es
-    run-table P S h = go (isTable t) refl
-      where
-        go : (b : Bool) → isTable t ≡ b → ranIn t P S s es ≡ runOf t s es
-        go true e =
-            let f = rw e at h in
-            let p : P ≡ signalsIn t = cc in
-            let q : S ≡ statesIn t = cc in
-            rw (p, q, e, le-leb (signalsIn t) 4 (signals-few (table-header e)), le-leb 1 (statesIn t) (states-some (table-header e)))
-        go false e = let f = rw e at h in let z : _≡_ {A = ℕ} 0 1 = cc in absurd (omega arith)

@@ -1,12 +1,12 @@
 -- `table_file::header_fits` meets its contract.
 use native.Mathlib.Omega.{arith}
-use mathlib.Core.Path.{_≡_, sym, _∙_, ap, ap₂}
+use mathlib.Core.Path.{_≡_, sym, _∙_, ap₂}
 use borrow.Author.Tests.{lt-leb, le-leb, eq-eqb, ne-eqb}
-use Rattle.sequences.proofs.Tests.{fails, last}
-use Rattle.meaning.specs.TableFiles.{headerTests, rowAt, signalsIn, statesIn, tableLength}
+use Rattle.sequences.proofs.Tests.{fails}
+use Rattle.meaning.specs.TableFiles.{headerTests}
+use Rattle.meaning.specs.Runs.{countsFit}
 use Rattle.meaning.specs.Bytes.{u16At}
 use mathlib.Core.Bool.{true}
-use Prim.Native.Nat.{ℕ}
 use lib.Dec.{leb, eqb}
 use lib.ListN.{length}
 use denote.Ref.{now}
@@ -32,35 +32,22 @@ returns-3 c = let l = now (c .before .before .before .before .before .before .ar
 byte-at-requires : tie.Need-byte-at-requires
 byte-at-requires c κs = search needs
 
-returns-4 : tie.Need-returns-4
-returns-4 c = let l = now (c .before .before .before .before .before .before .before .before .args .t) in sym (fails (headerTests l) 3 (lt-leb 1 (signalsIn l) (omega (arith, c .if4 .taken, c .before .byte-at .ensures))))
-
-returns-5 : tie.Need-returns-5
-returns-5 c = let l = now (c .before .before .before .before .before .before .before .before .before .args .t) in sym (fails (headerTests l) 4 (lt-leb (signalsIn l) 4 (omega (arith, c .if5 .taken, c .before .before .byte-at .ensures))))
-
 u16-at-requires-3 : tie.Need-u16-at-requires-3
 u16-at-requires-3 c κs = search needs
 
-returns-6 : tie.Need-returns-6
-returns-6 c = let l = now (c .before .before .before .before .before .before .before .before .before .before .before .args .t) in sym (fails (headerTests l) 5 (lt-leb 1 (statesIn l) (omega (arith, c .if6 .taken, c .before .u16-at3 .ensures))))
+counts-fit-requires : tie.Need-counts-fit-requires
+counts-fit-requires c κs = search needs
 
-returns-7 : tie.Need-returns-7
-returns-7 c = let l = now (c .before .before .before .before .before .before .before .before .before .before .before .before .args .t) in sym (fails (headerTests l) 6 (lt-leb (statesIn l) 256 (omega (arith, c .if7 .taken, c .before .before .u16-at3 .ensures))))
-
-row-at-requires : tie.Need-row-at-requires
-row-at-requires c κs = search needs
-
-returns-8 : tie.Need-returns-8
-returns-8 c = let l = now (c .before .before .before .before .before .before .before .before .before .before .before .before .before .args .t) in
-    let h₀ : leb 7 (length l) ≡ true = le-leb _ _ (c .before .before .before .before .before .before .before .before .before .before .before .if1 .left) in
-    let h₁ : eqb (u16At l 0) 5 ≡ true = eq-eqb (u16At l 0) 5 (omega (arith, c .before .before .before .before .before .before .before .before .before .if2 .left, c .before .before .before .before .before .before .before .before .before .before .u16-at .ensures)) in
-    let h₂ : eqb (u16At l 2) 512 ≡ true = eq-eqb (u16At l 2) 512 (omega (arith, c .before .before .before .before .before .before .before .if3 .left, c .before .before .before .before .before .before .before .before .u16-at2 .ensures)) in
-    let h₃ : leb 1 (signalsIn l) ≡ true = le-leb 1 (signalsIn l) (omega (arith, c .before .before .before .before .before .if4 .left, c .before .before .before .before .before .before .byte-at .ensures)) in
-    let h₄ : leb (signalsIn l) 4 ≡ true = le-leb (signalsIn l) 4 (omega (arith, c .before .before .before .before .if5 .left, c .before .before .before .before .before .before .byte-at .ensures)) in
-    let h₅ : leb 1 (statesIn l) ≡ true = le-leb 1 (statesIn l) (omega (arith, c .before .before .if6 .left, c .before .before .before .u16-at3 .ensures)) in
-    let h₆ : leb (statesIn l) 256 ≡ true = le-leb (statesIn l) 256 (omega (arith, c .before .if7 .left, c .before .before .before .u16-at3 .ensures)) in
-    rw (h₀, h₁, h₂, h₃, h₄, h₅, h₆)
-    (ap (λ (n : ℕ). eqb (length l) n) (c .row-at .ensures .0 ∙ ap₂ rowAt (c .before .before .before .before .before .before .byte-at .ensures) (c .before .before .before .u16-at3 .ensures)) ∙ last (eqb (length l) (tableLength (signalsIn l) (statesIn l))))
+returns-4 : tie.Need-returns-4
+returns-4 c =
+    let third = c .before .before .before in
+    let second = third .before .before in
+    let first = second .before .before in
+    let l = now (first .before .before .args .t) in
+    let h₀ : leb 7 (length l) ≡ true = le-leb _ _ (first .if1 .left) in
+    let h₁ : eqb (u16At l 0) 5 ≡ true = eq-eqb (u16At l 0) 5 (omega (arith, second .if2 .left, second .before .u16-at .ensures)) in
+    let h₂ : eqb (u16At l 2) 512 ≡ true = eq-eqb (u16At l 2) 512 (omega (arith, third .if3 .left, third .before .u16-at2 .ensures)) in
+    rw (h₀, h₁, h₂) (c .counts-fit .ensures ∙ ap₂ (countsFit l) (c .before .before .byte-at .ensures) (c .before .u16-at3 .ensures))
 
 pub header-fits-spec : {M : Type 1} → statement M
 header-fits-spec =
@@ -72,10 +59,6 @@ header-fits-spec =
     u16-at-requires-2
     returns-3
     byte-at-requires
-    returns-4
-    returns-5
     u16-at-requires-3
-    returns-6
-    returns-7
-    row-at-requires
-    returns-8)
+    counts-fit-requires
+    returns-4)

@@ -1,0 +1,197 @@
+// Runs over bytes and counts in hand, whatever they are: what is read is tested, so that no answer but a refusal leaves the table.
+ghost use mathlib.Core.Path.{_≡_};
+ghost use mathlib.Core.List.{[], _∷_};
+ghost use Prim.Native.Nat.{_≤_};
+ghost use lib.ListN.{length};
+ghost use Rattle.meaning.specs.Runs.{ranIn, noRow, rowIn};
+ghost use Rattle.run_parts.specs.Parts.{NoneAbove, Copied};
+ghost use Rattle.table_run.specs.Tables.{admission, notedOf, shownBy, endIn};
+use events::width;
+use meaning::Decided;
+use meaning::Ran;
+use meaning::Refusal;
+use meaning::Shown;
+use meaning::StateRow;
+use run_parts::decides_at;
+use run_parts::first_bad;
+use run_parts::in_table;
+use run_parts::rows_of;
+use run_parts::successor_in;
+use run_parts::successors_of;
+use table_file::counts_fit;
+use table_file::row_at;
+use table_file::successor_at;
+use table_file::successors_fit;
+use table_file::verdict_at;
+use wire::wide;
+
+// Whether a run may start, or a row be read.
+enum Admission {
+    Granted,
+    Refused(Refusal),
+}
+
+// Counts that no table has, and bytes that are not as many as that table's, are refused by 14, so that a refused opening, whose counts are
+// 0, runs nowhere; then a state that is none by 13.
+fn admit(t: &[u8], signals: u8, states: u16, state: u16) -> Admission
+    ensures { λ r. ⌜ r ≡ admission (now (t .entry)) signals states state ⌝ }
+{
+    if counts_fit(t, signals, states) {
+        if states <= state {
+            return Admission::Refused(Refusal::WrongState);
+        }
+        return Admission::Granted;
+    }
+    Admission::Refused(Refusal::WrongTable)
+}
+
+// ---- a list of events
+
+// When the first verdict other than undecided was shown, once the state after so many events is seen too.
+fn noted(first: Decided, shows: bool, count: usize) -> Decided
+    ensures { λ r. ⌜ r ≡ notedOf first shows count ⌝ }
+{
+    match first {
+        Decided::After(n) => Decided::After(n),
+        Decided::Never => {
+            if shows {
+                return Decided::After(count);
+            }
+            Decided::Never
+        }
+    }
+}
+
+// Where a run ends; 14 where its way leaves the table.
+fn ended(t: &[u8], rows: &[u16], signals: u8, states: u16, state: u16, events: &[u8]) -> Ran
+    requires { ⌜ signals ≤ 4 ⌝ }
+    requires { ⌜ Copied (now t) signals (now rows) ⌝ }
+    requires { ⌜ NoneAbove (length (now events)) (now events) 15 ⌝ }
+    ensures { λ r. ⌜ r ≡ endIn (now (t .entry)) signals states state (now (events .entry)) ⌝ }
+{
+    let mut first = Decided::Never;
+    let mut s = state;
+    let mut i: usize = 0;
+    while i < events.len() {
+        if in_table(t, signals, states, s) {
+            first = noted(first, decides_at(t, signals, s), i);
+            s = successor_in(t, rows, signals, s, events[i]);
+            i += 1;
+        } else {
+            return Ran::Refused(Refusal::WrongTable);
+        }
+    }
+    if in_table(t, signals, states, s) {
+        let verdict = verdict_at(t, signals, s);
+        let decided = noted(first, decides_at(t, signals, s), i);
+        return Ran::Ended {
+            state: s,
+            verdict,
+            decided,
+        };
+    }
+    Ran::Refused(Refusal::WrongTable)
+}
+
+// The same with the successors copied first, which pays from 4,096 events on.
+fn ended_by_rows(t: &[u8], signals: u8, states: u16, state: u16, events: &[u8]) -> Ran
+    requires { ⌜ signals ≤ 4 ⌝ }
+    requires { ⌜ NoneAbove (length (now events)) (now events) 15 ⌝ }
+    ensures { λ r. ⌜ r ≡ endIn (now (t .entry)) signals states state (now (events .entry)) ⌝ }
+{
+    let rows = rows_of(t, signals);
+    ended(t, &rows, signals, states, state, events)
+}
+
+// A run over the bytes of a table and its counts: 14, 13 and 12 before it starts, and 14 where its way leaves the table.
+pub fn run_in(t: &[u8], signals: u8, states: u16, state: u16, events: &[u8]) -> Ran
+    ensures { λ r. ⌜ r ≡ ranIn (now (t .entry)) signals states state (now (events .entry)) ⌝ }
+{
+    let admitted = admit(t, signals, states, state);
+    if let Admission::Refused(why) = admitted {
+        return Ran::Refused(why);
+    }
+    let bad = first_bad(signals, events);
+    if bad < events.len() {
+        return Ran::Refused(Refusal::WrongEvent(bad));
+    }
+    if 4096 <= events.len() {
+        return ended_by_rows(t, signals, states, state, events);
+    }
+    let none: [u16; 0] = [];
+    ended(t, &none, signals, states, state, events)
+}
+
+// ---- one event
+
+// When the first verdict other than undecided was shown on a way of one event.
+fn first_shown(t: &[u8], signals: u8, state: u16, to: u16) -> Decided
+    requires { ⌜ signals ≤ 4 ⌝ }
+    ensures { λ r. ⌜ r ≡ shownBy (now (t .entry)) signals state to ⌝ }
+{
+    if decides_at(t, signals, state) {
+        return Decided::After(0);
+    }
+    if decides_at(t, signals, to) {
+        return Decided::After(1);
+    }
+    Decided::Never
+}
+
+// A run over one event, with no list.
+pub fn step_in(t: &[u8], signals: u8, states: u16, state: u16, event: u8) -> Ran
+    ensures { λ r. ⌜ r ≡ ranIn (now (t .entry)) signals states state (event ∷ []) ⌝ }
+{
+    let admitted = admit(t, signals, states, state);
+    if let Admission::Refused(why) = admitted {
+        return Ran::Refused(why);
+    }
+    if width(signals) <= wide(event) {
+        return Ran::Refused(Refusal::WrongEvent(0));
+    }
+    let to = successor_at(t, signals, state, event);
+    if in_table(t, signals, states, state) {
+        if in_table(t, signals, states, to) {
+            let verdict = verdict_at(t, signals, to);
+            let decided = first_shown(t, signals, state, to);
+            return Ran::Ended {
+                state: to,
+                verdict,
+                decided,
+            };
+        }
+    }
+    Ran::Refused(Refusal::WrongTable)
+}
+
+// ---- one row
+
+fn no_row(why: Refusal) -> StateRow
+    ensures { λ r. ⌜ r ≡ noRow why ⌝ }
+{
+    StateRow {
+        shown: Shown::Refused(why),
+        successors: [0; 16],
+    }
+}
+
+// The row of a state: 14 and 13 as for a run, and 14 where the row is none of a table.
+pub fn row_in(t: &[u8], signals: u8, states: u16, state: u16) -> StateRow
+    ensures { λ r. ⌜ r ≡ rowIn (now (t .entry)) signals states state ⌝ }
+{
+    let admitted = admit(t, signals, states, state);
+    if let Admission::Refused(why) = admitted {
+        return no_row(why);
+    }
+    if in_table(t, signals, states, state) {
+        if successors_fit(t, row_at(signals, state) + 5, width(signals), states) {
+            let verdict = verdict_at(t, signals, state);
+            let successors = successors_of(t, signals, state);
+            return StateRow {
+                shown: Shown::Verdict(verdict),
+                successors,
+            };
+        }
+    }
+    no_row(Refusal::WrongTable)
+}
