@@ -3,10 +3,10 @@ use mathlib.Core.List.{List, [], _∷_, _++_}
 use mathlib.Core.Bool.{Bool, true, false, cond, _&&_}
 use Prim.Native.Nat.{ℕ, suc, _^_}
 use lib.ListN.{length, getD, drop, replicate}
-use lib.Dec.{ltb, leb, eqb}
+use lib.Dec.{ltb, leb}
 use Rattle.sequences.specs.Tabulate.{every, allBelow, leastBelow, tabulate}
 use Rattle.meaning.specs.Monitors.{Monitor, follow}
-use Rattle.meaning.specs.TableFiles.{isTable, signalsIn, statesIn, verdictByte, successor, tableLength, verdictOf, monitorIn, monitorOf}
+use Rattle.meaning.specs.TableFiles.{isTable, signalsIn, statesIn, verdictByte, successor, countsTests, verdictOf, monitorIn, monitorOf}
 use Rattle.meaning.specs.declared.Verdict.{Verdict}
 use Rattle.meaning.specs.declared.Verdict.the-variants.{Undecided, Satisfied, Violated, Moot}
 use Rattle.meaning.specs.declared.Refusal.{Refusal}
@@ -51,9 +51,9 @@ runOf t s es = cond (isTable t) (ranOf (monitorOf t) (signalsIn t) s es) (Ran.Re
 
 -- ---- from bytes and counts in hand, as a step takes them: whatever they are, no answer but a refusal leaves the table
 
--- P and S are those of a table, and the bytes have that table's length
+-- P and S are those of a table of as many bytes
 abbrev pub countsFit : List ℕ → ℕ → ℕ → Bool
-countsFit t P S = every (leb 1 P ∷ leb P 4 ∷ leb 1 S ∷ leb S 256 ∷ eqb (length t) (tableLength P S) ∷ [])
+countsFit t P S = every (countsTests t P S)
 
 -- s is one of the S states, and its verdict byte one of the four
 abbrev pub inTable : List ℕ → ℕ → ℕ → ℕ → Bool
@@ -81,7 +81,11 @@ noRow x = record { shown = Shown.Refused x; successors = replicate 16 0 }
 abbrev pub rowOf : List ℕ → ℕ → ℕ → StateRow
 rowOf t P s = record { shown = Shown.Verdict (verdictOf (verdictByte t P s)); successors = tabulate (2 ^ P) (successor t P s) ++ drop (2 ^ P) (replicate 16 0) }
 
--- reading a row: 14 for counts and length, 13, and 14 where the row is none of a table
+-- "thin functions read a row": of a table's bytes, 14, then 13, then the row
+abbrev pub rowRead : List ℕ → ℕ → StateRow
+rowRead t s = cond (isTable t) (cond (ltb s (statesIn t)) (rowOf t (signalsIn t) s) (noRow WrongState)) (noRow WrongTable)
+
+-- the same from bytes and counts in hand: 14 for counts and length, 13, and 14 where the row is none of a table
 abbrev pub rowIn : List ℕ → ℕ → ℕ → ℕ → StateRow
 rowIn t P S s =
     cond (countsFit t P S)

@@ -47,18 +47,13 @@ rowTests t P S s =
     ∷ allBelow (2 ^ P) (λ e. ltb (successor t P s e) S)
     ∷ []
 
+-- P and S are those of a table, "P is the number of signals, 1 to 4", "the number of states, 1 to 256", and the bytes have that table's length
+abbrev pub countsTests : List ℕ → ℕ → ℕ → List Bool
+countsTests t P S = leb 1 P ∷ leb P 4 ∷ leb 1 S ∷ leb S 256 ∷ eqb (length t) (tableLength P S) ∷ []
+
 -- the first record, and the length of the whole
 abbrev pub headerTests : List ℕ → List Bool
-headerTests t =
-    leb 7 (length t)
-    ∷ eqb (u16At t 0) 5
-    ∷ eqb (u16At t 2) 512
-    ∷ leb 1 (signalsIn t)
-    ∷ leb (signalsIn t) 4
-    ∷ leb 1 (statesIn t)
-    ∷ leb (statesIn t) 256
-    ∷ eqb (length t) (tableLength (signalsIn t) (statesIn t))
-    ∷ []
+headerTests t = leb 7 (length t) ∷ eqb (u16At t 0) 5 ∷ eqb (u16At t 2) 512 ∷ countsTests t (signalsIn t) (statesIn t)
 
 -- the bytes are "exactly of the form above"
 unfoldable pub isTable : List ℕ → Bool

@@ -5,11 +5,12 @@ use Prim.Native.Nat.{ℕ}
 use lib.Dec.{leb}
 use denote.Ref.{RefT, now}
 use Rattle.meaning.specs.TableFiles.{checkedOf}
+use Rattle.meaning.specs.Runs.{ranIn, rowIn}
 use Rattle.meaning.specs.declared.Refusal.the-variants.{WrongTable}
 use Rattle.meaning.specs.declared.Checked.{Checked}
 use Rattle.meaning.specs.declared.Checked.the-variants as Checked
 use Rattle.meaning.specs.declared.Ran.{Ran}
-use Rattle.table_file.specs.Tables.{ranIn}
+use Rattle.meaning.specs.declared.StateRow.{StateRow}
 use Rattle.opened.specs.declared.Counts.{Counts}
 use Rattle.opened.specs.declared.Opened.{Opened}
 
@@ -36,3 +37,7 @@ ranBy t s es = ranIn (now (t .bytes)) (t .signals) (t .states) s es
 -- a step is a run over one event
 abbrev pub steppedBy : Opened → ℕ → ℕ → Ran
 steppedBy t s e = ranBy t s (e ∷ [])
+
+-- a state's row: "thin functions read a row and step from it"
+abbrev pub rowBy : Opened → ℕ → StateRow
+rowBy t s = rowIn (now (t .bytes)) (t .signals) (t .states) s

@@ -2,11 +2,12 @@
 ghost use mathlib.Core.Path.{_≡_};
 ghost use mathlib.Core.List.{_∷_, []};
 ghost use Rattle.meaning.specs.TableFiles.{checkedOf};
-ghost use Rattle.meaning.specs.Runs.{runOf};
-ghost use Rattle.opened.specs.OpenedTables.{countsOf, openedOf, outcomeIn, outcomeBy, steppedBy, ranBy};
+ghost use Rattle.meaning.specs.Runs.{runOf, rowRead};
+ghost use Rattle.opened.specs.OpenedTables.{countsOf, openedOf, outcomeIn, outcomeBy, steppedBy, ranBy, rowBy};
 use meaning::Checked;
 use meaning::Ran;
 use meaning::Refusal;
+use meaning::StateRow;
 
 // ---- over a slice and its counts
 
@@ -71,14 +72,21 @@ pub fn outcome<'a>(t: Opened<'a>) -> Checked
 pub fn step<'a>(t: Opened<'a>, state: u16, event: u8) -> Ran
     ensures { λ r. ⌜ r ≡ steppedBy (t .entry) state event ⌝ }
 {
-    table_file::step_in(t.bytes, t.signals, t.states, state, event)
+    table_run::step_in(t.bytes, t.signals, t.states, state, event)
+}
+
+// The row of a state: 14 where opening refused, then 13, and otherwise its verdict and its successor for each event.
+pub fn row<'a>(t: Opened<'a>, state: u16) -> StateRow
+    ensures { λ r. ⌜ r ≡ rowBy (t .entry) state ⌝ }
+{
+    table_run::row_in(t.bytes, t.signals, t.states, state)
 }
 
 // A run over a list of events: 14 where opening refused, then 13, then 12 at the first such event, and otherwise where the run ends.
 pub fn run<'a, 'e>(t: Opened<'a>, state: u16, events: &'e [u8]) -> Ran
     ensures { λ r. ⌜ r ≡ ranBy (t .entry) state (now (events .entry)) ⌝ }
 {
-    table_file::run_in(t.bytes, t.signals, t.states, state, events)
+    table_run::run_in(t.bytes, t.signals, t.states, state, events)
 }
 
 // ---- with plain parameters
@@ -95,4 +103,11 @@ pub fn open_and_step(bytes: &[u8], state: u16, event: u8) -> Ran
     ensures { λ r. ⌜ r ≡ runOf (now (bytes .entry)) state (event ∷ []) ⌝ }
 {
     step(open(bytes), state, event)
+}
+
+// Opens and reads a row, for callers that hold no opened table.
+pub fn open_and_row(bytes: &[u8], state: u16) -> StateRow
+    ensures { λ r. ⌜ r ≡ rowRead (now (bytes .entry)) state ⌝ }
+{
+    row(open(bytes), state)
 }

@@ -11,7 +11,7 @@ use Rattle.sequences.specs.Tabulate.{every, allBelow}
 use Rattle.sequences.proofs.Tests.{holds}
 use Rattle.sequences.proofs.Loops.{all-not}
 use Rattle.meaning.specs.Bytes.{u16At}
-use Rattle.meaning.specs.TableFiles.{headerTests, rowTests, tableLength, signalsIn, statesIn, verdictByte, successor, isTable, checkedOf, verdictOf}
+use Rattle.meaning.specs.TableFiles.{countsTests, headerTests, rowTests, signalsIn, statesIn, verdictByte, successor, isTable, checkedOf, verdictOf}
 use Rattle.meaning.specs.Runs.{countsFit}
 use Rattle.meaning.specs.declared.Verdict.the-variants.{Undecided}
 use Rattle.meaning.specs.declared.Refusal.the-variants.{WrongTable}
@@ -33,10 +33,6 @@ all-holds n p h i l = go (p i) refl
     go : (b : Bool) → p i ≡ b → p i ≡ true
     go true e = e
     go false e = never (sym (all-not n p i l e) ∙ h)
-
--- the tests of countsFit
-abbrev pub countsTests : List ℕ → ℕ → ℕ → List Bool
-countsTests t P S = leb 1 P ∷ leb P 4 ∷ leb 1 S ∷ leb S 256 ∷ eqb (length t) (tableLength P S) ∷ []
 
 -- the tests after the first three
 after-three : (a b c : Bool) (l : List Bool) → every (a ∷ b ∷ c ∷ l) ≡ true → every l ≡ true

@@ -4,7 +4,7 @@ use mathlib.Core.List.{List, [], _∷_}
 use mathlib.Core.Bool.{Bool, true, false}
 use Prim.Native.Nat.{ℕ, _+_, _*_, _/_, _%_, _≤_, _<_}
 use native.Mathlib.Omega.{arith}
-use borrow.Author.Tests.{lt-leb, ltb-true}
+use borrow.Author.Tests.{lt-leb, le-leb, ltb-true}
 use Rattle.meaning.specs.TableFiles.{signalsIn, statesIn, isTable, checkedOf}
 use Rattle.meaning.specs.Runs.{runOf}
 use Rattle.meaning.specs.declared.Refusal.the-variants.{WrongTable}
@@ -16,7 +16,7 @@ use Rattle.tefuji.specs.Codes.{refusalCode, countsCode, stepOf}
 
 -- over more than four signals there is no table
 pub step-none : (t : List ℕ) (c s e : ℕ) → 4 < c / 65536 → Ran.Refused WrongTable ≡ stepOf t c s e
-step-none t c s e h = rw (lt-leb (c / 65536) 4 h)
+step-none t c s e h = rw (le-leb 1 (c / 65536) (omega arith), lt-leb (c / 65536) 4 h)
 
 -- a refusal as counts is such a number
 refused-large : 4 < refusalCode WrongTable / 65536

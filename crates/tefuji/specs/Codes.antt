@@ -14,7 +14,7 @@ use Rattle.meaning.specs.declared.Decided.{Decided}
 use Rattle.meaning.specs.declared.Decided.the-variants.{After, Never}
 use Rattle.meaning.specs.declared.Ran.{Ran}
 use Rattle.meaning.specs.declared.Ran.the-variants as Ran
-use Rattle.table_file.specs.Tables.{ranIn}
+use Rattle.meaning.specs.Runs.{ranIn}
 use Rattle.table_text.specs.declared.Text.{Text}
 use Rattle.table_text.specs.declared.Text.the-variants as Text
 

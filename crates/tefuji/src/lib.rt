@@ -130,7 +130,7 @@ pub extern "C" fn tefuji_step(table: &[u8], counts: u64, state: u16, event: u8) 
         return refusal_code(Refusal::WrongTable);
     }
     let states = counts % 65536;
-    ran_code(table_file::step_in(table, signals as u8, states as u16, state, event))
+    ran_code(table_run::step_in(table, signals as u8, states as u16, state, event))
 }
 
 // Writes a table's text into the front of a buffer of at least 32,768 bytes. Answers the text's length.

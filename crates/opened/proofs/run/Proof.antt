@@ -1,4 +1,4 @@
--- `opened::run` meets its contract: a walk of its MIR, in which the struct is taken apart and `table_file::run_in` is called on the slice, the numbers and the events.
+-- `opened::run` meets its contract: a walk of its MIR, in which the struct is taken apart and `table_run::run_in` is called on the slice, the numbers and the events.
 use mathlib.Core.Path.{_≡_, refl}
 use Prim.Native.Nat.{ℕ, _<_, _^_}
 use mathlib.Core.List.{List, [], _∷_}
@@ -47,11 +47,11 @@ use Rattle.opened.proofs.Opened.Laws as T′
 use Rattle.meaning.specs.declared.Ran.{Ran}
 use Rattle.meaning.proofs.Ran as R
 use Rattle.meaning.proofs.Ran.Laws as R′
-use Rattle.table_file.specs.Tables.{ranIn}
-use Rattle.table_file.proofs.run_in as inner
-use Rattle.table_file.proofs.run_in.Symbol as inner-def
-use Rattle.table_file.proofs.run_in.Symbol.{name as #table-file·run-in}
-use Rattle.table_file.proofs.run_in.Met as inner-thm
+use Rattle.meaning.specs.Runs.{ranIn}
+use Rattle.table_run.proofs.run_in as inner
+use Rattle.table_run.proofs.run_in.Symbol as inner-def
+use Rattle.table_run.proofs.run_in.Symbol.{name as #table-run·run-in}
+use Rattle.table_run.proofs.run_in.Met as inner-thm
 use Rattle.opened.proofs.run.Key.{name as #opened·run}
 use Rattle.opened.proofs.run as outer
 use Rattle.opened.proofs.run.Statement as stated
@@ -127,7 +127,7 @@ module _ {M : Type 1} (𝓤 : URA M) (H : Heap 𝓤) (A : Atoms 𝓤) (W : Given
       suffices ! _ (ends-at 𝓤 H A outer.ended stayed (outer.clauses 𝓤 H A mem run) W y u r (tt, (tt, (tt, tt))) (tt, (tt, (tt, tt)))) $ says ! e $
       move ! (1 ∷ []) $ frame ! $ nothing ! $ move ! (3 ∷ 0 ∷ []) $ fjoin ! $ owned ! u16 (Is u16) (uint-makes 𝓤 H A W w16) m _ (refl, m-fits) $ fjoin ! $ move ! (2 ∷ 0 ∷ []) $ fjoin ! $ frame ! $ done !
 
-  module _ (C : Calls 𝓤 H) (Λ : Loops 𝓤 H) (fm : FmC 𝓤 H (W .laws) C) (known : Triple 𝓤 (C #table-file·run-in) (Inner 𝓤 H A mem run)) where
+  module _ (C : Calls 𝓤 H) (Λ : Loops 𝓤 H) (fm : FmC 𝓤 H (W .laws) C) (known : Triple 𝓤 (C #table-run·run-in) (Inner 𝓤 H A mem run)) where
     walk : Holds (hasTy (T′.mir (named 0)) mach) × WT mach → Is (ShrSlice (named 1) κ′ u8) es (ve ∷ []) → ent 𝓤 (onEntry 𝓤 H A outer.signature (κ, (κ′, tt)) (q, (q′, tt)) (d, (m, (es, tt))) args) (WpFn 𝓤 H C Λ code.function (mach ∷ vint w16 m ∷ ve ∷ []) Post)
     walk wt p =
         qed W ((‵ (flft κ q) ⊛ ‵ (flft κ′ q′) ⊛ ‵ ftrue) ∷ ‵ (owns (B (κ, (κ′, tt)) ∷ u16 ∷ ShrSlice (named 1) κ′ u8 ∷ []) (d, (m, (es, tt))) args) ∷ []) ∵ enter ! C Λ code.function (mach ∷ vint w16 m ∷ ve ∷ []) _ $
@@ -152,7 +152,7 @@ module _ {M : Type 1} (𝓤 : URA M) (H : Heap 𝓤) (A : Atoms 𝓤) (W : Given
         move ! (18 ∷ 19 ∷ []) $ free1 ! $ move ! (16 ∷ 17 ∷ []) $ free1 ! $ move ! (14 ∷ 15 ∷ []) $ free1 ! $ move ! (12 ∷ 13 ∷ []) $ free1 ! $ move ! (10 ∷ 11 ∷ []) $ free1 ! $ move ! (8 ∷ 9 ∷ []) $ free1 ! $ move ! (6 ∷ 7 ∷ []) $ free1 ! $ free0 ! $ keep ! (0 ∷ 1 ∷ 2 ∷ 3 ∷ []) $ by ! (exits r u e)))))))))))))
 
 module _ {M : Type 1} (𝓤 : URA M) (H : Heap 𝓤) (A : Atoms 𝓤) (W : Given 𝓤 H A) (mem : Memory → SProp 𝓤) (run : Routine → Fun 𝓤) where
-  run-walks : (C : Calls 𝓤 H) (Λ : Loops 𝓤 H) → FmC 𝓤 H (W .laws) C → Triple 𝓤 (C #table-file·run-in) (Inner 𝓤 H A mem run)
+  run-walks : (C : Calls 𝓤 H) (Λ : Loops 𝓤 H) → FmC 𝓤 H (W .laws) C → Triple 𝓤 (C #table-run·run-in) (Inner 𝓤 H A mem run)
       → Walks 𝓤 H A outer.ended stayed (WpFn 𝓤 H C Λ code.function) (outer.clauses 𝓤 H A mem run)
   run-walks C Λ fm known = walked 𝓤 H A outer.ended stayed (outer.clauses 𝓤 H A mem run) (WpFn 𝓤 H C Λ code.function)
       (λ κs. (LL.vals (T.the-type (namedLft 2 0 tt κs)) (T′.the-laws (namedLft 2 0 tt κs)), (uint-vals w16, (slice-vals, tt)))) (λ κs. (LL.tells (T.the-type (namedLft 2 0 tt κs)) (T′.the-laws (namedLft 2 0 tt κs)), (uint-tells w16, (shr-slice-tells (named 1) (κs .1 .0) u8, tt))))
@@ -160,7 +160,7 @@ module _ {M : Type 1} (𝓤 : URA M) (H : Heap 𝓤) (A : Atoms 𝓤) (W : Given
       (LL.lawful (T.the-type (namedLft 2 0 tt κs)) (T′.the-laws (namedLft 2 0 tt κs)) 𝓤 H A W .typed (a .0) _ (are .0) .0) (are .1 .1 .0)))
 
 run-meets : {M : Type 1} (𝓤 : URA M) (H : Heap 𝓤) (A : Atoms 𝓤) (W : Given 𝓤 H A) (mem : Memory → SProp 𝓤) (run : Routine → Fun 𝓤) (𝓣 : Tables 𝓤 H)
-    → Triple 𝓤 (𝓣 .C #table-file·run-in) (Inner 𝓤 H A mem run)
+    → Triple 𝓤 (𝓣 .C #table-run·run-in) (Inner 𝓤 H A mem run)
     → Meets 𝓤 H A outer.signature (WpFn 𝓤 H (𝓣 .C) (𝓣 .Λ) code.function) (outer.spec 𝓤 H A mem run)
 run-meets 𝓤 H A W mem run 𝓣 known = walk-meets 𝓤 H A outer.ended stayed W (goes-none 𝓤 H A W 2 B yes (λ κs x f. refl), (goes-none 𝓤 H A W 2 (λ _. u16) yes (λ κs x f. refl), (goes-none-slice 𝓤 H A W 2 (1 ∷ []) tt (plain (λ _. u8)) yes, tt))) (outer.clauses 𝓤 H A mem run)
     (WpFn 𝓤 H (𝓣 .C) (𝓣 .Λ) code.function) (WpFn-mono 𝓤 H (W .laws) 𝓣 code.function) (run-walks 𝓤 H A W mem run (𝓣 .C) (𝓣 .Λ) (fmOf 𝓤 H (W .laws) 𝓣) known)
@@ -171,4 +171,4 @@ run-spec 𝓤 H 𝓜 𝓖 𝓡 =
     entered 𝓤 H (tripleOf 𝓤 H (𝓖 .A) outer.signature (outer.spec 𝓤 H (𝓖 .A) (𝓜 .mem) (𝓡 .run)))
     (tables 𝓤 H 𝓜 𝓡 code.env .C) (tables 𝓤 H 𝓜 𝓡 code.env .Λ) #opened·run code.function (code.unfolded 𝓤 H 𝓜 𝓡)
     (run-meets 𝓤 H (𝓖 .A) (givenOf 𝓤 H 𝓜 𝓖) (𝓜 .mem) (𝓡 .run) (tablesOf 𝓤 H 𝓜 (tables 𝓤 H 𝓜 𝓡 code.env))
-    (cited 𝓤 H (Inner 𝓤 H (𝓖 .A) (𝓜 .mem) (𝓡 .run)) 𝓜 𝓡 code.env #table-file·run-in inner-def.routine code.calls-table-file·run-in (inner-thm.met 𝓤 H 𝓜 𝓖 𝓡)))
+    (cited 𝓤 H (Inner 𝓤 H (𝓖 .A) (𝓜 .mem) (𝓡 .run)) 𝓜 𝓡 code.env #table-run·run-in inner-def.routine code.calls-table-run·run-in (inner-thm.met 𝓤 H 𝓜 𝓖 𝓡)))

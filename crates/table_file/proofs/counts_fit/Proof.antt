@@ -8,8 +8,7 @@ use lib.Dec.{leb, eqb}
 use lib.ListN.{length}
 use denote.Ref.{now}
 use Rattle.sequences.proofs.Tests.{fails, last}
-use Rattle.meaning.specs.TableFiles.{tableLength}
-use Rattle.table_file.proofs.Form.{countsTests}
+use Rattle.meaning.specs.TableFiles.{tableLength, countsTests}
 use Rattle.table_file.proofs.counts_fit.Statement.{statement}
 use Rattle.table_file.proofs.counts_fit.Tie as tie
 
