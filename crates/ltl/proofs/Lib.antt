@@ -21,4 +21,3 @@ pub mod Residuals
 pub mod SameTables
 pub mod Bounds
 pub mod Instance
-pub mod Examples

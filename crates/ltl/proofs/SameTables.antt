@@ -1,16 +1,13 @@
 -- Two tables that hold the same entries for the events that can happen and the labels there are give the same keys, whatever else they hold.
-use mathlib.Core.Path.{_≡_, sym, ap, _∙_, subst}
-use mathlib.Core.Bool.{true, false}
+use mathlib.Core.Path.{_≡_, subst}
 use mathlib.Core.List.{List}
-use Prim.Native.Nat.{ℕ, _+_, _%_, _^_}
-use native.Mathlib.Nat.{mod-lt}
+use Prim.Native.Nat.{ℕ, _^_}
 use lib.Dec.{T}
-use lib.Pow.{pow-pos}
-use Rattle.meaning.specs.Traces.{Alphabet, Event}
+use Rattle.meaning.specs.Traces.{Alphabet}
 use Rattle.ltl.specs.Sets.{on}
 use Rattle.ltl.specs.Nodes.{Split, temporals}
-use Rattle.ltl.specs.Residuals.{preimage, stepFrom, wholeSet}
-use Rattle.ltl.proofs.Sets.{same-members, set-same}
+use Rattle.ltl.specs.Residuals.{wholeSet}
+use Rattle.ltl.proofs.Sets.{same-members}
 use Rattle.ltl.proofs.Truth.{t-equal}
 use Rattle.ltl.proofs.Tables.{Tabulates}
 use Rattle.ltl.proofs.Profiles.{whole-complete, whole-sound}
@@ -25,9 +22,3 @@ module _ {Σ : Alphabet} {ns : List Split} {profile fair profile′ fair′ : �
       (λ p. t-equal (on (wholeSet Σ n profile (temporals ns) fair) p) (on (wholeSet Σ n profile′ (temporals ns) fair′) p)
       (λ h. let r = whole-sound t p h in subst (λ (q : ℕ). T (on (wholeSet Σ n profile′ (temporals ns) fair′) q)) (r .is) (whole-complete t′ (r .lasso) (r .continuation)))
       (λ h. let r = whole-sound t′ p h in subst (λ (q : ℕ). T (on (wholeSet Σ n profile (temporals ns) fair) q)) (r .is) (whole-complete t (r .lasso) (r .continuation))))
-
-  pub same-step : (whole A e : ℕ) → Event Σ e → stepFrom n profile whole A e ≡ stepFrom n profile′ whole A e
-  same-step whole A e h =
-      set-same (n + n) (preimage n profile whole A e) (preimage n profile′ whole A e)
-      (λ p l. ap (λ (q : ℕ). elim (on whole p) [ true ↦ on A q | false ↦ false ])
-      (t .profile-is e (p % n) h (mod-lt p (pow-pos (temporals ns))) ∙ sym (t′ .profile-is e (p % n) h (mod-lt p (pow-pos (temporals ns))))))

@@ -1,13 +1,13 @@
 -- Numbers as finite sets: which numbers are in the sets that specs/Sets.antt makes, and that a set is told by its members.
 use mathlib.Core.Path.{_≡_, refl, sym, ap, _∙_, subst}
 use mathlib.Core.Logic.{_⊎_, _≢_, inl, inr}
-use mathlib.Core.Bool.{Bool, true, false, false≢true, _||_}
+use mathlib.Core.Bool.{Bool, true, false, false≢true, _&&_, _||_}
 use Prim.Native.Nat.{ℕ, zero, suc, _+_, _*_, _/_, _%_, _^_, _≤_, _<_, max}
 use native.Mathlib.Nat.{le-trans, pow-suc, zero-add, zero-div, div-one, div-div-eq-div-mul, mul-comm}
 use native.Mathlib.Decide.{ℕ-discrete, decLt}
 use native.Mathlib.Omega.{arith}
 use lib.Dec.{T, eqb}
-use lib.Bits.{bitOr, or-shr, or-step}
+use lib.Bits.{bitAnd, bitOr, and-shr, and-mod, or-shr, or-step}
 use lib.Pow.{pow-pos, pow-mono}
 use Rattle.ltl.specs.Sets.{on, put, setBelow}
 
@@ -15,10 +15,10 @@ pub on-zero : (i : ℕ) → on 0 i ≡ false
 on-zero i = rw zero-div
 
 -- membership by the lowest bit and the others
-on-first : (A : ℕ) → on A 0 ≡ eqb (A % 2) 1
+pub on-first : (A : ℕ) → on A 0 ≡ eqb (A % 2) 1
 on-first A = ap (λ (q : ℕ). eqb (q % 2) 1) (div-one A)
 
-on-suc : (A i : ℕ) → on A (suc i) ≡ on (A / 2) i
+pub on-suc : (A i : ℕ) → on A (suc i) ≡ on (A / 2) i
 on-suc A i = ap (λ (q : ℕ). eqb (q % 2) 1) (ap (λ (d : ℕ). A / d) (pow-suc 2 i ∙ mul-comm (2 ^ i) 2) ∙ sym (div-div-eq-div-mul A 2 (2 ^ i)))
 
 half-lt : (A k : ℕ) → A < 2 ^ suc k → A / 2 < 2 ^ k
@@ -122,18 +122,32 @@ members-lt k A f = subst (λ (B : ℕ). B < 2 ^ k) (sym (same-members A (setBelo
         out true g = absurd (h (g tt))
         out false g = refl
 
--- ---- unions
+-- ---- unions, and the numbers in both
 
-on-or : (A B i : ℕ) → on (bitOr A B) i ≡ (on A i || on B i)
+pub on-or : (A B i : ℕ) → on (bitOr A B) i ≡ (on A i || on B i)
 on-or A B i =
-    ap (λ (q : ℕ). eqb (q % 2) 1) (or-shr A B i ∙ or-step (A / 2 ^ i) (B / 2 ^ i))
-    ∙ ap (λ (q : ℕ). eqb q 1) (odd (bitOr (A / 2 ^ i / 2) (B / 2 ^ i / 2)) (max (A / 2 ^ i % 2) (B / 2 ^ i % 2)) (omega arith))
+    ap (λ (x : ℕ). eqb (x % 2) 1) (or-shr A B i ∙ or-step (A / 2 ^ i) (B / 2 ^ i))
+    ∙ ap (λ (x : ℕ). eqb x 1) (lowest (bitOr (A / 2 ^ i / 2) (B / 2 ^ i / 2)) (max (A / 2 ^ i % 2) (B / 2 ^ i % 2)) (omega arith))
     ∙ digit (A / 2 ^ i % 2) (B / 2 ^ i % 2) (omega arith) (omega arith)
   where
-    odd : (q x : ℕ) → x < 2 → (q * 2 + x) % 2 ≡ x
-    odd q x h = omega arith
+    lowest : (q x : ℕ) → x < 2 → (q * 2 + x) % 2 ≡ x
+    lowest q x h = omega arith
 
     digit : (x y : ℕ) → x < 2 → y < 2 → eqb (max x y) 1 ≡ (eqb x 1 || eqb y 1)
+    digit zero zero p q = refl
+    digit zero (suc zero) p q = refl
+    digit (suc zero) zero p q = refl
+    digit (suc zero) (suc zero) p q = refl
+    digit zero (suc (suc y)) p q = absurd (omega arith)
+    digit (suc zero) (suc (suc y)) p q = absurd (omega arith)
+    digit (suc (suc x)) y p q = absurd (omega arith)
+
+pub on-and : (A B i : ℕ) → on (bitAnd A B) i ≡ (on A i && on B i)
+on-and A B i =
+    ap (λ (x : ℕ). eqb (x % 2) 1) (and-shr A B i) ∙ ap (λ (x : ℕ). eqb x 1) (and-mod (A / 2 ^ i) (B / 2 ^ i) 1)
+    ∙ digit (A / 2 ^ i % 2) (B / 2 ^ i % 2) (omega arith) (omega arith)
+  where
+    digit : (x y : ℕ) → x < 2 → y < 2 → eqb (bitAnd x y) 1 ≡ (eqb x 1 && eqb y 1)
     digit zero zero p q = refl
     digit zero (suc zero) p q = refl
     digit (suc zero) zero p q = refl

@@ -1,12 +1,12 @@
 -- Truth at a position depends only on the events from there on: it moves with them to another word, past a finite beginning, and round a lasso's loop.
 use mathlib.Core.Path.{_≡_, sym, ap, _∙_, subst}
 use mathlib.Core.Logic.{_↔_, inl, inr}
-use mathlib.Core.List.{List, [], _∷_, _++_}
+use mathlib.Core.List.{List, [], _∷_}
 use Prim.Native.Nat.{ℕ, zero, suc, _+_, _-_, _≤_}
-use native.Mathlib.Nat.{zero-add, suc-add, add-assoc, add-mod-right}
+use native.Mathlib.Nat.{suc-add, add-mod-right}
 use native.Mathlib.Omega.{arith}
 use lib.ListN.{length}
-use Rattle.meaning.specs.Traces.{Lasso, turn, prepend}
+use Rattle.meaning.specs.Traces.{Lasso, turn}
 use Rattle.meaning.specs.Formulas.{Formula, falsum, verum, signal, atLeast, neg, and, or, implies, iff, xor, next, until, eventually, always, Until, Sat, Holds, bit, countOn}
 
 -- w from i on is v from j on
@@ -62,19 +62,11 @@ shift (always a) h s = λ u. s (until-shift (λ m n l e t. t) (λ m n l e k t. k
 pub shift-iff : {w v : ℕ → ℕ} (f : Formula) {i j : ℕ} → Agree w i v j → Sat w f i ↔ Sat v f j
 shift-iff f h = (shift f h, shift f (agree-sym h))
 
--- past a finite beginning
-pub turn-append : (u s l : List ℕ) (k : ℕ) → turn (u ++ s) l (length u + k) ≡ turn s l k
-turn-append [] s l k = rw zero-add
-turn-append (x ∷ u) s l k = rw suc-add (turn-append u s l k)
-
 -- round the loop once more
 pub turn-period : (s l : List ℕ) (i : ℕ) → length s ≤ i → turn s l (i + length l) ≡ turn s l i
 turn-period [] l i h = rw add-mod-right
 turn-period (x ∷ s) l zero h = absurd (omega arith)
 turn-period (x ∷ s) l (suc i) h = rw suc-add (turn-period s l i (omega arith))
-
-pub holds-prepend : (u : List ℕ) (ρ : Lasso) (i : ℕ) (f : Formula) → Holds (prepend u ρ) (length u + i) f ↔ Holds ρ i f
-holds-prepend u ρ i f = shift-iff f (record { same = λ k. rw add-assoc (turn-append u (ρ .stem) (ρ .loop) (i + k)) })
 
 pub holds-period : (ρ : Lasso) (i : ℕ) (f : Formula) → length (ρ .stem) ≤ i → Holds ρ (i + length (ρ .loop)) f ↔ Holds ρ i f
 holds-period ρ i f h = shift-iff f (record {

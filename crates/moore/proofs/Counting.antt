@@ -8,7 +8,8 @@ use native.Mathlib.Decide.{ℕ-discrete, decLt, le-ind}
 use native.Mathlib.Omega.{arith}
 use lib.ListN.{length, getD, length-append, List·getD-append}
 use lib.Seq.{getD-at}
-use Rattle.sequences.specs.Tabulate.{tabulate, upTo}
+use Rattle.sequences.specs.Tabulate.{upTo}
+use Rattle.sequences.proofs.Loops.{tabulate-snoc}
 use Rattle.meaning.specs.Monitors.{keep}
 use Rattle.moore.specs.Counting.{countBelow}
 use Rattle.moore.proofs.Tests.{clash}
@@ -73,10 +74,6 @@ count-one i j p h l e = go (decLt i j) (decLt j i)
     go (yes a) b = absurd (omega (arith, count-lt i j p a h))
     go (no a) (yes b) = absurd (omega (arith, count-lt j i p b l))
     go (no a) (no b) = omega arith
-
-tabulate-snoc : (n : ℕ) (f : ℕ → ℕ) → tabulate (suc n) f ≡ tabulate n f ++ (f n ∷ [])
-tabulate-snoc zero f = refl
-tabulate-snoc (suc n) f = ap (λ (l : List ℕ). f zero ∷ l) (tabulate-snoc n (λ i. f (suc i)))
 
 keep-append : (p : ℕ → Bool) (l l′ : List ℕ) → keep p (l ++ l′) ≡ keep p l ++ keep p l′
 keep-append p [] l′ = refl

@@ -11,12 +11,12 @@ use lib.ListN.{getD}
 use borrow.Author.Tests.{eqb-true, eqb-false, eq-eqb}
 use Rattle.sequences.specs.Tabulate.{tabulate}
 use Rattle.sequences.proofs.Loops.{getD-tab}
-use Rattle.meaning.specs.Traces.{Alphabet, Event, Word}
-use Rattle.meaning.specs.Monitors.{Over, follow}
+use Rattle.meaning.specs.Traces.{Alphabet, Event}
+use Rattle.meaning.specs.Monitors.{Over}
 use Rattle.moore.specs.Counting.{countBelow}
 use Rattle.moore.specs.Grouping.{entry, machine, Machine, together, allEvents, sameStep, firstGroups, nextGroups, leads, sameBelow, rounds, grouping, Differ, Grouped, Stable}
-use Rattle.moore.proofs.Words.{follow-in}
-use Rattle.moore.proofs.Tests.{bool-cases, clash, all-true, all-is, events-true, events-are, events-fail, Equivalence, name, name-le, name-same, same-name, name-eq}
+use Rattle.sequences.proofs.Pointwise.{all-is}
+use Rattle.moore.proofs.Tests.{bool-cases, clash, all-true, events-true, events-are, events-fail, Equivalence, name, name-le, name-same, same-name, name-eq}
 use Rattle.moore.proofs.Counting.{count-le, count-some, More, count-more}
 
 -- ---- a list of least members
@@ -193,14 +193,3 @@ module _ {Σ : Alphabet} {n : ℕ} {rows : List (List ℕ)} {classes : List ℕ}
 
   pub machine-over : Over Σ (machine n rows classes)
   machine-over = record { start-in = M .some; next-in = M .inside }
-
-  -- words lead states of one group to states of one group
-  module _ {g : List ℕ} (G : Grouped Σ n rows classes g) (S : Stable Σ n rows g) where
-    pub same-group : (w : List ℕ) (i j : ℕ) → i < n → j < n → Word Σ w → getD g i 0 ≡ getD g j 0
-        → getD g (follow (machine n rows classes) i w) 0 ≡ getD g (follow (machine n rows classes) j w) 0
-    same-group [] i j l m h e = e
-    same-group (a ∷ w) i j l m h e = same-group w (entry rows i a) (entry rows j a) (M .inside i a l (h .0)) (M .inside j a m (h .0)) (h .1) (S .keeps i j l m e a (h .0))
-
-    pub same-class : (w : List ℕ) (i j : ℕ) → i < n → j < n → Word Σ w → getD g i 0 ≡ getD g j 0
-        → getD classes (follow (machine n rows classes) i w) 0 ≡ getD classes (follow (machine n rows classes) j w) 0
-    same-class w i j l m h e = G .class (follow (machine n rows classes) i w) (follow (machine n rows classes) j w) (follow-in machine-over i w l h) (follow-in machine-over j w m h) (same-group w i j l m h e)

@@ -20,7 +20,8 @@ use Rattle.moore.specs.Counting.{countBelow}
 use Rattle.moore.specs.Grouping.{entry, machine, Machine, leads, together, Differ, Grouped, Stable}
 use Rattle.moore.specs.Quotient.{leaders, leader, size, number, closed, verdictByte, verdicts, quotientRows, quotient, Later, Says}
 use Rattle.moore.proofs.Words.{follow-in}
-use Rattle.moore.proofs.Tests.{T-true, bool-cases, events-true, events-fail}
+use Rattle.sequences.proofs.Pointwise.{is-true}
+use Rattle.moore.proofs.Tests.{bool-cases, events-true, events-fail}
 use Rattle.moore.proofs.Counting.{count-lt, count-one, Standing, standing}
 use Rattle.moore.proofs.Grouping.{machine-over}
 
@@ -81,7 +82,7 @@ module _ {Σ : Alphabet} {n : ℕ} {rows : List (List ℕ)} {classes group : Lis
   next-leader q e l h =
       ap (λ (r : List ℕ). getD r e 0) (getD-tab (size n group) (λ q. tabulate (Σ .width) (at q)) q [] l)
       ∙ getD-tab (Σ .width) (at q) e 0 (h .0)
-      ∙ ap (λ (b : Bool). cond b (getD (tabulate n (number group)) (entry rows (leader n group q) e) 0) 0) (T-true (Σ .possible e) (h .1))
+      ∙ ap (λ (b : Bool). cond b (getD (tabulate n (number group)) (entry rows (leader n group q) e) 0) 0) (is-true (Σ .possible e) (h .1))
       ∙ getD-tab n (number group) (entry rows (leader n group q) e) 0 (M .inside (leader n group q) e (leader-in q l) h)
     where
       at : ℕ → ℕ → ℕ

@@ -6,9 +6,9 @@ use Prim.Native.Nat.{ℕ, zero, suc, _≤_, _<_, suc-le-suc}
 use native.Mathlib.Nat.{le-antisymm}
 use native.Mathlib.Decide.{decLt}
 use native.Mathlib.Omega.{arith}
-use lib.Dec.{T}
 use Rattle.sequences.specs.Tabulate.{allBelow, leastBelow}
 use Rattle.sequences.proofs.Loops.{all-not}
+use Rattle.sequences.proofs.Pointwise.{is-true, all-is}
 use Rattle.sequences.proofs.Pigeonhole.{Least, least-below}
 use Rattle.meaning.specs.Traces.{Alphabet, Event}
 use Rattle.moore.specs.Grouping.{allEvents}
@@ -24,10 +24,6 @@ clash h l = true≢false (sym h ∙ l)
 pub all-true : (n : ℕ) (p : ℕ → Bool) → allBelow n p ≡ true → (i : ℕ) → i < n → p i ≡ true
 all-true n p h i l = ⊎-elim (λ e. e) (λ e. absurd (clash h (all-not n p i l e))) (bool-cases (p i))
 
-pub all-is : (n : ℕ) (p : ℕ → Bool) → ((i : ℕ) → i < n → p i ≡ true) → allBelow n p ≡ true
-all-is zero p h = refl
-all-is (suc n) p h = rw (h zero (omega arith)) (all-is n (λ i. p (suc i)) (λ i l. h (suc i) (omega arith)))
-
 pub all-fails : (n : ℕ) (p : ℕ → Bool) → allBelow n p ≡ false → (i : ℕ) × (i < n) × (p i ≡ false)
 all-fails zero p h = absurd (true≢false h)
 all-fails (suc n) p h = go (p zero) refl (all-fails n (λ i. p (suc i)))
@@ -37,13 +33,9 @@ all-fails (suc n) p h = go (p zero) refl (all-fails n (λ i. p (suc i)))
     go false e r = (0, omega arith, e)
 
 -- ---- every event that can happen
-pub T-true : (b : Bool) → T b → b ≡ true
-T-true true t = refl
-T-true false t = absurd t
-
 module _ (Σ : Alphabet) (p : ℕ → Bool) where
   pub events-true : allEvents Σ p ≡ true → (e : ℕ) → Event Σ e → p e ≡ true
-  events-true h e l = ap (λ (b : Bool). cond b (p e) true) (sym (T-true (Σ .possible e) (l .1))) ∙ all-true (Σ .width) (λ e. cond (Σ .possible e) (p e) true) h e (l .0)
+  events-true h e l = ap (λ (b : Bool). cond b (p e) true) (sym (is-true (Σ .possible e) (l .1))) ∙ all-true (Σ .width) (λ e. cond (Σ .possible e) (p e) true) h e (l .0)
 
   pub events-are : ((e : ℕ) → Event Σ e → p e ≡ true) → allEvents Σ p ≡ true
   events-are h = all-is (Σ .width) (λ e. cond (Σ .possible e) (p e) true) (λ e l. go e l (Σ .possible e) refl)

@@ -10,8 +10,8 @@ use lib.Bits.{bitOr}
 use Rattle.ltl.specs.Sets.{on}
 use Rattle.ltl.specs.Closure.{row, closure}
 use Rattle.ltl.proofs.Closure.{row-pass}
+use Rattle.ltl.proofs.Sets.{on-or}
 use Rattle.realizability.specs.Relations.{entry, Matrix, through, closed}
-use Rattle.realizability.proofs.Words.{on-or}
 
 abbrev joins : Bool → Bool → Bool → Bool
 joins a b c = elim a [ true ↦ b || c | false ↦ c ]

@@ -10,6 +10,7 @@ use native.Mathlib.Omega.{arith}
 use lib.ListN.{getD}
 use lib.Dec.{T, eqb, eqb→eq}
 use borrow.Author.Tests.{eq-eqb}
+use Rattle.sequences.proofs.Pointwise.{is-true}
 use Rattle.sequences.proofs.Pigeonhole.{Least, least-below}
 use Rattle.ltl.specs.Sets.{unionBelow}
 use Rattle.ltl.specs.Realizable.{allOf}
@@ -18,7 +19,7 @@ use Rattle.ltl.proofs.Truth.{t-equal}
 use Rattle.ltl.proofs.Searches.{both, both-cases}
 use Rattle.valuation.specs.Entries.{Entries}
 use Rattle.realizability.specs.Relations.{labelAt, leadsBy, viaBy, coreBy, onlyIf, bothWays, componentBy, Within, withinComponent, AllGathered, Reaches, coreIn}
-use Rattle.realizability.proofs.Searches.{is-true, union-same}
+use Rattle.realizability.proofs.Searches.{union-same}
 use Rattle.realizability.proofs.Core.{leads-there, leads-else}
 
 both-true : (a b : Bool) → (a && b) ≡ true → (a ≡ true) × (b ≡ true)

@@ -12,9 +12,8 @@ use lib.Bits.{bitOr, or-zero-l}
 use lib.Dec.{eqb}
 use borrow.Author.Tests.{eq-eqb, ne-eqb}
 use Rattle.ltl.specs.Sets.{on, unionBelow}
-use Rattle.ltl.proofs.Sets.{same-members}
+use Rattle.ltl.proofs.Sets.{on-or, same-members}
 use Rattle.realizability.specs.Relations.{onlyIf, withinComponent, Gathered, AllGathered}
-use Rattle.realizability.proofs.Words.{on-or}
 
 or-assoc : (a b c : ℕ) → bitOr a (bitOr b c) ≡ bitOr (bitOr a b) c
 or-assoc a b c =

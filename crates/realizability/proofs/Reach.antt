@@ -9,9 +9,10 @@ use native.Mathlib.Decide.{ℕ-discrete}
 use native.Mathlib.Omega.{arith}
 use lib.Dec.{T, eqb}
 use borrow.Author.Tests.{eq-eqb}
+use Rattle.sequences.proofs.Pointwise.{is-true}
 use Rattle.ltl.specs.Keys.{look}
 use Rattle.realizability.specs.Relations.{entry, Matrix, labelAt, edge, closed, Reaches}
-use Rattle.realizability.proofs.Searches.{is-true, some-found}
+use Rattle.realizability.proofs.Searches.{some-found}
 
 abbrev joins : Bool → Bool → Bool → Bool
 joins a b c = elim a [ true ↦ b || c | false ↦ c ]

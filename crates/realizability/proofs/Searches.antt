@@ -7,16 +7,9 @@ use native.Mathlib.Omega.{arith}
 use native.Mathlib.Numerals.{add-one}
 use lib.Dec.{T}
 use lib.Bits.{bitOr}
+use Rattle.sequences.proofs.Pointwise.{is-true, is-false}
 use Rattle.ltl.specs.Sets.{someBelow, everyBelow, unionBelow}
 use Rattle.ltl.proofs.Searches.{→some, every→}
-
-pub is-true : (b : Bool) → T b → b ≡ true
-is-true true t = refl
-is-true false t = absurd t
-
-pub is-false : (b : Bool) → (T b → ⊥) → b ≡ false
-is-false true f = absurd (f tt)
-is-false false f = refl
 
 -- none passes so far
 pub record NoneBelow (n : ℕ) (f : ℕ → Bool) : Type 0 where

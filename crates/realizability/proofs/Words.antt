@@ -1,6 +1,5 @@
 -- A relation in words: row x is the words 2x and 2x + 1, of 64 bits each.
 use mathlib.Core.Path.{_≡_, refl, sym, ap, _∙_, subst}
-use mathlib.Core.Logic.{_⊎_, inl, inr}
 use mathlib.Core.Bool.{Bool, true, false, _||_}
 use mathlib.Core.List.{List}
 use Prim.Native.Nat.{ℕ, zero, suc, _+_, _-_, _*_, _/_, _%_, _^_, _≤_, _<_}
@@ -10,30 +9,16 @@ use native.Mathlib.Omega.{arith}
 use lib.ListN.{length, getD, set, length-set}
 use lib.Seq.{getD-set-same, getD-set-other}
 use lib.Bits.{bitOr}
-use lib.Dec.{T}
+use Rattle.sequences.proofs.Pointwise.{is-true, is-false}
 use Rattle.ltl.specs.Sets.{on}
-use Rattle.ltl.proofs.Truth.{t-equal}
-use Rattle.ltl.proofs.Sets.{on-zero, in-or, or-in, single-in, in-single}
+use Rattle.ltl.proofs.Sets.{on-zero, on-or, single-in, in-single}
 use Rattle.realizability.specs.Relations.{entry, MarkedAt, onlyIf, inWords, RowPassed}
-use Rattle.realizability.proofs.Searches.{is-true, is-false}
 
 -- the remainder by one subtraction
 pub mod-once : (p n : ℕ) → n ≤ p → p - n < n → p - n ≡ p % n
 mod-once p n l h = sym (mod-eq-sub-mod l ∙ mod-eq-of-lt h)
 
 -- ---- bits
-
-pub on-or : (A B i : ℕ) → on (bitOr A B) i ≡ (on A i || on B i)
-on-or A B i = t-equal (on (bitOr A B) i) (on A i || on B i) (λ t. into (on A i) (on B i) (in-or A B i t)) (λ t. or-in A B i (out (on A i) (on B i) t))
-  where
-    into : (a b : Bool) → T a ⊎ T b → T (a || b)
-    into true b t = tt
-    into false b (inl t) = absurd t
-    into false b (inr t) = t
-
-    out : (a b : Bool) → T (a || b) → T a ⊎ T b
-    out true b t = inl tt
-    out false b t = inr t
 
 joined-in : (A B i : ℕ) → on A i ≡ true → on (bitOr A B) i ≡ true
 joined-in A B i e = on-or A B i ∙ ap (λ (b : Bool). b || on B i) e

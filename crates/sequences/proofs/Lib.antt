@@ -3,3 +3,4 @@ pub mod Pigeonhole
 pub mod Tests
 pub mod Joined
 pub mod Stores
+pub mod Pointwise

@@ -1,9 +1,9 @@
 -- Laws of loops over specs/Tabulate.antt.
 --     Filled                  the invariant of a loop that fills a list of any element type from the front, with f i at turn i
---     filled-none, -more, -to, -all, -length      where it begins, after a turn, at the end
+--     filled-none, -more, -to, -all      where it begins, after a turn, at the end
 --     all-more, all-not       a loop that tests every index below n
 --     least-is, least-none    a loop that looks for the first index
-use mathlib.Core.Path.{_≡_, refl, sym, ap, _∙_, subst}
+use mathlib.Core.Path.{_≡_, refl, ap, _∙_, subst}
 use mathlib.Core.List.{List, [], _∷_, _++_, append-nil}
 use mathlib.Core.Bool.{Bool, true, false, cond}
 use Prim.Native.Nat.{ℕ, zero, suc, _+_, _≤_, _<_}
@@ -11,7 +11,7 @@ use native.Mathlib.Nat.{not-suc-le-zero, le-of-suc-le-suc}
 use native.Mathlib.Numerals.{add-one}
 use native.Mathlib.Omega.{arith}
 use borrow.Author.Count.{below-none, below-more}
-use lib.ListN.{length, set, getD, drop, drop-of-length-le, length-append, length-drop}
+use lib.ListN.{length, set, getD, drop, drop-of-length-le}
 use Rattle.sequences.specs.Tabulate.{tabulate, allBelow, leastBelow}
 
 module _ {A : Type 0} where
@@ -44,13 +44,14 @@ module _ {A : Type 0} where
   length-tab zero f = refl
   length-tab (suc n) f = ap suc (length-tab n (λ i. f (suc i)))
 
+  pub tabulate-snoc : (n : ℕ) (f : ℕ → A) → tabulate (suc n) f ≡ tabulate n f ++ (f n ∷ [])
+  tabulate-snoc zero f = refl
+  tabulate-snoc (suc n) f = ap (λ (l : List A). f zero ∷ l) (tabulate-snoc n (λ i. f (suc i)))
+
   pub getD-tab : (n : ℕ) (f : ℕ → A) (i : ℕ) (z : A) → i < n → getD (tabulate n f) i z ≡ f i
   getD-tab zero f i z l = absurd (not-suc-le-zero l)
   getD-tab (suc n) f zero z l = refl
   getD-tab (suc n) f (suc i) z l = getD-tab n (λ k. f (suc k)) i z (le-of-suc-le-suc l)
-
-  pub filled-length : {n : ℕ} {f : ℕ → A} {d s : List A} → Filled n f d s → length s ≡ length d
-  filled-length {n} {f} {d} h = rw (h .is, length-append, length-tab, length-drop) (omega (arith, h .room))
 
 all-suc : (n : ℕ) (p : ℕ → Bool) → allBelow n p ≡ true → p n ≡ true → allBelow (suc n) p ≡ true
 all-suc zero p h q = rw q

@@ -2,7 +2,7 @@
 --     fails       the list fails where one of its tests, by index, fails
 --     holds       each test of a list that holds
 --     last        the last test decides where the others hold
-use mathlib.Core.Path.{_≡_, refl, _∙_, ap}
+use mathlib.Core.Path.{_≡_, refl, ap}
 use mathlib.Core.Bool.{Bool, true, false, cond}
 use mathlib.Core.List.{List, [], _∷_}
 use Prim.Native.Nat.{ℕ, zero, suc}

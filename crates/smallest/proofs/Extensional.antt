@@ -1,28 +1,16 @@
 -- Grouping and quotient read only the rows and classes of the states that there are: lists that agree there give the same.
-use mathlib.Core.Path.{_≡_, refl, sym, ap, ap₂, _∙_, subst}
-use mathlib.Core.List.{List, [], _∷_}
+use mathlib.Core.Path.{_≡_, refl, ap, ap₂, _∙_}
+use mathlib.Core.List.{List}
 use mathlib.Core.Bool.{Bool, true, false, cond}
-use Prim.Native.Nat.{ℕ, zero, suc, _≤_, _<_}
+use Prim.Native.Nat.{ℕ, zero, suc, _<_}
 use native.Mathlib.Omega.{arith}
-use lib.ListN.{length, getD}
-use Rattle.sequences.specs.Tabulate.{tabulate, allBelow, leastBelow}
-use Rattle.meaning.specs.Traces.{Alphabet, Event}
+use lib.ListN.{getD}
+use Rattle.sequences.specs.Tabulate.{tabulate, leastBelow}
+use Rattle.sequences.proofs.Pointwise.{tabulate-same, all-same, least-same}
+use Rattle.meaning.specs.Traces.{Alphabet}
 use Rattle.moore.specs.Grouping.{entry, together, leads, allEvents, sameStep, firstGroups, nextGroups, sameBelow, rounds, grouping}
 use Rattle.moore.specs.Quotient.{leaders, size, number, closed, verdictByte, verdicts, quotientRows}
 use Rattle.moore.proofs.Counting.{standing}
-
-tabulate-same : {A : Type 0} (n : ℕ) (f g : ℕ → A) → ((i : ℕ) → i < n → f i ≡ g i) → tabulate n f ≡ tabulate n g
-tabulate-same zero f g h = refl
-tabulate-same {A} (suc n) f g h = ap₂ (λ (x : A) (xs : List A). x ∷ xs) (h 0 (omega arith)) (tabulate-same n (λ i. f (suc i)) (λ i. g (suc i)) (λ i l. h (suc i) (omega arith)))
-
-all-same : (n : ℕ) (p q : ℕ → Bool) → ((i : ℕ) → i < n → p i ≡ q i) → allBelow n p ≡ allBelow n q
-all-same zero p q h = refl
-all-same (suc n) p q h = ap₂ (λ (b c : Bool). cond b c false) (h 0 (omega arith)) (all-same n (λ i. p (suc i)) (λ i. q (suc i)) (λ i l. h (suc i) (omega arith)))
-
-least-same : (n : ℕ) (p q : ℕ → Bool) → ((i : ℕ) → i < n → p i ≡ q i) → leastBelow n p ≡ leastBelow n q
-least-same zero p q h = refl
-least-same (suc n) p q h =
-    ap₂ (λ (b : Bool) (k : ℕ). cond b 0 (suc k)) (h 0 (omega arith)) (least-same n (λ i. p (suc i)) (λ i. q (suc i)) (λ i l. h (suc i) (omega arith)))
 
 -- the rows and classes of the first n states are the same, at the events below the width
 pub record Agree (Σ : Alphabet) (n : ℕ) (rows rows′ : List (List ℕ)) (classes classes′ : List ℕ) : Type 0 where

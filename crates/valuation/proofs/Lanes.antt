@@ -7,13 +7,12 @@ use lib.ListN.{getD, List·getD-eq-default}
 use lib.Bits.{bitAnd, bitOr}
 use Rattle.meaning.specs.declared.Node.{Node}
 use Rattle.ltl.specs.Sets.{on}
-use Rattle.ltl.proofs.Sets.{on-zero}
+use Rattle.ltl.proofs.Sets.{on-zero, on-and, on-or}
 use Rattle.ltl.specs.Nodes.{Split, plain, falsum, atLeast, kinds}
 use Rattle.ltl.specs.Valuation.{plainValue}
 use Rattle.valuation.specs.declared.Words.{Words}
 use Rattle.valuation.specs.Bits.{plainBits, temporalBits, bitsOf}
 use Rattle.valuation.specs.Words.{Lanes, laneOf, plainWords, promiseWords, Flipped, Everywhere}
-use Rattle.valuation.proofs.Lanewise.{on-and, on-or}
 
 -- a number that is none of those before j, nor j
 pub past : (j k : ℕ) → j ≤ k → (k ≡ j → ⊥) → suc j ≤ k

@@ -1,58 +1,16 @@
 -- Bits of words: a bit for each of 64 labels.
 use mathlib.Core.Path.{_≡_, refl, sym, ap, _∙_}
-use mathlib.Core.Bool.{Bool, true, false, not, _&&_, _||_, Bool·beq, false≢true}
-use Prim.Native.Nat.{ℕ, zero, suc, _+_, _-_, _*_, _/_, _%_, _^_, _≤_, _<_, max, min}
-use native.Mathlib.Nat.{pow-suc, div-one, div-div-eq-div-mul, mul-comm}
+use mathlib.Core.Bool.{Bool, true, false, not, Bool·beq, false≢true}
+use Prim.Native.Nat.{ℕ, zero, suc, _+_, _/_, _%_, _^_, _≤_, _<_}
+use native.Mathlib.Nat.{pow-suc}
 use native.Mathlib.Decide.{ℕ-discrete}
 use native.Mathlib.Omega.{arith}
 use lib.Dec.{eqb}
-use lib.Bits.{bitAnd, bitOr, and-shr, and-step, or-shr, or-step}
 use Rattle.ltl.specs.Sets.{on, everyBelow}
-use Rattle.ltl.proofs.Sets.{on-zero, on-out}
+use Rattle.ltl.proofs.Sets.{on-first, on-suc, on-zero, on-out}
 use Rattle.valuation.specs.Words.{labelOf, Flipped, Everywhere, LabelBits}
 
--- ---- and, or
-
-odd : (q x : ℕ) → x < 2 → (q * 2 + x) % 2 ≡ x
-odd q x h = omega arith
-
-and-digit : (x y : ℕ) → x < 2 → y < 2 → eqb (min x y) 1 ≡ (eqb x 1 && eqb y 1)
-and-digit zero zero p q = refl
-and-digit zero (suc zero) p q = refl
-and-digit (suc zero) zero p q = refl
-and-digit (suc zero) (suc zero) p q = refl
-and-digit zero (suc (suc y)) p q = absurd (omega arith)
-and-digit (suc zero) (suc (suc y)) p q = absurd (omega arith)
-and-digit (suc (suc x)) y p q = absurd (omega arith)
-
-or-digit : (x y : ℕ) → x < 2 → y < 2 → eqb (max x y) 1 ≡ (eqb x 1 || eqb y 1)
-or-digit zero zero p q = refl
-or-digit zero (suc zero) p q = refl
-or-digit (suc zero) zero p q = refl
-or-digit (suc zero) (suc zero) p q = refl
-or-digit zero (suc (suc y)) p q = absurd (omega arith)
-or-digit (suc zero) (suc (suc y)) p q = absurd (omega arith)
-or-digit (suc (suc x)) y p q = absurd (omega arith)
-
-pub on-or : (A B i : ℕ) → on (bitOr A B) i ≡ (on A i || on B i)
-on-or A B i =
-    ap (λ (q : ℕ). eqb (q % 2) 1) (or-shr A B i ∙ or-step (A / 2 ^ i) (B / 2 ^ i))
-    ∙ ap (λ (q : ℕ). eqb q 1) (odd (bitOr (A / 2 ^ i / 2) (B / 2 ^ i / 2)) (max (A / 2 ^ i % 2) (B / 2 ^ i % 2)) (omega arith))
-    ∙ or-digit (A / 2 ^ i % 2) (B / 2 ^ i % 2) (omega arith) (omega arith)
-
-pub on-and : (A B i : ℕ) → on (bitAnd A B) i ≡ (on A i && on B i)
-on-and A B i =
-    ap (λ (q : ℕ). eqb (q % 2) 1) (and-shr A B i ∙ and-step (A / 2 ^ i) (B / 2 ^ i))
-    ∙ ap (λ (q : ℕ). eqb q 1) (odd (bitAnd (A / 2 ^ i / 2) (B / 2 ^ i / 2)) (min (A / 2 ^ i % 2) (B / 2 ^ i % 2)) (omega arith))
-    ∙ and-digit (A / 2 ^ i % 2) (B / 2 ^ i % 2) (omega arith) (omega arith)
-
 -- ---- all bits turned round
-
-on-first : (A : ℕ) → on A 0 ≡ eqb (A % 2) 1
-on-first A = ap (λ (q : ℕ). eqb (q % 2) 1) (div-one A)
-
-on-suc : (A i : ℕ) → on A (suc i) ≡ on (A / 2) i
-on-suc A i = ap (λ (q : ℕ). eqb (q % 2) 1) (ap (λ (d : ℕ). A / d) (pow-suc 2 i ∙ mul-comm (2 ^ i) 2) ∙ sym (div-div-eq-div-mul A 2 (2 ^ i)))
 
 other-digit : (x y : ℕ) → x + y ≡ 1 → eqb x 1 ≡ not (eqb y 1)
 other-digit zero zero h = absurd (omega arith)

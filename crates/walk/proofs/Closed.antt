@@ -4,13 +4,11 @@ use mathlib.Core.Path.{_≡_, sym, subst}
 use mathlib.Core.Logic.{_↔_}
 use mathlib.Core.List.{List, [], _∷_, _++_, append-nil, append-assoc}
 use Prim.Native.Nat.{ℕ, _≤_, _<_}
-use native.Mathlib.Decide.{decLt}
-use native.Mathlib.Omega.{arith}
 use lib.ListN.{length, getD}
 use lib.Dec.{T}
 use Rattle.meaning.specs.Traces.{Alphabet, Event, Word}
 use Rattle.meaning.specs.Verdicts.{Property, NoneSatisfies, AllSatisfy, SameResidual}
-use Rattle.meaning.specs.Monitors.{Over, follow, BreadthFirst}
+use Rattle.meaning.specs.Monitors.{follow, BreadthFirst}
 use Rattle.meaning.specs.declared.Verdict.{Verdict}
 use Rattle.residuals.specs.System.{keyAfter, System}
 use Rattle.walk.specs.Explore.{monitorWith}
@@ -31,62 +29,43 @@ module _ {Σ : Alphabet} {L : Property} (S : System Σ L) where
     pub differ : (i j : ℕ) → i < j → j < length keys → ¬ SameResidual Σ L (access i) (access j)
     pub order : (verdict : ℕ → Verdict) → BreadthFirst Σ (monitorWith rows verdict)
 
-  module _ {limit : ℕ} {keys : List (S .Key)} {rows : List (List ℕ)} (C : Closed limit keys rows) where
-    -- states whose access words leave the same remaining property are equal
-    pub same-state : (i j : ℕ) → i < length keys → j < length keys → SameResidual Σ L (C .access i) (C .access j) → i ≡ j
-    same-state i j l m h = go (decLt i j) (decLt j i)
-      where
-        go : Dec (i < j) → Dec (j < i) → i ≡ j
-        go (yes p) q = absurd (C .differ i j p m h)
-        go (no p) (yes q) = absurd (C .differ j i q l (same-sym Σ L (C .access i) (C .access j) h))
-        go (no p) (no q) = omega arith
+  module _ {limit : ℕ} {keys : List (S .Key)} {rows : List (List ℕ)} (C : Closed limit keys rows) (verdict : ℕ → Verdict) where
+    -- from a state whose access word leaves what u leaves
+    from-state : (u w : List ℕ) (s : ℕ) → s < length keys → Word Σ w → SameResidual Σ L u (C .access s)
+        → (follow (monitorWith rows verdict) s w < length keys) × SameResidual Σ L (u ++ w) (C .access (follow (monitorWith rows verdict) s w))
+    from-state u [] s l a h = (l, rw append-nil h)
+    from-state u (e ∷ w) s l a h =
+        let t : ℕ = getD (getD rows s []) e 0 in
+        let k : SameResidual Σ L (u ++ (e ∷ [])) (C .access t) =
+        same-trans Σ L (u ++ (e ∷ [])) (C .access s ++ (e ∷ [])) (C .access t) (same-append Σ L u (C .access s) (e ∷ []) (a .0, tt) h) (C .leads s e l (a .0)) in
+        let r = from-state (u ++ (e ∷ [])) w t (C .inside s e l (a .0 .0)) (a .1) k in
+        (r .0, subst (λ (v : List ℕ). SameResidual Σ L v (C .access (follow (monitorWith rows verdict) t w))) (append-assoc u (e ∷ []) w) (r .1))
 
-    module _ (verdict : ℕ → Verdict) where
-      pub closed-over : Over Σ (monitorWith rows verdict)
-      closed-over = record { start-in = rw (C .count) (C .some); next-in = λ s e l v. rw (C .count) (C .inside s e (subst (λ (n : ℕ). s < n) (C .count) l) (v .0)) }
+    after-start : (w : List ℕ) → Word Σ w
+        → (follow (monitorWith rows verdict) 0 w < length keys) × SameResidual Σ L w (C .access (follow (monitorWith rows verdict) 0 w))
+    after-start w a = from-state [] w 0 (C .some) a (subst (λ (v : List ℕ). SameResidual Σ L [] v) (sym (C .access-start)) (same-refl Σ L []))
 
-      -- from a state whose access word leaves what u leaves
-      from-state : (u w : List ℕ) (s : ℕ) → s < length keys → Word Σ w → SameResidual Σ L u (C .access s)
-          → (follow (monitorWith rows verdict) s w < length keys) × SameResidual Σ L (u ++ w) (C .access (follow (monitorWith rows verdict) s w))
-      from-state u [] s l a h = (l, rw append-nil h)
-      from-state u (e ∷ w) s l a h =
-          let t : ℕ = getD (getD rows s []) e 0 in
-          let k : SameResidual Σ L (u ++ (e ∷ [])) (C .access t) =
-          same-trans Σ L (u ++ (e ∷ [])) (C .access s ++ (e ∷ [])) (C .access t) (same-append Σ L u (C .access s) (e ∷ []) (a .0, tt) h) (C .leads s e l (a .0)) in
-          let r = from-state (u ++ (e ∷ [])) w t (C .inside s e l (a .0 .0)) (a .1) k in
-          (r .0, subst (λ (v : List ℕ). SameResidual Σ L v (C .access (follow (monitorWith rows verdict) t w))) (append-assoc u (e ∷ []) w) (r .1))
+    -- after a word the monitor stands on one of its states,
+    pub stands-in : (w : List ℕ) → Word Σ w → follow (monitorWith rows verdict) 0 w < length keys
+    stands-in w a = after-start w a .0
 
-      after-start : (w : List ℕ) → Word Σ w
-          → (follow (monitorWith rows verdict) 0 w < length keys) × SameResidual Σ L w (C .access (follow (monitorWith rows verdict) 0 w))
-      after-start w a = from-state [] w 0 (C .some) a (subst (λ (v : List ℕ). SameResidual Σ L [] v) (sym (C .access-start)) (same-refl Σ L []))
+    -- whose access word leaves the same remaining property
+    pub stands-same : (w : List ℕ) → Word Σ w → SameResidual Σ L w (C .access (follow (monitorWith rows verdict) 0 w))
+    stands-same w a = after-start w a .1
 
-      -- after a word the monitor stands on one of its states,
-      pub stands-in : (w : List ℕ) → Word Σ w → follow (monitorWith rows verdict) 0 w < length keys
-      stands-in w a = after-start w a .0
+    -- the key of the state on which it stands decides both verdicts
+    pub empty-after : (w : List ℕ) → Word Σ w → T (S .empty (getD keys (follow (monitorWith rows verdict) 0 w) (S .start))) ↔ NoneSatisfies Σ L w
+    empty-after w a =
+        let t : ℕ = follow (monitorWith rows verdict) 0 w in
+        let l : t < length keys = stands-in w a in
+        let h : SameResidual Σ L w (C .access t) = stands-same w a in
+        let e : T (S .empty (getD keys t (S .start))) ↔ NoneSatisfies Σ L (C .access t) = rw (C .key t l) (S .empty-is (C .access t) (C .word t l)) in
+        (λ x. none-carries Σ L (C .access t) w (same-sym Σ L w (C .access t) h) (e .0 x), λ x. e .1 (none-carries Σ L w (C .access t) h x))
 
-      -- whose access word leaves the same remaining property
-      pub stands-same : (w : List ℕ) → Word Σ w → SameResidual Σ L w (C .access (follow (monitorWith rows verdict) 0 w))
-      stands-same w a = after-start w a .1
-
-      -- the access word of a state leads to it
-      pub arrives : (i : ℕ) → i < length keys → follow (monitorWith rows verdict) 0 (C .access i) ≡ i
-      arrives i l =
-          let t : ℕ = follow (monitorWith rows verdict) 0 (C .access i) in
-          same-state t i (stands-in (C .access i) (C .word i l)) l (same-sym Σ L (C .access i) (C .access t) (stands-same (C .access i) (C .word i l)))
-
-      -- the key of the state on which it stands decides both verdicts
-      pub empty-after : (w : List ℕ) → Word Σ w → T (S .empty (getD keys (follow (monitorWith rows verdict) 0 w) (S .start))) ↔ NoneSatisfies Σ L w
-      empty-after w a =
-          let t : ℕ = follow (monitorWith rows verdict) 0 w in
-          let l : t < length keys = stands-in w a in
-          let h : SameResidual Σ L w (C .access t) = stands-same w a in
-          let e : T (S .empty (getD keys t (S .start))) ↔ NoneSatisfies Σ L (C .access t) = rw (C .key t l) (S .empty-is (C .access t) (C .word t l)) in
-          (λ x. none-carries Σ L (C .access t) w (same-sym Σ L w (C .access t) h) (e .0 x), λ x. e .1 (none-carries Σ L w (C .access t) h x))
-
-      pub full-after : (w : List ℕ) → Word Σ w → T (S .full (getD keys (follow (monitorWith rows verdict) 0 w) (S .start))) ↔ AllSatisfy Σ L w
-      full-after w a =
-          let t : ℕ = follow (monitorWith rows verdict) 0 w in
-          let l : t < length keys = stands-in w a in
-          let h : SameResidual Σ L w (C .access t) = stands-same w a in
-          let e : T (S .full (getD keys t (S .start))) ↔ AllSatisfy Σ L (C .access t) = rw (C .key t l) (S .full-is (C .access t) (C .word t l)) in
-          (λ x. all-carries Σ L (C .access t) w (same-sym Σ L w (C .access t) h) (e .0 x), λ x. e .1 (all-carries Σ L w (C .access t) h x))
+    pub full-after : (w : List ℕ) → Word Σ w → T (S .full (getD keys (follow (monitorWith rows verdict) 0 w) (S .start))) ↔ AllSatisfy Σ L w
+    full-after w a =
+        let t : ℕ = follow (monitorWith rows verdict) 0 w in
+        let l : t < length keys = stands-in w a in
+        let h : SameResidual Σ L w (C .access t) = stands-same w a in
+        let e : T (S .full (getD keys t (S .start))) ↔ AllSatisfy Σ L (C .access t) = rw (C .key t l) (S .full-is (C .access t) (C .word t l)) in
+        (λ x. all-carries Σ L (C .access t) w (same-sym Σ L w (C .access t) h) (e .0 x), λ x. e .1 (all-carries Σ L w (C .access t) h x))

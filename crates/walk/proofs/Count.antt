@@ -38,6 +38,3 @@ module _ {Σ : Alphabet} {L : Property} (S : System Σ L) {limit : ℕ} {keys : 
 
   pub not-more : (n : ℕ) → length keys ≤ n → ¬ MoreThan Σ L n
   not-more n l M = omega (arith, injective-le (suc n) (length keys) (apart n M))
-
-  pub more-than : (n : ℕ) → n < length keys → MoreThan Σ L n
-  more-than n l = record { list = C .access; word = λ i m. C .word i (omega arith); differ = λ i j m k. C .differ i j m (omega arith) }

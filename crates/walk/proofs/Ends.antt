@@ -1,6 +1,5 @@
 -- The walk, with a limit of at least 1, ends in one of two ways: it closed, or there are more different remaining properties than the limit.
-use mathlib.Core.Path.{_≡_, refl, sym, _∙_, subst}
-use mathlib.Core.Logic.{_⊎_, inl, inr}
+use mathlib.Core.Path.{_≡_, sym, _∙_, subst}
 use mathlib.Core.List.{List, []}
 use Prim.Native.Nat.{ℕ, suc, _<_}
 use native.Mathlib.Omega.{arith}
@@ -80,17 +79,3 @@ module _ {Σ : Alphabet} {L : Property} (S : System Σ L) (limit : ℕ) where
 
     pub not-more-if : {keys : List (S .Key)} {rows : List (List ℕ)} → explore (S .same) (S .step) (S .start) Σ limit ≡ within keys rows → ¬ MoreThan Σ L limit
     not-more-if q = let C = closed-if q in not-more S C limit (C .few)
-
-    -- the walk closed, with these keys and rows
-    pub record Found : Type 0 where
-      pub keys : List (S .Key)
-      pub rows : List (List ℕ)
-      pub is : explore (S .same) (S .step) (S .start) Σ limit ≡ within keys rows
-      pub closed : Closed S limit keys rows
-
-    pub found-or-more : Found ⊎ MoreThan Σ L limit
-    found-or-more = go (explore (S .same) (S .step) (S .start) Σ limit) refl
-      where
-        go : (v : Explored (S .Key) (List (List ℕ))) → explore (S .same) (S .step) (S .start) Σ limit ≡ v → Found ⊎ MoreThan Σ L limit
-        go (within keys rows) q = inl (record { keys = keys; rows = rows; is = q; closed = closed-if q })
-        go (beyond keys k) q = inr (more-if q)

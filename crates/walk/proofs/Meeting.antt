@@ -9,11 +9,8 @@ use borrow.Author.Tests.{eq-eqb, ne-eqb}
 use lib.ListN.{length, getD}
 use lib.Dec.{eqb}
 use Rattle.sequences.specs.Tabulate.{tabulate, upTo}
+use Rattle.sequences.proofs.Loops.{tabulate-snoc}
 use Rattle.meaning.specs.Monitors.{member, newlyMet, keep}
-
-tabulate-snoc : (n : ℕ) (f : ℕ → ℕ) → tabulate (suc n) f ≡ tabulate n f ++ (f n ∷ [])
-tabulate-snoc zero f = refl
-tabulate-snoc (suc n) f = ap (λ (l : List ℕ). f zero ∷ l) (tabulate-snoc n (λ i. f (suc i)))
 
 member-in : (t n : ℕ) (f : ℕ → ℕ) (i : ℕ) → i < n → t ≡ f i → member t (tabulate n f) ≡ true
 member-in t zero f i l q = absurd (not-suc-le-zero l)

@@ -1,7 +1,7 @@
 -- The walk numbers the states in the order in which a breadth-first walk over the finished monitor, events ascending, first meets them.
 use mathlib.Core.Path.{_≡_, refl, sym, ap, ap₂, _∙_}
 use mathlib.Core.List.{List, [], _∷_, _++_, map, append-nil}
-use mathlib.Core.Bool.{Bool, true, false}
+use mathlib.Core.Bool.{Bool}
 use Prim.Native.Nat.{ℕ, suc, _+_, _<_}
 use native.Mathlib.Nat.{zero-add, add-zero}
 use native.Mathlib.Omega.{arith}
@@ -10,6 +10,7 @@ use lib.Seq.{drop-cons, drop-append-le, getD-append-seam}
 use lib.Dec.{T}
 use Rattle.sequences.specs.Tabulate.{upTo}
 use Rattle.sequences.proofs.Loops.{length-tab, getD-tab}
+use Rattle.sequences.proofs.Pointwise.{is-true, is-false}
 use Rattle.meaning.specs.Traces.{Alphabet}
 use Rattle.meaning.specs.Monitors.{Monitor, newlyMet, events, walk, BreadthFirst}
 use Rattle.meaning.specs.declared.Verdict.{Verdict}
@@ -17,14 +18,6 @@ use Rattle.walk.specs.Explore.{monitorWith}
 use Rattle.walk.proofs.Snoc.{snoc-length, snoc-old}
 use Rattle.walk.proofs.Invariant.{Kept}
 use Rattle.walk.proofs.Meeting.{Meets, meets-none, meets-old, meets-new, admitted, admitted-snoc, admitted-are}
-
-is-true : (b : Bool) → T b → b ≡ true
-is-true true t = refl
-is-true false t = absurd t
-
-is-false : (b : Bool) → ¬ T b → b ≡ false
-is-false true n = absurd (n tt)
-is-false false n = refl
 
 module _ (Σ : Alphabet) where
   -- one turn of the walk over a monitor, at state i, where the states met are those below n and those below i are done

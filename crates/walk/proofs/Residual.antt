@@ -4,9 +4,7 @@ use mathlib.Core.Logic.{Iff·rfl, Iff·symm, Iff·trans}
 use mathlib.Core.List.{List, [], _∷_, _++_, append-assoc}
 use Prim.Native.Nat.{ℕ, zero, suc}
 use Rattle.meaning.specs.Traces.{Alphabet, Word, Lasso, prepend, Continuation}
-use Rattle.meaning.specs.Verdicts.{Property, NoneSatisfies, AllSatisfy, NeverDecided, Judged, SameResidual}
-use Rattle.meaning.specs.declared.Verdict.{Verdict}
-use Rattle.meaning.specs.declared.Verdict.the-variants.{Undecided, Satisfied, Violated, Moot}
+use Rattle.meaning.specs.Verdicts.{Property, NoneSatisfies, AllSatisfy, SameResidual}
 use Rattle.residuals.specs.System.{keyAfter}
 
 pub word-append : (Σ : Alphabet) (u v : List ℕ) → Word Σ u → Word Σ v → Word Σ (u ++ v)
@@ -50,17 +48,3 @@ module _ (Σ : Alphabet) (L : Property) where
   pub all-carries : (u v : List ℕ) → SameResidual Σ L u v → AllSatisfy Σ L u → AllSatisfy Σ L v
   unfolding SameResidual AllSatisfy
   all-carries u v h a ρ c = h ρ c .0 (a ρ c)
-
-  pub never-carries : (u v : List ℕ) → SameResidual Σ L u v → NeverDecided Σ L u → NeverDecided Σ L v
-  unfolding NeverDecided
-  never-carries u v h n z a =
-      let k : SameResidual Σ L (v ++ z) (u ++ z) = same-append v u z a (same-sym u v h) in
-      (λ x. n z a .0 (none-carries (v ++ z) (u ++ z) k x), λ x. n z a .1 (all-carries (v ++ z) (u ++ z) k x))
-
-  pub judged-carries : (u v : List ℕ) → SameResidual Σ L u v → (x : Verdict) → Judged Σ L u x → Judged Σ L v x
-  judged-carries u v h Violated j = none-carries u v h j
-  judged-carries u v h Satisfied j = all-carries u v h j
-  judged-carries u v h Moot j = never-carries u v h j
-  judged-carries u v h Undecided j =
-      let k : SameResidual Σ L v u = same-sym u v h in
-      (λ x. j .0 (none-carries v u k x), λ x. j .1 (all-carries v u k x), λ x. j .2 (never-carries v u k x))

@@ -1,7 +1,7 @@
 -- The laws by which code follows the model: what each function of the model comes to in each of its cases.
 use mathlib.Core.Path.{_≡_, refl}
 use mathlib.Core.List.{List, [], _∷_, _++_}
-use mathlib.Core.Bool.{Bool, true, false}
+use mathlib.Core.Bool.{Bool, true}
 use Prim.Native.Nat.{ℕ, zero, suc, _≤_, _<_}
 use borrow.Author.Tests.{lt-ltb, le-ltb}
 use lib.ListN.{length, getD}
@@ -25,10 +25,6 @@ module _ {Key : Type 0} (same : Key → Key → Bool) (step : Key → ℕ → Ke
   pub visit-possible : (from : Key) (e : ℕ) (keys : List Key) → Σ .possible e ≡ true → visit same step start Σ limit from e keys ≡ enter same start limit keys (step from e)
   unfolding visit
   visit-possible from e keys p = rw (p, visit)
-
-  pub visit-impossible : (from : Key) (e : ℕ) (keys : List Key) → Σ .possible e ≡ false → visit same step start Σ limit from e keys ≡ within keys 0
-  unfolding visit
-  visit-impossible from e keys p = rw (p, visit)
 
   pub expand-next : (j e : ℕ) (from : Key) (keys : List Key) (row : List ℕ) {keys′ : List Key} {i : ℕ} → visit same step start Σ limit from e keys ≡ within keys′ i
       → expandFrom same step start Σ limit (suc j) e from keys row ≡ expandFrom same step start Σ limit j (suc e) from keys′ (row ++ (i ∷ []))
