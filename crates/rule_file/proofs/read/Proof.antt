@@ -8,8 +8,8 @@ use Prim.Native.Nat.{_-_}
 use Rattle.meaning.specs.declared.HeaderReading.{HeaderReading}
 use Rattle.meaning.specs.declared.Reading.{Reading}
 use Rattle.rule_file.specs.Reading.{readOf, handedOnHeader, handedOn}
-use Rattle.rule_file.specs.declared.Shape.{Shape}
-use Rattle.rule_file.proofs.Records.{header-few, node-kind}
+use Rattle.rule_nodes.specs.declared.Shape.{Shape}
+use Rattle.rule_records.proofs.Records.{header-few, node-kind}
 use Rattle.rule_file.proofs.Nodes.{Progress, judged, judged-refused, progress-none, progress-more, progress-refused, progress-over, progress-accepted}
 use Rattle.rule_file.proofs.read.Statement.{statement}
 use Rattle.rule_file.proofs.read.Tie as tie
@@ -54,10 +54,21 @@ handed-on-requires : tie.Need-handed-on-requires Inv-loop μ-loop
 handed-on-requires c κs = search needs
 
 returns-2 : tie.Need-returns-2 Inv-loop μ-loop
-returns-2 c = c .handed-on .ensures ∙ ap (λ (r : Reading). readOf (handedOn r)) (c .before .enum-told2 .given .1) ∙ sym (ap readOf (judged (now (c .before .before .before .before .before .before .before .before .before .before .before .before .args .bytes)) _ (sym (c .before .before .before .before .before .before .before .before .before .before .read-header .ensures) ∙ c .before .before .before .before .before .before .before .before .first .given .1) ∙ progress-refused (c .before .before .before .before .before .loop .inv) _ (c .before .before .before .before .loop-test .taken) (sym (c .before .before .before .read-node .ensures) ∙ c .before .enum-told2 .given .1)))
+returns-2 c =
+    let at-read-node = c .before .before .before in
+    let at-loop-test = at-read-node .before in
+    let at-loop = at-loop-test .before in
+    let at-first = at-loop .before .before .before in
+    let at-read-header = at-first .before .before in
+    let start = at-read-header .before .before in
+    c .handed-on .ensures ∙ ap (λ (r : Reading). readOf (handedOn r)) (c .before .enum-told2 .given .1) ∙ sym (ap readOf (judged (now (start .args .bytes)) _ (sym (at-read-header .read-header .ensures) ∙ at-first .first .given .1) ∙ progress-refused (at-loop .loop .inv) _ (at-loop-test .loop-test .taken) (sym (at-read-node .read-node .ensures) ∙ c .before .enum-told2 .given .1)))
 
 shape-of-requires : tie.Need-shape-of-requires Inv-loop μ-loop
-shape-of-requires c κs = node-kind (now (c .before .before .before .before .before .before .before .before .before .before .before .before .args .bytes)) _ (c .before .before .before .before .before .loop .p) (c .before .before .before .before .before .loop .i) (c .before .before .before .before .before .loop .seen) _ (sym (c .before .before .before .read-node .ensures) ∙ c .before .reading .given .1)
+shape-of-requires c κs =
+    let at-read-node = c .before .before .before in
+    let at-loop = at-read-node .before .before in
+    let start = at-loop .before .before .before .before .before .before .before in
+    node-kind (now (start .args .bytes)) _ (at-loop .loop .p) (at-loop .loop .i) (at-loop .loop .seen) _ (sym (at-read-node .read-node .ensures) ∙ c .before .reading .given .1)
 
 wide-requires : tie.Need-wide-requires Inv-loop μ-loop
 wide-requires c κs = search needs
@@ -90,13 +101,30 @@ loop-less : tie.Need-loop-less Inv-loop μ-loop
 loop-less c = omega (arith, c .before .before .before .before .before .before .before .before .loop-test .taken)
 
 loop-again : tie.Need-loop-again Inv-loop μ-loop
-loop-again c = progress-more (c .before .before .before .before .before .before .before .before .before .loop .inv) (c .before .before .before .before .before .reading .given .0 .0) (c .before .before .wide .result) (c .before .wide2 .result) (c .counted .result) (c .before .before .before .before .before .before .before .before .loop-test .taken) (sym (c .before .before .before .before .before .before .before .read-node .ensures) ∙ c .before .before .before .before .before .reading .given .1) (c .before .before .wide .ensures .0) (c .before .wide2 .ensures .0 ∙ ap (λ (s : Shape). s .body) (c .before .before .before .shape-of .ensures)) (c .before .wide2 .ensures .1) (c .counted .ensures .0 ∙ ap (λ (s : Shape). cond (s .temporal) 1 0) (c .before .before .before .shape-of .ensures)) (c .counted .ensures .1)
+loop-again c =
+    let at-wide = c .before .before in
+    let at-shape-of = at-wide .before in
+    let at-reading = at-shape-of .before .before in
+    let at-read-node = at-reading .before .before in
+    let at-loop-test = at-read-node .before in
+    let at-loop = at-loop-test .before in
+    let found = sym (at-read-node .read-node .ensures) ∙ at-reading .reading .given .1 in
+    let body = c .before .wide2 .ensures .0 ∙ ap (λ (s : Shape). s .body) (at-shape-of .shape-of .ensures) in
+    let temporal = c .counted .ensures .0 ∙ ap (λ (s : Shape). cond (s .temporal) 1 0) (at-shape-of .shape-of .ensures) in
+    progress-more (at-loop .loop .inv) (at-reading .reading .given .0 .0) (at-wide .wide .result) (c .before .wide2 .result) (c .counted .result)
+    (at-loop-test .loop-test .taken) found (at-wide .wide .ensures .0) body (c .before .wide2 .ensures .1) temporal (c .counted .ensures .1)
 
 refused-requires : tie.Need-refused-requires Inv-loop μ-loop
 refused-requires c κs = search needs
 
 returns-3 : tie.Need-returns-3 Inv-loop μ-loop
-returns-3 c = c .refused .ensures ∙ sym (ap readOf (judged (now (c .before .before .before .before .before .before .before .before .before .before .args .bytes)) _ (sym (c .before .before .before .before .before .before .before .before .read-header .ensures) ∙ c .before .before .before .before .before .before .first .given .1) ∙ progress-over (c .before .before .before .loop .inv) (c .before .before .loop-test .left) (c .before .if1 .taken)))
+returns-3 c =
+    let at-loop-test = c .before .before in
+    let at-loop = at-loop-test .before in
+    let at-first = at-loop .before .before .before in
+    let at-read-header = at-first .before .before in
+    let start = at-read-header .before .before in
+    c .refused .ensures ∙ sym (ap readOf (judged (now (start .args .bytes)) _ (sym (at-read-header .read-header .ensures) ∙ at-first .first .given .1) ∙ progress-over (at-loop .loop .inv) (at-loop-test .loop-test .left) (c .before .if1 .taken)))
 
 returns-4 : tie.Need-returns-4 Inv-loop μ-loop
 returns-4 c = progress-accepted (c .before .before .loop .inv) (c .before .loop-test .left) (c .if1 .left) ∙ sym (ap readOf (judged (now (c .before .before .before .before .before .before .before .before .before .args .bytes)) _ (sym (c .before .before .before .before .before .before .before .read-header .ensures) ∙ c .before .before .before .before .before .first .given .1)))

@@ -10,7 +10,7 @@ use mathlib.Core.Bool.{Bool, true, false}
 use Prim.Native.Nat.{ℕ, zero, suc, _+_, _<_}
 use native.Mathlib.Nat.{not-suc-le-zero, le-of-suc-le-suc}
 use native.Mathlib.Omega.{arith}
-use borrow.Author.Count.{below-none, below-more}
+use borrow.Author.Count.{below-more}
 use lib.ListN.{length, getD}
 use Rattle.meaning.specs.RuleFiles.{firstOf}
 use Rattle.meaning.specs.declared.Refusal.{Refusal}
@@ -24,9 +24,6 @@ refusalAt cs i = getD cs i (false, WrongSignals) .1
 
 pub record Cleared (cs : List (Bool × Refusal)) (i : ℕ) : Type 0 where
   pub none : (j : ℕ) → j < i → failsAt cs j ≡ false
-
-pub cleared-none : {cs : List (Bool × Refusal)} → Cleared cs 0
-cleared-none {cs} = record { none = below-none (λ (j : ℕ). failsAt cs j ≡ false) }
 
 pub cleared-more : {cs : List (Bool × Refusal)} {i : ℕ} → Cleared cs i → failsAt cs i ≡ false → Cleared cs (i + 1)
 cleared-more {cs} {i} h q = record { none = below-more (λ (j : ℕ). failsAt cs j ≡ false) i (h .none) q }

@@ -5,7 +5,7 @@ use mathlib.Core.Bool.{true, false}
 use Prim.Native.Nat.{ℕ, zero, suc, _+_, _≤_, _<_}
 use native.Mathlib.Nat.{eq-or-lt-of-le}
 use native.Mathlib.Omega.{arith}
-use Rattle.rule_file.specs.Reading.{shape, shapeOf}
+use Rattle.rule_nodes.specs.Shapes.{shape, shapeOf}
 
 -- P at n numbers, from lo on
 abbrev Each : (ℕ → Type 0) → ℕ → ℕ → Type 0

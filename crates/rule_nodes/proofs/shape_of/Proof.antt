@@ -1,10 +1,10 @@
--- `rule_file::shape_of` meets its contract. The shape of each kind, by its arm.
+-- `rule_nodes::shape_of` meets its contract. The shape of each kind, by its arm.
 use mathlib.Core.Path.{sym, ap, _∙_}
-use Rattle.rule_file.specs.Reading.{shapeOf}
-use Rattle.rule_file.proofs.Shapes.{shape-constant, shape-binary, shape-last}
+use Rattle.rule_nodes.specs.Shapes.{shapeOf}
+use Rattle.rule_nodes.proofs.Shapes.{shape-constant, shape-binary, shape-last}
 use borrow.Author.Needs.{needs}
-use Rattle.rule_file.proofs.shape_of.Statement.{statement}
-use Rattle.rule_file.proofs.shape_of.Tie as tie
+use Rattle.rule_nodes.proofs.shape_of.Statement.{statement}
+use Rattle.rule_nodes.proofs.shape_of.Tie as tie
 
 new-requires : tie.Need-new-requires
 new-requires c κs = search needs

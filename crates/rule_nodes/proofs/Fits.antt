@@ -51,14 +51,3 @@ module _ (P : ℕ) (n : Node) where
       go : (t : Bool) → leb (n .b) 4 ≡ t → ltb 4 (n .b) ≡ not (leb (n .b) 4)
       go true q = rw (q, le-ltb 4 (n .b) (leb-true (n .b) 4 q))
       go false q = rw (q, lt-ltb 4 (n .b) (leb-false (n .b) 4 q))
-
--- a number that is to lie from lo to hi
-module _ (lo hi x : ℕ) where
-  pub between : lo ≤ x → x ≤ hi → not (leb lo x && leb x hi) ≡ false
-  between l u = rw (le-leb lo x l, le-leb x hi u)
-
-  pub below : x < lo → not (leb lo x && leb x hi) ≡ true
-  below l = rw (lt-leb lo x l)
-
-  pub above : lo ≤ x → hi < x → not (leb lo x && leb x hi) ≡ true
-  above l u = rw (le-leb lo x l, lt-leb x hi u)

@@ -1,4 +1,4 @@
--- `rule_file::read_header` meets its contract. At each place so many checks are known not to fail; the next one refuses, or is known too.
+-- `rule_records::read_header` meets its contract. At each place so many checks are known not to fail; the next one refuses, or is known too.
 use native.Mathlib.Omega.{arith}
 use denote.Ref.{now}
 use mathlib.Core.Path.{sym, ap, _∙_}
@@ -10,13 +10,13 @@ use borrow.Author.Tests.{eq-eqb, ne-eqb}
 use Rattle.meaning.specs.Bytes.{u16At}
 use Rattle.meaning.specs.declared.Refusal.{Refusal}
 use Rattle.meaning.specs.declared.HeaderReading.the-variants as HeaderReading
-use Rattle.rule_file.specs.Reading.{refusalIn}
-use Rattle.rule_file.proofs.Checks.{Cleared, cleared-more}
-use Rattle.rule_file.proofs.Fits.{between, below, above}
-use Rattle.rule_file.proofs.Records.{headerChecks, Frame, framed-record, header-framed, header-clear, header-refused, header-read}
+use Rattle.rule_records.specs.Frames.{refusalIn}
+use Rattle.rule_records.proofs.Checks.{Cleared, cleared-more}
+use Rattle.rule_records.proofs.Between.{between, below, above}
+use Rattle.rule_records.proofs.Records.{headerChecks, Frame, framed-record, header-framed, header-clear, header-refused, header-read}
 use borrow.Author.Needs.{needs}
-use Rattle.rule_file.proofs.read_header.Statement.{statement}
-use Rattle.rule_file.proofs.read_header.Tie as tie
+use Rattle.rule_records.proofs.read_header.Statement.{statement}
+use Rattle.rule_records.proofs.read_header.Tie as tie
 
 -- ---- the record that is read, and its checks
 
@@ -74,7 +74,11 @@ returns-4 : tie.Need-returns-4
 returns-4 c = header-refused (now (c .before .before .before .before .before .before .before .before .before .args .b)) (cleared-5 (c .before .before)) (below 1 4 (getD (now (c .before .before .before .before .before .before .before .before .before .args .b)) 4 0) (omega (arith, c .if3 .taken, c .before .byte-at .ensures)))
 
 returns-5 : tie.Need-returns-5
-returns-5 c = header-refused (now (c .before .before .before .before .before .before .before .before .before .before .args .b)) (cleared-5 (c .before .before .before)) (above 1 4 (getD (now (c .before .before .before .before .before .before .before .before .before .before .args .b)) 4 0) (omega (arith, c .before .if3 .left, c .before .before .byte-at .ensures)) (omega (arith, c .if4 .taken, c .before .before .byte-at .ensures)))
+returns-5 c =
+    let at-byte-at = c .before .before in
+    let at-place = at-byte-at .before in
+    let start = at-place .before .before .before .before .before .before .before in
+    header-refused (now (start .args .b)) (cleared-5 (at-place)) (above 1 4 (getD (now (start .args .b)) 4 0) (omega (arith, c .before .if3 .left, at-byte-at .byte-at .ensures)) (omega (arith, c .if4 .taken, at-byte-at .byte-at .ensures)))
 
 byte-at-requires-2 : tie.Need-byte-at-requires-2
 byte-at-requires-2 c κs = search needs
@@ -83,7 +87,11 @@ returns-6 : tie.Need-returns-6
 returns-6 c = header-refused (now (c .before .before .before .before .before .before .before .before .before .before .before .before .args .b)) (cleared-6 (c .before .before)) (below 1 64 (getD (now (c .before .before .before .before .before .before .before .before .before .before .before .before .args .b)) 5 0) (omega (arith, c .if5 .taken, c .before .byte-at2 .ensures)))
 
 returns-7 : tie.Need-returns-7
-returns-7 c = header-refused (now (c .before .before .before .before .before .before .before .before .before .before .before .before .before .args .b)) (cleared-6 (c .before .before .before)) (above 1 64 (getD (now (c .before .before .before .before .before .before .before .before .before .before .before .before .before .args .b)) 5 0) (omega (arith, c .before .if5 .left, c .before .before .byte-at2 .ensures)) (omega (arith, c .if6 .taken, c .before .before .byte-at2 .ensures)))
+returns-7 c =
+    let at-byte-at2 = c .before .before in
+    let at-place = at-byte-at2 .before in
+    let start = at-place .before .before .before .before .before .before .before .before .before .before in
+    header-refused (now (start .args .b)) (cleared-6 (at-place)) (above 1 64 (getD (now (start .args .b)) 5 0) (omega (arith, c .before .if5 .left, at-byte-at2 .byte-at2 .ensures)) (omega (arith, c .if6 .taken, at-byte-at2 .byte-at2 .ensures)))
 
 returns-8 : tie.Need-returns-8
 returns-8 c = header-read (now (c .before .before .before .before .before .before .before .before .before .before .before .before .before .args .b)) (cleared-7 c) _ (c .before .before .before .before .before .byte-at .ensures) (c .before .before .byte-at2 .ensures)

@@ -1,9 +1,9 @@
--- `rule_file::out_of_range` meets its contract. By the kind: a signal, a mask and a count, or neither.
+-- `rule_nodes::out_of_range` meets its contract. By the kind: a signal, a mask and a count, or neither.
 use native.Mathlib.Omega.{arith}
-use Rattle.rule_file.proofs.Fits.{ranges-signal, ranges-other, ranges-mask, ranges-count}
+use Rattle.rule_nodes.proofs.Fits.{ranges-signal, ranges-other, ranges-mask, ranges-count}
 use borrow.Author.Needs.{needs}
-use Rattle.rule_file.proofs.out_of_range.Statement.{statement}
-use Rattle.rule_file.proofs.out_of_range.Tie as tie
+use Rattle.rule_nodes.proofs.out_of_range.Statement.{statement}
+use Rattle.rule_nodes.proofs.out_of_range.Tie as tie
 
 returns : tie.Need-returns
 returns c = ranges-signal (c .before .before .args .signals) (c .before .before .args .node) (c .before .if1 .taken)

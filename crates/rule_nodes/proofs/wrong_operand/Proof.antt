@@ -1,8 +1,8 @@
--- `rule_file::wrong_operand` meets its contract. By how many operands there are.
+-- `rule_nodes::wrong_operand` meets its contract. By how many operands there are.
 use native.Mathlib.Omega.{arith}
-use Rattle.rule_file.proofs.Fits.{operands-none, operands-first, operands-one, operands-two}
-use Rattle.rule_file.proofs.wrong_operand.Statement.{statement}
-use Rattle.rule_file.proofs.wrong_operand.Tie as tie
+use Rattle.rule_nodes.proofs.Fits.{operands-none, operands-first, operands-one, operands-two}
+use Rattle.rule_nodes.proofs.wrong_operand.Statement.{statement}
+use Rattle.rule_nodes.proofs.wrong_operand.Tie as tie
 
 returns : tie.Need-returns
 returns c = operands-none (c .before .args .number) (c .before .args .node) (omega (arith, c .if1 .taken, c .before .pre))

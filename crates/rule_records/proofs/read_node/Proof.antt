@@ -1,4 +1,4 @@
--- `rule_file::read_node` meets its contract. At each place so many checks are known not to fail; the next one refuses, or is known too.
+-- `rule_records::read_node` meets its contract. At each place so many checks are known not to fail; the next one refuses, or is known too.
 use native.Mathlib.Omega.{arith}
 use denote.Ref.{now}
 use mathlib.Core.Path.{_≡_, sym, ap, _∙_}
@@ -13,13 +13,14 @@ use Rattle.meaning.specs.declared.Node.{Node}
 use Rattle.meaning.specs.declared.Refusal.{Refusal}
 use Rattle.meaning.specs.declared.Reading.{Reading}
 use Rattle.meaning.specs.declared.Reading.the-variants as Reading
-use Rattle.rule_file.specs.Reading.{shapeOf, nodeOf, refusalIn}
-use Rattle.rule_file.specs.declared.Shape.{Shape}
-use Rattle.rule_file.proofs.Checks.{Cleared, cleared-more, failsAt, refusalAt}
-use Rattle.rule_file.proofs.Records.{nodeChecks, Frame, framed-record, node-framed, node-clear, node-refused, node-read}
+use Rattle.rule_nodes.specs.Shapes.{shapeOf, nodeOf}
+use Rattle.rule_records.specs.Frames.{refusalIn}
+use Rattle.rule_nodes.specs.declared.Shape.{Shape}
+use Rattle.rule_records.proofs.Checks.{Cleared, cleared-more, failsAt, refusalAt}
+use Rattle.rule_records.proofs.Records.{nodeChecks, Frame, framed-record, node-framed, node-clear, node-refused, node-read}
 use borrow.Author.Needs.{needs}
-use Rattle.rule_file.proofs.read_node.Statement.{statement}
-use Rattle.rule_file.proofs.read_node.Tie as tie
+use Rattle.rule_records.proofs.read_node.Statement.{statement}
+use Rattle.rule_records.proofs.read_node.Tie as tie
 
 -- ---- the record that is read, and its checks
 
@@ -95,7 +96,10 @@ refusal-in-requires : tie.Need-refusal-in-requires
 refusal-in-requires c κs = search needs
 
 returns : tie.Need-returns
-returns c = ap Reading.Refused (c .refusal-in .ensures ∙ ap refusalIn (c .before .enum-told .given .1)) ∙ node-framed (now (c .before .before .before .before .before .args .b)) (c .before .before .before .before .before .args .signals) (c .before .before .before .before .before .args .p) (c .before .before .before .before .before .args .number) (c .before .before .before .before .before .args .seen) _ (sym (c .before .before .before .frame .ensures) ∙ c .before .enum-told .given .1)
+returns c =
+    let at-frame = c .before .before .before in
+    let start = at-frame .before .before in
+    ap Reading.Refused (c .refusal-in .ensures ∙ ap refusalIn (c .before .enum-told .given .1)) ∙ node-framed (now (start .args .b)) (start .args .signals) (start .args .p) (start .args .number) (start .args .seen) _ (sym (at-frame .frame .ensures) ∙ c .before .enum-told .given .1)
 
 returns-2 : tie.Need-returns-2
 returns-2 c = refused (c .before) 3 (cleared-3 (c .before)) (ap not (lt-leb (kind (c .before)) 13 (omega (arith, c .if1 .taken, framed (c .before) .kind-is))))
@@ -116,7 +120,13 @@ add-if2 : tie.Need-add-if2
 add-if2 c = search needs
 
 returns-3 : tie.Need-returns-3
-returns-3 c = let body = ap (λ (s : Shape). s .body) (shape (c .before .before .before)) in refused (c .before .before .before .before .before) 4 (cleared-4 (c .before .before .before .before)) (ap not (ne-eqb (u16At (bytes (c .before .before .before .before .before)) (place (c .before .before .before .before .before))) (2 + bodyLength (kind (c .before .before .before .before .before))) (λ h. c .if2 .taken (omega (arith, h, c .before .before .wide16 .ensures .0, c .before .wide .ensures .0, framed (c .before .before .before .before .before) .length-is, body)))))
+returns-3 c =
+    let at-wide16 = c .before .before in
+    let at-place = at-wide16 .before in
+    let at-place2 = at-place .before in
+    let at-place3 = at-place2 .before in
+    let body = ap (λ (s : Shape). s .body) (shape (at-place)) in
+    refused (at-place3) 4 (cleared-4 (at-place2)) (ap not (ne-eqb (u16At (bytes (at-place3)) (place (at-place3))) (2 + bodyLength (kind (at-place3))) (λ h. c .if2 .taken (omega (arith, h, at-wide16 .wide16 .ensures .0, c .before .wide .ensures .0, framed (at-place3) .length-is, body)))))
 
 cast-node-at : tie.Need-cast-node-at
 cast-node-at c = search needs
@@ -143,7 +153,10 @@ returns-6 : tie.Need-returns-6
 returns-6 c = refused (c .before .before .before .before .before .before .before .before .before .before .before .before) 7 (cleared-7 (c .before .before)) (sym (count (c .before)) ∙ c .if5 .taken)
 
 returns-7 : tie.Need-returns-7
-returns-7 c = node-read (now (c .before .before .before .before .before .before .before .before .before .before .before .before .before .before .before .before .before .args .b)) (c .before .before .before .before .before .before .before .before .before .before .before .before .before .before .before .before .before .args .signals) (c .before .before .before .before .before .before .before .before .before .before .before .before .before .before .before .before .before .args .p) (c .before .before .before .before .before .before .before .before .before .before .before .before .before .before .before .before .before .args .number) (c .before .before .before .before .before .before .before .before .before .before .before .before .before .before .before .before .before .args .seen) (cleared-8 c) _ (node (c .before .before .before .before .before .before))
+returns-7 c =
+    let at-place = c .before .before .before .before .before .before in
+    let start = at-place .before .before .before .before .before .before .before .before .before .before .before in
+    node-read (now (start .args .b)) (start .args .signals) (start .args .p) (start .args .number) (start .args .seen) (cleared-8 c) _ (node (at-place))
 
 pub read-node-spec : {M : Type 1} → statement M
 read-node-spec =

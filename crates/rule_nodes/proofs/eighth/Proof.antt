@@ -1,7 +1,7 @@
--- `rule_file::eighth` meets its contract. Only a temporal node is counted.
+-- `rule_nodes::eighth` meets its contract. Only a temporal node is counted.
 use borrow.Author.Needs.{needs}
-use Rattle.rule_file.proofs.eighth.Statement.{statement}
-use Rattle.rule_file.proofs.eighth.Tie as tie
+use Rattle.rule_nodes.proofs.eighth.Statement.{statement}
+use Rattle.rule_nodes.proofs.eighth.Tie as tie
 
 returns : tie.Need-returns
 returns c = rw (c .if1 .taken)

@@ -15,9 +15,9 @@ use Rattle.meaning.specs.declared.Refusal.{Refusal}
 use Rattle.meaning.specs.declared.Refusal.the-variants.{Truncated, WrongLength, WrongSignals, WrongCount, WrongOperand, OutOfRange, EighthTemporal}
 use Rattle.meaning.specs.declared.HeaderReading.the-variants as HeaderReading
 use Rattle.meaning.specs.declared.Reading.the-variants as Reading
-use Rattle.rule_file.specs.Reading.{framedOf}
-use Rattle.rule_file.specs.declared.Framed.the-variants as Framed
-use Rattle.rule_file.proofs.Checks.{Cleared, cleared-append, first-refused, first-none, first-cleared, first-handed, failsAt, refusalAt}
+use Rattle.rule_records.specs.Frames.{framedOf}
+use Rattle.rule_records.specs.declared.Framed.the-variants as Framed
+use Rattle.rule_records.proofs.Checks.{Cleared, cleared-append, first-refused, first-none, first-cleared, first-handed, failsAt, refusalAt}
 
 -- the checks of the first record, and of a node's
 abbrev pub headerChecks : List ℕ → List (Bool × Refusal)
