@@ -1,9 +1,10 @@
 //! A second reading of document 01, written apart from the watcher: readers, a
-//! search for traces, a builder of tables, and the maker of the stored test vectors.
+//! search for traces, a builder of tables, and the maker of the test vectors.
 
 pub mod builder;
 pub mod certify;
 pub mod lasso;
+pub mod prints;
 pub mod random_rules;
 pub mod record;
 pub mod refusal;

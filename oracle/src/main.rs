@@ -3,10 +3,11 @@
 use std::path::Path;
 use std::process::ExitCode;
 
-use oracle::vectors;
+use oracle::{prints, vectors};
 
 const HELP: &str = "\
 usage: oracle vectors DIR
+       oracle prints DIR RULEFILE..
 
 Writes the test vectors for rule files, table files and built tables:
   DIR/rule_vectors/stdin    DIR/rule_vectors/stdout
@@ -14,12 +15,16 @@ Writes the test vectors for rule files, table files and built tables:
   DIR/build_vectors/stdin   DIR/build_vectors/stdout
 Missing folders are made. Every run writes the same bytes. Built tables are
 certified by a search for traces first, and a summary of it is printed; if one
-fails, nothing is written and the exit status is 1.";
+fails, nothing is written and the exit status is 1.
+
+The second command writes inputs of the table printer, the rule files among them,
+and what it must print for each: DIR/NAME.in and DIR/NAME.expected.";
 
 fn main() -> ExitCode {
     let arguments: Vec<String> = std::env::args().skip(1).collect();
     match arguments.iter().map(String::as_str).collect::<Vec<_>>()[..] {
         ["vectors", folder] => write_vectors(Path::new(folder)),
+        ["prints", folder, ref files @ ..] => write_prints(Path::new(folder), files),
         ["help" | "--help" | "-h"] => {
             println!("{HELP}");
             ExitCode::SUCCESS
@@ -39,6 +44,20 @@ fn write_vectors(folder: &Path) -> ExitCode {
         }
         Err(reason) => {
             eprintln!("no vectors: {reason}");
+            ExitCode::FAILURE
+        }
+    }
+}
+
+fn write_prints(folder: &Path, files: &[&str]) -> ExitCode {
+    let files: Vec<&Path> = files.iter().map(Path::new).collect();
+    match prints::write_all(folder, &files) {
+        Ok(count) => {
+            println!("{count} inputs of the printer");
+            ExitCode::SUCCESS
+        }
+        Err(reason) => {
+            eprintln!("no inputs: {reason}");
             ExitCode::FAILURE
         }
     }

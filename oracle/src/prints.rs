@@ -1,0 +1,180 @@
+//! Inputs of the program that prints tables, each with what it must print.
+//!
+//! The program takes the first 4,096 bytes of its input as a rule file, builds
+//! the table with room for every table, and prints it. So of the fourteen refusals
+//! four cannot happen: 10, since the room is enough; 12 and 13, since nothing is
+//! run; 14, since only a built table is opened.
+
+use std::collections::BTreeSet;
+use std::fmt::Write;
+use std::fs;
+use std::path::Path;
+
+use crate::builder;
+use crate::record::{claiming, well_sized};
+use crate::rule::{header_record, kind, Rule};
+use crate::table::Monitor;
+use crate::vectors::rule_samples::{nexts, p3, rule, shared_nexts, P};
+
+/// How many bytes of its input the program takes.
+const TAKEN: usize = 4096;
+/// The length of the longest table.
+const ROOM: usize = 9479;
+/// A kind that no node has.
+const NO_KIND: u16 = 14;
+
+/// An input, under the name of its files.
+struct Print {
+    name: String,
+    input: Vec<u8>,
+}
+
+impl Print {
+    fn new(name: impl Into<String>, input: Vec<u8>) -> Self {
+        Print { name: name.into(), input }
+    }
+
+    /// What the program must print.
+    fn expected(&self) -> String {
+        let taken = &self.input[..self.input.len().min(TAKEN)];
+        let mut output = [0; ROOM];
+        match builder::build(taken, &mut output) {
+            Ok(length) => {
+                text(&Monitor::open(&output[..length]).expect("the builder writes a table"))
+            }
+            Err(refusal) => format!("{refusal}\n"),
+        }
+    }
+}
+
+/// Writes NAME.in and NAME.expected into `folder` for each input: the rule files
+/// given, and our own. The answer is how many.
+pub fn write_all(folder: &Path, rule_files: &[&Path]) -> Result<usize, String> {
+    let mut prints = Vec::new();
+    for file in rule_files {
+        let input =
+            fs::read(file).map_err(|error| format!("cannot read {}: {error}", file.display()))?;
+        let stem = file.file_stem().ok_or(format!("{} names no file", file.display()))?;
+        prints.push(Print::new(stem.to_string_lossy(), input));
+    }
+    prints.extend(refused());
+    prints.extend(long());
+    let names: BTreeSet<&str> = prints.iter().map(|print| print.name.as_str()).collect();
+    if names.len() < prints.len() {
+        return Err("two inputs have the same name".into());
+    }
+    for print in &prints {
+        let written = fs::create_dir_all(folder)
+            .and_then(|()| fs::write(folder.join(format!("{}.in", print.name)), &print.input))
+            .and_then(|()| {
+                fs::write(folder.join(format!("{}.expected", print.name)), print.expected())
+            });
+        written.map_err(|error| format!("cannot write to {}: {error}", folder.display()))?;
+    }
+    Ok(prints.len())
+}
+
+fn text(monitor: &Monitor) -> String {
+    let mut text = format!("signals {} states {}\n", monitor.signals, monitor.states.len());
+    for (number, state) in monitor.states.iter().enumerate() {
+        write!(text, "{number} {}", state.verdict).expect("a string takes all");
+        for successor in &state.successors {
+            write!(text, " {successor}").expect("a string takes all");
+        }
+        text.push('\n');
+    }
+    text
+}
+
+/// An input for each number by which printing can refuse.
+fn refused() -> Vec<Print> {
+    let header = header_record(1, 1);
+    let bytes = |rule: Rule| rule.to_bytes();
+    let inputs = [
+        (1, bytes(p3())[..10].to_vec()),
+        (2, [&header[..], &well_sized(kind::SIGNAL.into(), &[0, 0])].concat()),
+        (3, [&header[..], &well_sized(NO_KIND, &[0])].concat()),
+        (4, header_record(5, 1)),
+        (5, header_record(1, 65)),
+        (6, bytes(rule(1, &[P, (kind::NOT, 1, 0)]))),
+        (7, bytes(rule(1, &[(kind::SIGNAL, 1, 0)]))),
+        (8, bytes(nexts(8))),
+        (9, [&bytes(p3())[..], &[0]].concat()),
+        (11, bytes(shared_nexts(6))),
+    ];
+    let named = |(number, input)| Print::new(format!("refused_{number}"), input);
+    inputs.map(named).into()
+}
+
+/// No input, and inputs about as long as what is taken and far longer. A record that
+/// ends with byte 4,096 is judged by its kind; where byte 4,096 is missing, or the record
+/// ends one byte later, the file ends within it.
+fn long() -> Vec<Print> {
+    let record_to = |end: usize| {
+        let header = header_record(1, 1);
+        let body = vec![0; end - header.len() - 4];
+        [&header[..], &claiming(body.len() as u16 + 2, NO_KIND, &body)].concat()
+    };
+    let padded = |mut input: Vec<u8>, length: usize| {
+        input.resize(length, 0);
+        input
+    };
+    let mut prints = vec![
+        Print::new("empty", Vec::new()),
+        Print::new("to_4096", record_to(TAKEN)),
+        Print::new("to_4096_cut", record_to(TAKEN)[..TAKEN - 1].to_vec()),
+        Print::new("to_4096_padded", padded(record_to(TAKEN), 100_000)),
+        Print::new("to_4097", record_to(TAKEN + 1)),
+        Print::new("to_4097_padded", padded(record_to(TAKEN + 1), 100_000)),
+    ];
+    let lengths = [TAKEN - 1, TAKEN, TAKEN + 1, 100_000];
+    let p3_padded = |length| Print::new(format!("p3_{length}"), padded(p3().to_bytes(), length));
+    prints.extend(lengths.map(p3_padded));
+    prints
+}
+
+#[cfg(test)]
+mod tests {
+    use super::*;
+
+    #[test]
+    fn p3_prints_as_document_01_says() {
+        let printed = Print::new("p3", p3().to_bytes()).expected();
+        let lines = ["signals 1 states 3", "0 undecided 1 2", "1 violated 1 1", "2 satisfied 2 2"];
+        assert_eq!(printed, lines.join("\n") + "\n");
+    }
+
+    #[test]
+    fn each_refusal_is_by_the_number_in_its_name() {
+        for print in refused() {
+            let words = print.expected().replace(' ', "_");
+            assert!(words.starts_with(&format!("{}_at_", print.name)), "{}: {words}", print.name);
+        }
+    }
+
+    #[test]
+    fn the_long_inputs_tell_the_limit_apart() {
+        let found: Vec<String> =
+            long().iter().map(|print| print.name.clone() + ": " + &print.expected()).collect();
+        let expected = [
+            "empty: refused 1 at 0\n",
+            "to_4096: refused 3 at 6\n",
+            "to_4096_cut: refused 1 at 6\n",
+            "to_4096_padded: refused 3 at 6\n",
+            "to_4097: refused 1 at 6\n",
+            "to_4097_padded: refused 1 at 6\n",
+            "p3_4095: refused 9 at 11\n",
+            "p3_4096: refused 9 at 11\n",
+            "p3_4097: refused 9 at 11\n",
+            "p3_100000: refused 9 at 11\n",
+        ];
+        assert_eq!(found, expected);
+    }
+
+    #[test]
+    fn the_long_inputs_have_the_lengths_around_the_limit() {
+        for length in [0, 4095, 4096, 4097, 100_000] {
+            assert!(long().iter().any(|print| print.input.len() == length), "{length}");
+        }
+    }
+}
