@@ -1,4 +1,4 @@
--- After building, a run from state 0 over any events shows demand 2's verdict and counts right.
+-- After building, a run from state 0 over any events shows demand 2's verdict and counts right, and so does stepping event by event.
 use mathlib.Core.Path.{_≡_, refl, sym, ap, _∙_, subst}
 use mathlib.Core.Logic.{_↔_}
 use mathlib.Core.List.{List, [], _∷_}
@@ -6,23 +6,27 @@ use mathlib.Core.Bool.{Bool, true, false, cond, _&&_}
 use Prim.Native.Nat.{ℕ, zero, suc, _+_, _^_, _≤_, _<_}
 use native.Mathlib.Omega.{arith}
 use lib.ListN.{length, take, getD}
-use lib.Dec.{leb}
-use borrow.Author.Tests.{lt-ltb, le-ltb, lt-leb, leb-true}
+use lib.Dec.{leb, ltb}
+use borrow.Author.Tests.{lt-ltb, le-ltb, lt-leb, ltb-true}
 use Rattle.sequences.specs.Tabulate.{every, allBelow}
 use Rattle.sequences.proofs.Loops.{least-is}
 use Rattle.sequences.proofs.Tests.{holds}
-use Rattle.meaning.specs.Traces.{over, Word}
+use Rattle.meaning.specs.Traces.{over, Event, Word}
 use Rattle.meaning.specs.Verdicts.{Property, Judged}
 use Rattle.meaning.specs.Monitors.{Monitor, follow, shows}
 use Rattle.meaning.specs.RuleFiles.{alphabetOf, propertyOf}
-use Rattle.meaning.specs.TableFiles.{headerTests, rowTests, isTable, signalsIn, statesIn, monitorOf}
+use Rattle.meaning.specs.TableFiles.{headerTests, rowTests, isTable, signalsIn, statesIn, successor, monitorOf}
 use Rattle.meaning.specs.Runs.{decides, decidedFrom, endOf, firstBad, ranOf, runOf}
 use Rattle.meaning.specs.declared.Verdict.{Verdict}
 use Rattle.meaning.specs.declared.Verdict.the-variants.{Undecided, Satisfied, Violated, Moot}
 use Rattle.meaning.specs.declared.Decided.{Decided}
 use Rattle.meaning.specs.declared.Decided.the-variants.{After, Never}
+use Rattle.meaning.specs.declared.Ran.{Ran}
+use Rattle.meaning.specs.declared.Ran.the-variants.{Ended}
+use Rattle.moore.proofs.Tests.{all-true}
+use Rattle.table_file.proofs.Form.{table-header, states-some}
 use Rattle.monitor.specs.Build.{BuiltRight}
-use Rattle.monitor.specs.Running.{CountRight, RunRight}
+use Rattle.monitor.specs.Running.{CountRight, RunRight, StepRight, stepsFrom, steps}
 
 -- ---- the count of a run of any monitor
 
@@ -106,21 +110,58 @@ module _ (P : ℕ) (L : Property) (m : Monitor) (start : m .start ≡ 0) (says :
   run-right : 0 < m .states → RunRight (over P) L es (ranOf m P 0 es)
   run-right h = rw (lt-ltb 0 (m .states) h, none-bad P es a, le-ltb (length es) (length es) (omega arith)) end-right
 
-header-passed : (t : List ℕ) → isTable t ≡ true → every (headerTests t) ≡ true
-unfolding isTable
-header-passed t q = go (every (headerTests t)) q
-  where
-    go : (b : Bool) → (b && allBelow (statesIn t) (λ s. every (rowTests t (signalsIn t) (statesIn t) s))) ≡ true → b ≡ true
-    go true e = refl
-    go false e = e
-
-some-state : (t : List ℕ) → isTable t ≡ true → 0 < statesIn t
-some-state t q = leb-true 1 (statesIn t) (holds (headerTests t) (header-passed t q) 5)
-
 -- the second theorem: building and running together
 pub built-run : (file table : List ℕ) (b : BuiltRight file table) (es : List ℕ) → Word (alphabetOf (b .rule)) es
     → RunRight (alphabetOf (b .rule)) (propertyOf (b .rule)) es (runOf table 0 es)
 built-run file table b es a =
     rw (b .demand-3 .form)
     (subst (λ (P : ℕ). RunRight (alphabetOf (b .rule)) (propertyOf (b .rule)) es (ranOf (monitorOf table) P 0 es)) (sym (b .demand-3 .signals))
-    (run-right (b .rule .signals) (propertyOf (b .rule)) (monitorOf table) refl (b .demand-2 .verdicts table (b .built)) es a (some-state table (b .demand-3 .form))))
+    (run-right (b .rule .signals) (propertyOf (b .rule)) (monitorOf table) refl (b .demand-2 .verdicts table (b .built)) es a (states-some table (table-header table (b .demand-3 .form)))))
+
+-- ---- stepping
+
+-- a step over a table, whose successors are its states
+module _ (t : List ℕ) (form : isTable t ≡ true) where
+  rows-passed : allBelow (statesIn t) (λ s. every (rowTests t (signalsIn t) (statesIn t) s)) ≡ true
+  unfolding isTable
+  rows-passed = go (every (headerTests t)) form
+    where
+      go : (b : Bool) → (b && allBelow (statesIn t) (λ s. every (rowTests t (signalsIn t) (statesIn t) s))) ≡ true
+          → allBelow (statesIn t) (λ s. every (rowTests t (signalsIn t) (statesIn t) s)) ≡ true
+      go true e = e
+      go false e = let z : _≡_ {A = ℕ} 0 1 = cc in absurd (omega arith)
+
+  successor-in : (s e : ℕ) → s < statesIn t → e < 2 ^ signalsIn t → successor t (signalsIn t) s e < statesIn t
+  successor-in s e l m =
+      let tests = rowTests t (signalsIn t) (statesIn t) s in
+      let row : every tests ≡ true = all-true (statesIn t) (λ k. every (rowTests t (signalsIn t) (statesIn t) k)) rows-passed s l in
+      ltb-true (successor t (signalsIn t) s e) (statesIn t)
+      (all-true (2 ^ signalsIn t) (λ k. ltb (successor t (signalsIn t) s k) (statesIn t)) (holds tests row 3) e m)
+
+  no-step : runOf t 0 [] ≡ endOf (monitorOf t) 0 []
+  no-step = rw (form, lt-ltb 0 (statesIn t) (states-some t (table-header t form)))
+
+  one-step : (s e : ℕ) → s < statesIn t → Event (over (signalsIn t)) e → runOf t s (e ∷ []) ≡ endOf (monitorOf t) s (e ∷ [])
+  one-step s e l h = rw (form, lt-ltb s (statesIn t) l, none-bad (signalsIn t) (e ∷ []) (h, tt))
+
+  -- stepping ends where the events lead, with the verdict of that state
+  steps-end : (s : ℕ) (d : Decided) (es : List ℕ) → s < statesIn t → Word (over (signalsIn t)) es
+      → (d′ : Decided) × (stepsFrom t (Ended s (monitorOf t .verdict s) d) es ≡ Ended (follow (monitorOf t) s es) (monitorOf t .verdict (follow (monitorOf t) s es)) d′)
+  unfolding stepsFrom
+  steps-end s d [] l a = (d, refl)
+  steps-end s d (e ∷ es) l a =
+      let q = one-step s e l (a .0) in
+      let h = steps-end (successor t (signalsIn t) s e) (decidedFrom (monitorOf t) 0 s (e ∷ [])) es (successor-in s e l (a .0 .0)) (a .1) in
+      (h .0, ap (λ (r : Ran). stepsFrom t r es) q ∙ h .1)
+
+-- the third theorem: stepping event by event is never refused, and after every list the last step shows demand 2's verdict
+pub built-steps : (file table : List ℕ) (b : BuiltRight file table) (es : List ℕ) → Word (alphabetOf (b .rule)) es
+    → StepRight (alphabetOf (b .rule)) (propertyOf (b .rule)) es (steps table es)
+built-steps file table b es a =
+    let form = b .demand-3 .form in
+    let some = states-some table (table-header table form) in
+    let word = subst (λ (P : ℕ). Word (over P) es) (sym (b .demand-3 .signals)) a in
+    let end = steps-end table form 0 (decidedFrom (monitorOf table) 0 0 []) es some word in
+    let q : steps table es ≡ Ended _ (shows (monitorOf table) es) _ = ap (λ (r : Ran). stepsFrom table r es) (no-step table form) ∙ end .1 in
+    subst (λ (r : Ran). StepRight (alphabetOf (b .rule)) (propertyOf (b .rule)) es r) (sym q)
+    (b .demand-2 .verdicts table (b .built) es a (shows (monitorOf table) es) .0 refl)

@@ -3,7 +3,7 @@ use mathlib.Core.Path.{_≡_}
 use mathlib.Core.Logic.{_⊎_}
 use mathlib.Core.List.{List, _++_}
 use mathlib.Core.Bool.{cond}
-use Prim.Native.Nat.{ℕ}
+use Prim.Native.Nat.{ℕ, _<_}
 use lib.ListN.{length, take, drop}
 use lib.Dec.{leb}
 use Rattle.meaning.specs.Verdicts.{MoreThan}
@@ -47,14 +47,21 @@ pub record BuiltRight (file table : List ℕ) : Type 0 where
   pub demand-2 : Demand-2 (BuiltBy ltlSystem) file rule
   pub demand-3 : Demand-3 (BuiltBy ltlSystem) file rule table
 
--- "Given a long enough buffer, a well-formed rule is refused only if it can leave more than 256 different remaining properties": by 11 exactly
--- then, and else by 10
-abbrev pub RefusedRight : List ℕ → ℕ → Type 0
-RefusedRight file number =
-    (rule : Rule) → Reads file rule
-    → ((number ≡ 11) × MoreThan (alphabetOf rule) (propertyOf rule) 256) ⊎ ((number ≡ 10) × (¬ MoreThan (alphabetOf rule) (propertyOf rule) 256))
+-- the rule's table is longer than the buffer
+pub record NoRoom (file : List ℕ) (room : ℕ) : Type 0 where
+  pub table : List ℕ
+  pub built : BuiltBy ltlSystem file table
+  pub longer : room < length table
 
--- the demands of an answer and of the output after it
-abbrev pub Right : List ℕ → List ℕ → Built → Type 0
-Right file after (Built.Table n) = BuiltRight file (take n after)
-Right file after (Built.Refused r) = RefusedRight file (codeOf r .0)
+-- "Given a long enough buffer, a well-formed rule is refused only if it can leave more than 256 different remaining properties": by 11 exactly
+-- then, and else by 10, only where the buffer has no room for the table
+abbrev pub RefusedRight : List ℕ → ℕ → ℕ → Type 0
+RefusedRight file room number =
+    (rule : Rule) → Reads file rule
+    → ((number ≡ 11) × MoreThan (alphabetOf rule) (propertyOf rule) 256)
+    ⊎ ((number ≡ 10) × (¬ MoreThan (alphabetOf rule) (propertyOf rule) 256) × NoRoom file room)
+
+-- the demands of an answer, with the output before and after it
+abbrev pub Right : List ℕ → List ℕ → List ℕ → Built → Type 0
+Right file before after (Built.Table n) = BuiltRight file (take n after)
+Right file before after (Built.Refused r) = RefusedRight file (length before) (codeOf r .0)

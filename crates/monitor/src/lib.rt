@@ -83,7 +83,7 @@ fn construct(signals: u8, count: u8, nodes: [Node; 64], table: &mut [u8]) -> Bui
 pub fn build(rule: &[u8], table: &mut [u8]) -> Built
     ensures answer { λ r. ⌜ r ≡ answerOf (judge (now (rule .entry))) (now (table .entry)) ⌝ }
     ensures output { λ _. ⌜ now (table .exit) ≡ outputAfter (judge (now (rule .entry))) (now (table .entry)) ⌝ }
-    ensures demands { λ r. ⌜ Right (now (rule .entry)) (now (table .exit)) r ⌝ }
+    ensures demands { λ r. ⌜ Right (now (rule .entry)) (now (table .entry)) (now (table .exit)) r ⌝ }
 {
     let read = rule_file::read(rule);
     let outcome = read.outcome;

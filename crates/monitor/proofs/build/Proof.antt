@@ -17,16 +17,28 @@ enum-told : tie.Need-enum-told
 enum-told c = search needs
 
 construct-requires : tie.Need-construct-requires
-construct-requires c κs = (read-formed (now (c .before .before .before .before .before .before .before .args .rule)) (c .before .before .before .before .read .result) (c .before .before .before .before .read .ensures) (c .before .before .enum-told .given .1), read-count (now (c .before .before .before .before .before .before .before .args .rule)) (c .before .before .before .before .read .result) (c .before .before .before .before .read .ensures) (c .before .before .enum-told .given .1))
+construct-requires c κs =
+    let at-enum-told = c .before .before in
+    let at-read = at-enum-told .before .before in
+    let start = at-read .before .before .before in
+    (read-formed (now (start .args .rule)) (at-read .read .result) (at-read .read .ensures) (at-enum-told .enum-told .given .1), read-count (now (start .args .rule)) (at-read .read .result) (at-read .read .ensures) (at-enum-told .enum-told .given .1))
 
 returns : tie.Need-returns
-returns c = all-right (now (c .before .before .before .before .before .before .args .rule)) (now (c .before .before .before .before .before .before .args .table)) (now (c .before .before .before .before .before .before .args .table)) _ _ (refused-read (now (c .before .before .before .before .before .before .args .rule)) (c .before .before .before .read .result) (c .before .before .before .read .ensures) _ (c .before .outcome .given .1)) refl refl
+returns c =
+    let at-read = c .before .before .before in
+    let start = at-read .before .before .before in
+    all-right (now (start .args .rule)) (now (start .args .table)) (now (start .args .table)) _ _ (refused-read (now (start .args .rule)) (at-read .read .result) (at-read .read .ensures) _ (c .before .outcome .given .1)) refl refl
 
 same-length : tie.Need-same-length
 same-length c = search needs
 
 returns-2 : tie.Need-returns-2
-returns-2 c = all-right (now (c .before .before .before .before .before .before .before .before .before .before .args .rule)) (now (c .before .before .before .before .before .before .before .before .before .before .args .table)) _ _ _ (accepted-read (now (c .before .before .before .before .before .before .before .before .before .before .args .rule)) (c .before .before .before .before .before .before .before .read .result) (c .before .before .before .before .before .before .before .read .ensures) (c .before .before .before .before .before .enum-told .given .1)) (c .before .before .construct .ensures .0) (c .before .before .construct .ensures .1)
+returns-2 c =
+    let at-construct = c .before .before in
+    let at-enum-told = at-construct .before .before .before in
+    let at-read = at-enum-told .before .before in
+    let start = at-read .before .before .before in
+    all-right (now (start .args .rule)) (now (start .args .table)) _ _ _ (accepted-read (now (start .args .rule)) (at-read .read .result) (at-read .read .ensures) (at-enum-told .enum-told .given .1)) (at-construct .construct .ensures .0) (at-construct .construct .ensures .1)
 
 pub build-spec : {M : Type 1} → statement M
 build-spec =

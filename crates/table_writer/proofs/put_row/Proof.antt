@@ -46,7 +46,13 @@ same-length : tie.Need-same-length
 same-length c = c .before .before .put-successors .kept .0 ∙ simp length-set (c .before .before .before .before .before .before .put-u162 .kept .0 ∙ c .before .before .before .before .before .before .before .before .before .before .put-u16 .kept .0)
 
 returns : tie.Need-returns
-returns c = row-stored (now (c .before .before .before .before .before .before .before .before .before .before .before .before .before .before .args .out)) (c .before .before .before .before .before .before .before .before .before .before .put-u16 .last .0) (c .before .before .before .before .before .before .put-u162 .last .0) _ (c .before .before .before .before .before .before .before .before .before .before .before .before .before .before .args .row) (c .before .before .before .before .before .before .before .before .before .before .before .before .before .before .args .at) (c .before .before .before .before .before .before .before .before .before .before .before .before .before .before .args .signals) (c .before .before .before .before .before .before .before .before .before .before .before .before .before .before .args .verdict) (c .before .before .before .before .before .before .before .before .before .before .before .before .width .result) _ (c .before .before .before .before .before .before .before .before .before .before .before .before .width .ensures .0) refl (c .before .before .before .before .before .before .before .before .before .before .put-u16 .ensures) (c .before .before .before .before .before .before .put-u162 .ensures) (c .before .before .put-successors .ensures)
+returns c =
+    let at-put-successors = c .before .before in
+    let at-put-u162 = at-put-successors .before .before .before .before in
+    let at-put-u16 = at-put-u162 .before .before .before .before in
+    let at-width = at-put-u16 .before .before in
+    let start = at-width .before .before in
+    row-stored (now (start .args .out)) (at-put-u16 .put-u16 .last .0) (at-put-u162 .put-u162 .last .0) _ (start .args .row) (start .args .at) (start .args .signals) (start .args .verdict) (at-width .width .result) _ (at-width .width .ensures .0) refl (at-put-u16 .put-u16 .ensures) (at-put-u162 .put-u162 .ensures) (at-put-successors .put-successors .ensures)
 
 pub put-row-spec : {M : Type 1} → statement M
 put-row-spec =

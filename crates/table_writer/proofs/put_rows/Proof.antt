@@ -38,7 +38,11 @@ element-copy-out-put-row : tie.Need-element-copy-out-put-row Inv-loop μ-loop
 element-copy-out-put-row c = omega (arith, c .before .before .before .wide16 .ensures)
 
 put-row-requires : tie.Need-put-row-requires Inv-loop μ-loop
-put-row-requires c κs = (omega arith, omega (arith, c .before .row-at .ensures .0, row-within (c .before .before .before .before .before .before .before .before .args .signals) (c .before .before .before .before .before .before .before .before .args .states) (c .before .before .before .before .before .before .loop .s) (c .before .before .before .before .before .loop-test .taken), c .before .before .before .before .before .before .loop .inv .1))
+put-row-requires c κs =
+    let at-loop-test = c .before .before .before .before .before in
+    let at-loop = at-loop-test .before in
+    let start = at-loop .before .before in
+    (omega arith, omega (arith, c .before .row-at .ensures .0, row-within (start .args .signals) (start .args .states) (at-loop .loop .s) (at-loop-test .loop-test .taken), at-loop .loop .inv .1))
 
 add-s : tie.Need-add-s Inv-loop μ-loop
 add-s c = search needs
@@ -47,7 +51,15 @@ loop-less : tie.Need-loop-less Inv-loop μ-loop
 loop-less c = search needs
 
 loop-again : tie.Need-loop-again Inv-loop μ-loop
-loop-again c = let w : c .before .before .before .before .before .before .before .wide16 .result ≡ c .before .before .before .before .before .before .before .before .before .loop .s = c .before .before .before .before .before .before .before .wide16 .ensures .0 in let h = rows-more (c .before .before .before .before .before .before .before .before .before .before .before .args .signals) (now (c .before .before .before .before .before .before .before .before .before .before .before .args .verdicts)) (now (c .before .before .before .before .before .before .before .before .before .before .before .args .rows)) (c .before .before .before .before .before .before .before .before .before .loop .s) _ (c .before .before .before .before .row-at .result) (c .before .before .before .before .before .before .before .before .before .loop .inv .2) (c .before .before .before .before .row-at .ensures .0) (c .before .before .put-row .ensures ∙ ap (λ (n : ℕ). sets (c .before .before .before .before .before .before .before .before .before .loop .out) (c .before .before .before .before .row-at .result) (rowBytes (c .before .before .before .before .before .before .before .before .before .before .before .args .signals) (getD (now (c .before .before .before .before .before .before .before .before .before .before .before .args .verdicts)) n 0) (getD (now (c .before .before .before .before .before .before .before .before .before .before .before .args .rows)) n []))) w) in (omega arith, stored-length h ∙ refl, h)
+loop-again c =
+    let at-put-row = c .before .before in
+    let at-row-at = at-put-row .before .before in
+    let at-wide16 = at-row-at .before .before .before in
+    let at-loop = at-wide16 .before .before in
+    let start = at-loop .before .before in
+    let w : at-wide16 .wide16 .result ≡ at-loop .loop .s = at-wide16 .wide16 .ensures .0 in
+    let h = rows-more (start .args .signals) (now (start .args .verdicts)) (now (start .args .rows)) (at-loop .loop .s) _ (at-row-at .row-at .result) (at-loop .loop .inv .2) (at-row-at .row-at .ensures .0) (at-put-row .put-row .ensures ∙ ap (λ (n : ℕ). sets (at-loop .loop .out) (at-row-at .row-at .result) (rowBytes (start .args .signals) (getD (now (start .args .verdicts)) n 0) (getD (now (start .args .rows)) n []))) w) in
+    (omega arith, stored-length h ∙ refl, h)
 
 same-length : tie.Need-same-length Inv-loop μ-loop
 same-length c = c .before .loop .inv .1

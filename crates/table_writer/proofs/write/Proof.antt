@@ -27,7 +27,15 @@ same-length : tie.Need-same-length
 same-length c = c .before .before .put-rows .kept .0 ∙ c .before .before .before .before .before .before .put-header .kept .0
 
 returns-2 : tie.Need-returns-2
-returns-2 c = let l : tableLength (c .before .before .before .before .before .before .before .before .before .before .before .args .signals) (c .before .before .before .before .before .before .before .before .before .before .before .args .states) ≤ length (now (c .before .before .before .before .before .before .before .before .before .before .before .args .out)) = omega (arith, c .before .before .before .before .before .before .before .before .if1 .left, c .before .before .before .before .before .before .before .before .before .row-at .ensures .0) in let h = le-leb (tableLength (c .before .before .before .before .before .before .before .before .before .before .before .args .signals) (c .before .before .before .before .before .before .before .before .before .before .before .args .states)) (length (now (c .before .before .before .before .before .before .before .before .before .before .before .args .out))) l in (rw (h, c .before .before .before .before .before .before .before .before .before .row-at .ensures .0), rw h (table-stored (c .before .before .before .before .before .before .before .before .before .before .before .args .signals) (now (c .before .before .before .before .before .before .before .before .before .before .before .args .verdicts)) (now (c .before .before .before .before .before .before .before .before .before .before .before .args .rows)) (c .before .before .before .before .before .before .before .before .before .before .before .args .states) (now (c .before .before .before .before .before .before .before .before .before .before .before .args .out)) _ _ (c .before .before .before .before .before .before .put-header .ensures) (c .before .before .put-rows .ensures) l))
+returns-2 c =
+    let at-put-rows = c .before .before in
+    let at-put-header = at-put-rows .before .before .before .before in
+    let at-if1 = at-put-header .before .before in
+    let at-row-at = at-if1 .before in
+    let start = at-row-at .before .before in
+    let l : tableLength (start .args .signals) (start .args .states) ≤ length (now (start .args .out)) = omega (arith, at-if1 .if1 .left, at-row-at .row-at .ensures .0) in
+    let h = le-leb (tableLength (start .args .signals) (start .args .states)) (length (now (start .args .out))) l in
+    (rw (h, at-row-at .row-at .ensures .0), rw h (table-stored (start .args .signals) (now (start .args .verdicts)) (now (start .args .rows)) (start .args .states) (now (start .args .out)) _ _ (at-put-header .put-header .ensures) (at-put-rows .put-rows .ensures) l))
 
 pub write-spec : {M : Type 1} → statement M
 write-spec =
