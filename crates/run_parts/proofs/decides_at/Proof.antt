@@ -1,10 +1,10 @@
--- `table_file::decides_at` meets its contract.
+-- `run_parts::decides_at` meets its contract.
 use mathlib.Core.Path.{sym, _∙_, ap}
 use Prim.Native.Nat.{_-_}
 use Rattle.meaning.specs.Runs.{decides}
 use borrow.Author.Needs.{needs}
-use Rattle.table_file.proofs.decides_at.Statement.{statement}
-use Rattle.table_file.proofs.decides_at.Tie as tie
+use Rattle.run_parts.proofs.decides_at.Statement.{statement}
+use Rattle.run_parts.proofs.decides_at.Tie as tie
 
 verdict-at-requires : tie.Need-verdict-at-requires
 verdict-at-requires c κs = search needs

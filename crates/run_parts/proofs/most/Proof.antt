@@ -1,14 +1,14 @@
--- `table_file::most` meets its contract.
+-- `run_parts::most` meets its contract.
 use native.Mathlib.Omega.{arith}
 use borrow.Author.Needs.{needs}
 use mathlib.Core.Path.{_≡_, subst}
 use Prim.Native.Nat.{ℕ, _-_, _≤_}
 use denote.Ref.{now}
 use lib.ListN.{length}
-use Rattle.table_file.specs.Tables.{NoneAbove}
-use Rattle.table_file.proofs.Laws.{above-none, above-more}
-use Rattle.table_file.proofs.most.Statement.{statement}
-use Rattle.table_file.proofs.most.Tie as tie
+use Rattle.run_parts.specs.Parts.{NoneAbove}
+use Rattle.run_parts.proofs.Laws.{above-none, above-more}
+use Rattle.run_parts.proofs.most.Statement.{statement}
+use Rattle.run_parts.proofs.most.Tie as tie
 
 abbrev Inv-loop : tie.InvT-loop
 Inv-loop events top₀ i₀ top i = (i ≤ length events) × NoneAbove i events top

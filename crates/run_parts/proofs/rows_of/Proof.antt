@@ -1,46 +1,47 @@
--- `table_file::rows_of` meets its contract.
+-- `run_parts::rows_of` meets its contract.
 use native.Mathlib.Omega.{arith}
 use borrow.Author.Needs.{needs}
 use Prim.Native.Nat.{_-_, _≤_}
-use Rattle.meaning.specs.TableFiles.{successor}
-use Rattle.sequences.specs.Tabulate.{tabulate}
 use Rattle.sequences.proofs.Loops.{Filled, filled-none, filled-more}
-use Rattle.table_file.proofs.Laws.{copied}
-use Rattle.table_file.proofs.rows_of.Statement.{statement}
-use Rattle.table_file.proofs.rows_of.Tie as tie
+use Rattle.run_parts.proofs.Laws.{flat, copied}
+use Rattle.run_parts.proofs.rows_of.Statement.{statement}
+use Rattle.run_parts.proofs.rows_of.Tie as tie
 
 abbrev Inv-loop : tie.InvT-loop
-Inv-loop t signals count rows₀ s₀ rows s = (s ≤ count) × Filled s (λ s. tabulate 16 (successor t signals s)) rows₀ rows
+Inv-loop t signals rows₀ k₀ rows k = (k ≤ 4096) × Filled k (flat t signals) rows₀ rows
 
 abbrev μ-loop : tie.MeasureT-loop
-μ-loop t signals count rows₀ s₀ rows s = count - s
+μ-loop t signals rows₀ k₀ rows k = 4096 - k
 
 loop-holds : tie.Need-loop-holds Inv-loop μ-loop
 loop-holds c = (omega arith, filled-none)
 
-row-of-requires : tie.Need-row-of-requires Inv-loop μ-loop
-row-of-requires c κs = search needs
+cast-successor-at : tie.Need-cast-successor-at Inv-loop μ-loop
+cast-successor-at c = search needs
 
-wide16-requires : tie.Need-wide16-requires Inv-loop μ-loop
-wide16-requires c κs = search needs
+cast-successor-at-2 : tie.Need-cast-successor-at-2 Inv-loop μ-loop
+cast-successor-at-2 c = search needs
+
+successor-at-requires : tie.Need-successor-at-requires Inv-loop μ-loop
+successor-at-requires c κs = search needs
 
 mul-rows : tie.Need-mul-rows Inv-loop μ-loop
 mul-rows c = search needs
 
-array-set-from-rows : tie.Need-array-set-from-rows Inv-loop μ-loop
-array-set-from-rows c = search needs
+array-write-rows : tie.Need-array-write-rows Inv-loop μ-loop
+array-write-rows c = search needs
 
-add-s : tie.Need-add-s Inv-loop μ-loop
-add-s c = search needs
+add-k : tie.Need-add-k Inv-loop μ-loop
+add-k c = search needs
 
 loop-less : tie.Need-loop-less Inv-loop μ-loop
 loop-less c = search needs
 
 loop-again : tie.Need-loop-again Inv-loop μ-loop
-loop-again c = (omega arith, rw (c .wide16 .ensures .0) (filled-more (c .before .before .before .loop .inv .1) (c .before .row-of .ensures) (omega arith)))
+loop-again c = (omega arith, filled-more (c .before .before .loop .inv .1) (c .successor-at .ensures) (omega arith))
 
 returns : tie.Need-returns Inv-loop μ-loop
-returns c = copied (c .before .loop .inv .1) (c .before .before .before .args .count) (omega arith)
+returns c = copied 4096 (c .before .loop .inv .1) (omega arith) (omega arith)
 
 pub rows-of-spec : {M : Type 1} → statement M
 rows-of-spec =
@@ -49,11 +50,12 @@ rows-of-spec =
     Inv-loop
     μ-loop
     loop-holds
-    row-of-requires
-    wide16-requires
+    cast-successor-at
+    cast-successor-at-2
+    successor-at-requires
     mul-rows
-    array-set-from-rows
-    add-s
+    array-write-rows
+    add-k
     loop-less
     loop-again
     returns)

@@ -1,28 +1,37 @@
--- `table_file::successor_in` meets its contract.
+-- `run_parts::successor_in` meets its contract.
+use native.Mathlib.Omega.{arith}
+use mathlib.Core.Path.{_≡_, _∙_, ap}
+use Prim.Native.Nat.{ℕ, _+_, _*_}
 use borrow.Author.Needs.{needs}
-use Rattle.table_file.proofs.successor_in.Statement.{statement}
-use Rattle.table_file.proofs.successor_in.Tie as tie
+use denote.Ref.{now}
+use lib.ListN.{getD}
+use Rattle.run_parts.proofs.successor_in.Statement.{statement}
+use Rattle.run_parts.proofs.successor_in.Tie as tie
 
 wide16-requires : tie.Need-wide16-requires
 wide16-requires c κs = search needs
 
+mul-i : tie.Need-mul-i
+mul-i c = search needs
+
 wide-requires : tie.Need-wide-requires
 wide-requires c κs = search needs
+
+add-i : tie.Need-add-i
+add-i c = search needs
 
 mul-result : tie.Need-mul-result
 mul-result c = search needs
 
-mul-result-2 : tie.Need-mul-result-2
-mul-result-2 c = search needs
-
-index-1-result : tie.Need-index-1-result
-index-1-result c = search needs
-
-index-2-result : tie.Need-index-2-result
-index-2-result c = search needs
+shared-slice-read-result : tie.Need-shared-slice-read-result
+shared-slice-read-result c = search needs
 
 returns : tie.Need-returns
-returns c = rw (c .before .before .wide16 .ensures .0, c .before .wide .ensures .0) (c .before .before .before .before .before .before .pre .1 .there (c .before .before .before .before .before .before .args .state) (c .before .before .before .before .before .before .args .event) (c .before .before .before .before .if1 .taken) (c .before .before .before .if2 .taken))
+returns c =
+    let start = c .before .before .before .before .before .before in
+    let a = start .args in
+    let i : 16 * c .before .before .before .wide16 .result + c .before .before .wide .result ≡ 16 * a .state + a .event = omega arith in
+    ap (λ (n : ℕ). getD (now (a .rows)) n 0) i ∙ start .pre .1 .there (a .state) (a .event) (start .pre .0 .1) (omega arith)
 
 successor-at-requires : tie.Need-successor-at-requires
 successor-at-requires c κs = search needs
@@ -35,11 +44,11 @@ successor-in-spec =
     tie.close
     (tie.spec
     wide16-requires
+    mul-i
     wide-requires
+    add-i
     mul-result
-    mul-result-2
-    index-1-result
-    index-2-result
+    shared-slice-read-result
     returns
     successor-at-requires
     returns-2)
