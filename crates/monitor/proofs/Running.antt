@@ -2,20 +2,18 @@
 use mathlib.Core.Path.{_≡_, refl, sym, ap, _∙_, subst}
 use mathlib.Core.Logic.{_↔_}
 use mathlib.Core.List.{List, [], _∷_}
-use mathlib.Core.Bool.{Bool, true, false, cond, _&&_}
+use mathlib.Core.Bool.{Bool, true, false, cond}
 use Prim.Native.Nat.{ℕ, zero, suc, _+_, _^_, _≤_, _<_}
 use native.Mathlib.Omega.{arith}
 use lib.ListN.{length, take, getD}
-use lib.Dec.{leb, ltb}
-use borrow.Author.Tests.{lt-ltb, le-ltb, lt-leb, ltb-true}
-use Rattle.sequences.specs.Tabulate.{every, allBelow}
+use lib.Dec.{leb}
+use borrow.Author.Tests.{lt-ltb, le-ltb, lt-leb}
 use Rattle.sequences.proofs.Loops.{least-is}
-use Rattle.sequences.proofs.Tests.{holds}
 use Rattle.meaning.specs.Traces.{over, Event, Word}
 use Rattle.meaning.specs.Verdicts.{Property, Judged}
 use Rattle.meaning.specs.Monitors.{Monitor, follow, shows}
 use Rattle.meaning.specs.RuleFiles.{alphabetOf, propertyOf}
-use Rattle.meaning.specs.TableFiles.{headerTests, rowTests, isTable, signalsIn, statesIn, successor, monitorOf}
+use Rattle.meaning.specs.TableFiles.{isTable, signalsIn, statesIn, successor, monitorOf}
 use Rattle.meaning.specs.Runs.{decides, decidedFrom, endOf, firstBad, ranOf, runOf}
 use Rattle.meaning.specs.declared.Verdict.{Verdict}
 use Rattle.meaning.specs.declared.Verdict.the-variants.{Undecided, Satisfied, Violated, Moot}
@@ -23,8 +21,7 @@ use Rattle.meaning.specs.declared.Decided.{Decided}
 use Rattle.meaning.specs.declared.Decided.the-variants.{After, Never}
 use Rattle.meaning.specs.declared.Ran.{Ran}
 use Rattle.meaning.specs.declared.Ran.the-variants.{Ended}
-use Rattle.moore.proofs.Tests.{all-true}
-use Rattle.table_file.proofs.Form.{table-header, states-some}
+use Rattle.table_file.proofs.Form.{table-header, states-some, table-inside}
 use Rattle.monitor.specs.Build.{BuiltRight}
 use Rattle.monitor.specs.Running.{CountRight, RunRight, StepRight, stepsFrom, steps}
 
@@ -122,22 +119,6 @@ built-run file table b es a =
 
 -- a step over a table, whose successors are its states
 module _ (t : List ℕ) (form : isTable t ≡ true) where
-  rows-passed : allBelow (statesIn t) (λ s. every (rowTests t (signalsIn t) (statesIn t) s)) ≡ true
-  unfolding isTable
-  rows-passed = go (every (headerTests t)) form
-    where
-      go : (b : Bool) → (b && allBelow (statesIn t) (λ s. every (rowTests t (signalsIn t) (statesIn t) s))) ≡ true
-          → allBelow (statesIn t) (λ s. every (rowTests t (signalsIn t) (statesIn t) s)) ≡ true
-      go true e = e
-      go false e = let z : _≡_ {A = ℕ} 0 1 = cc in absurd (omega arith)
-
-  successor-in : (s e : ℕ) → s < statesIn t → e < 2 ^ signalsIn t → successor t (signalsIn t) s e < statesIn t
-  successor-in s e l m =
-      let tests = rowTests t (signalsIn t) (statesIn t) s in
-      let row : every tests ≡ true = all-true (statesIn t) (λ k. every (rowTests t (signalsIn t) (statesIn t) k)) rows-passed s l in
-      ltb-true (successor t (signalsIn t) s e) (statesIn t)
-      (all-true (2 ^ signalsIn t) (λ k. ltb (successor t (signalsIn t) s k) (statesIn t)) (holds tests row 3) e m)
-
   no-step : runOf t 0 [] ≡ endOf (monitorOf t) 0 []
   no-step = rw (form, lt-ltb 0 (statesIn t) (states-some t (table-header t form)))
 
@@ -151,7 +132,7 @@ module _ (t : List ℕ) (form : isTable t ≡ true) where
   steps-end s d [] l a = (d, refl)
   steps-end s d (e ∷ es) l a =
       let q = one-step s e l (a .0) in
-      let h = steps-end (successor t (signalsIn t) s e) (decidedFrom (monitorOf t) 0 s (e ∷ [])) es (successor-in s e l (a .0 .0)) (a .1) in
+      let h = steps-end (successor t (signalsIn t) s e) (decidedFrom (monitorOf t) 0 s (e ∷ [])) es (table-inside t form s e l (a .0 .0)) (a .1) in
       (h .0, ap (λ (r : Ran). stepsFrom t r es) q ∙ h .1)
 
 -- the third theorem: stepping event by event is never refused, and after every list the last step shows demand 2's verdict
