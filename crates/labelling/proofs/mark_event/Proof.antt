@@ -45,7 +45,13 @@ loop-less : tie.Need-loop-less Inv-loop μ-loop
 loop-less c = search needs
 
 loop-again : tie.Need-loop-again Inv-loop μ-loop
-loop-again c = (omega arith, marked-more (now (c .before .before .before .before .before .before .args .profiles)) (now (c .before .before .before .before .before .before .args .real)) (c .before .before .before .before .before .before .args .e) (c .before .before .before .before .before .loop .inv .1) (c .before .before .wide .result) (c .before .before .wide .ensures .0) (c .before .before .wide .ensures .1))
+loop-again c =
+    let start = c .before .before .before .before .before .before in
+    let turn = c .before .before .before .before .before .loop in
+    let wide = c .before .before .wide in (
+      omega arith,
+      marked-more (now (start .args .profiles)) (now (start .args .real)) (start .args .e) (turn .inv .1) (wide .result) (wide .ensures .0) (wide .ensures .1),
+    )
 
 returns : tie.Need-returns Inv-loop μ-loop
 returns c = marked-to (c .before .loop .inv .1) (c .before .before .args .labels) (omega arith)

@@ -40,10 +40,24 @@ realizable-labels-requires : tie.Need-realizable-labels-requires
 realizable-labels-requires c κs = let s = sizes (c .before .before .before .before .before) in record { events = s .0; some = s .1; few = s .2; profiles-long = c .before .before .value-tables .ensures .0 .0; fairs-long = c .before .before .value-tables .ensures .1 .0 }
 
 mark-all-requires : tie.Need-mark-all-requires
-mark-all-requires c κs = let s = sizes (c .before .before .before .before .before .before .before .before .before) in ((s .2, s .0), (c .before .before .before .before .before .before .value-tables .ensures .0 .0, search needs, c .before .before .before .before .before .before .before .before .before .before .before .before .before .pre .1 .1 .1))
+mark-all-requires c κs =
+    let start = c .before .before .before .before .before .before .before .before .before .before .before .before .before in
+    let value-tables = c .before .before .before .before .before .before .value-tables in
+    let s = sizes (c .before .before .before .before .before .before .before .before .before) in
+    ((s .2, s .0), (value-tables .ensures .0 .0, search needs, start .pre .1 .1 .1))
 
 returns : tie.Need-returns
-returns c = all-computed (c .before .before .before .before .before .before .before .before .before .before .before .before .before .before .args .signals) (c .before .before .before .before .before .before .before .before .before .before .before .before .before .before .args .count) (c .before .before .before .before .before .before .before .before .before .before .before .width .result) (c .before .before .before .before .before .before .before .before .before .before .power .result) (c .before .before .before .before .before .before .before .before .before .before .before .before .temporal-count .result) (c .before .before .before .before .before .before .before .before .before .before .before .before .before .wide .result) (c .before .before .before .before .before .before .before .before .before .before .before .before .before .before .args .nodes) (c .before .before .before .before .before .before .before .before .before .before .before .before .before .wide .ensures .0) (c .before .before .before .before .before .before .before .before .before .before .before .before .temporal-count .ensures) (c .before .before .before .before .before .before .before .before .before .before .power .ensures .0) (c .before .before .before .before .before .before .before .before .before .before .before .width .ensures .0) (c .before .before .before .before .before .before .before .before .before .before .before .before .before .before .pre .1 .0) (record { profile = c .before .before .before .before .before .before .before .value-tables .ensures .0 .1; fair = c .before .before .before .before .before .before .before .value-tables .ensures .1 .1; labels = c .before .before .before .before .realizable-labels .ensures; marks = c .mark-all .ensures })
+returns c =
+    let start = c .before .before .before .before .before .before .before .before .before .before .before .before .before .before in
+    let wide = c .before .before .before .before .before .before .before .before .before .before .before .before .before .wide in
+    let temporal-count = c .before .before .before .before .before .before .before .before .before .before .before .before .temporal-count in
+    let width = c .before .before .before .before .before .before .before .before .before .before .before .width in
+    let power = c .before .before .before .before .before .before .before .before .before .before .power in
+    let value-tables = c .before .before .before .before .before .before .before .value-tables in
+    let realizable-labels = c .before .before .before .before .realizable-labels in
+    all-computed (start .args .signals) (start .args .count) (width .result) (power .result) (temporal-count .result) (wide .result) (start .args .nodes)
+    (wide .ensures .0) (temporal-count .ensures) (power .ensures .0) (width .ensures .0) (start .pre .1 .0)
+    (record { profile = value-tables .ensures .0 .1; fair = value-tables .ensures .1 .1; labels = realizable-labels .ensures; marks = c .mark-all .ensures })
 
 pub tables-spec : {M : Type 1} → statement M
 tables-spec =

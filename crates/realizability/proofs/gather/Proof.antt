@@ -18,7 +18,12 @@ loop-holds : tie.Need-loop-holds Inv-loop μ-loop
 loop-holds c = (omega arith, all-none (c .before .pre .0 .few))
 
 gather-event-requires : tie.Need-gather-event-requires Inv-loop μ-loop
-gather-event-requires c κs = (record { events = search needs; some = c .before .before .before .before .pre .0 .some; few = c .before .before .before .before .pre .0 .few; profiles-long = c .before .before .before .before .pre .0 .profiles-long; fairs-long = c .before .before .before .before .pre .0 .fairs-long }, (c .before .before .before .before .pre .1 .0, c .before .before .loop .inv .1 .long, c .before .before .before .before .pre .1 .1))
+gather-event-requires c κs =
+    let start = c .before .before .before .before in
+    let turn = c .before .before .loop in (
+      record { events = search needs; some = start .pre .0 .some; few = start .pre .0 .few; profiles-long = start .pre .0 .profiles-long; fairs-long = start .pre .0 .fairs-long },
+      (start .pre .1 .0, turn .inv .1 .long, start .pre .1 .1),
+    )
 
 add-e : tie.Need-add-e Inv-loop μ-loop
 add-e c = search needs

@@ -58,10 +58,18 @@ fair-if-requires : tie.Need-fair-if-requires Inv-loop μ-loop
 fair-if-requires c κs = search needs
 
 element-copy-out-sets : tie.Need-element-copy-out-sets Inv-loop μ-loop
-element-copy-out-sets c = omega (arith, c .before .before .before .before .before .before .before .before .pre .1 .2 .is (c .before .before .before .before .before .before .before .loop .y) (c .before .before .before .before .before .before .loop-test .taken), c .before .before .before .before .before .before .before .before .pre .0 .few, c .before .before .before .before .before .before .before .loop .inv .1 .long)
+element-copy-out-sets c =
+    let start = c .before .before .before .before .before .before .before .before in
+    let turn = c .before .before .before .before .before .before .before .loop in
+    let test = c .before .before .before .before .before .before .loop-test in
+    omega (arith, start .pre .1 .2 .is (turn .y) (test .taken), start .pre .0 .few, turn .inv .1 .long)
 
 element-write-sets : tie.Need-element-write-sets Inv-loop μ-loop
-element-write-sets c = omega (arith, c .before .before .before .before .before .before .before .before .before .pre .1 .2 .is (c .before .before .before .before .before .before .before .before .loop .y) (c .before .before .before .before .before .before .before .loop-test .taken), c .before .before .before .before .before .before .before .before .before .pre .0 .few, c .before .before .before .before .before .before .before .before .loop .inv .1 .long)
+element-write-sets c =
+    let start = c .before .before .before .before .before .before .before .before .before in
+    let turn = c .before .before .before .before .before .before .before .before .loop in
+    let test = c .before .before .before .before .before .before .before .loop-test in
+    omega (arith, start .pre .1 .2 .is (turn .y) (test .taken), start .pre .0 .few, turn .inv .1 .long)
 
 add-y : tie.Need-add-y Inv-loop μ-loop
 add-y c = search needs
@@ -70,7 +78,20 @@ loop-less : tie.Need-loop-less Inv-loop μ-loop
 loop-less c = search needs
 
 loop-again : tie.Need-loop-again Inv-loop μ-loop
-loop-again c = (omega arith, gathered-more (now (c .before .before .before .before .before .before .before .before .before .args .components)) (labelAt (c .before .before .before .before .before .before .before .before .before .args .labels) (now (c .before .before .before .before .before .before .before .before .before .args .profiles))) (look (now (c .before .before .before .before .before .before .before .before .before .args .fairs))) (c .before .before .before .before .before .before .before .before .before .args .e) (c .before .before .before .before .before .before .before .before .loop .inv .1) (c .before .before .before .before .before .before .before .before .before .pre .0 .few) (getD (now (c .before .before .before .before .before .before .before .before .before .args .components)) (c .before .before .before .before .before .before .before .before .loop .y) 0) (c .before .fair-if .result) refl (c .before .before .before .before .before .before .before .before .before .pre .1 .2 .is (c .before .before .before .before .before .before .before .before .loop .y) (c .before .before .before .before .before .before .before .loop-test .taken)) (c .before .fair-if .ensures ∙ ap (λ (x : ℕ). onlyIf (eqb (getD (now (c .before .before .before .before .before .before .before .before .before .args .components)) x 0) (getD (now (c .before .before .before .before .before .before .before .before .before .args .components)) (c .before .before .before .before .before .before .before .before .loop .y) 0)) (look (now (c .before .before .before .before .before .before .before .before .before .args .fairs)) (c .before .before .before .before .before .before .before .before .before .args .e) (c .before .before .before .before .before .before .before .before .loop .y))) (c .before .before .before .before .before .label-in .ensures .0)))
+loop-again c =
+    let start = c .before .before .before .before .before .before .before .before .before in
+    let turn = c .before .before .before .before .before .before .before .before .loop in
+    let test = c .before .before .before .before .before .before .before .loop-test in
+    let label-in = c .before .before .before .before .before .label-in in
+    let fair-if = c .before .fair-if in (
+      omega arith,
+      gathered-more (now (start .args .components)) (labelAt (start .args .labels) (now (start .args .profiles))) (look (now (start .args .fairs))) (start .args .e)
+          (turn .inv .1) (start .pre .0 .few) (getD (now (start .args .components)) (turn .y) 0) (fair-if .result) refl (start .pre .1 .2 .is (turn .y) (test .taken))
+          (fair-if .ensures
+          ∙ ap
+          (λ (x : ℕ). onlyIf (eqb (getD (now (start .args .components)) x 0) (getD (now (start .args .components)) (turn .y) 0)) (look (now (start .args .fairs)) (start .args .e) (turn .y)))
+          (label-in .ensures .0)),
+    )
 
 returns : tie.Need-returns Inv-loop μ-loop
 returns c = gathered-to (c .before .loop .inv .1) (c .before .before .args .labels) (omega arith)

@@ -23,7 +23,13 @@ all-of-requires : tie.Need-all-of-requires
 all-of-requires c κs = search needs
 
 returns : tie.Need-returns
-returns c = c .all-of .ensures ∙ core-round (entry (now (c .before .before .before .before .before .args .rows))) (now (c .before .before .before .before .before .args .components)) (now (c .before .before .before .before .before .args .sets)) (c .before .before .before .before .before .args .m) (c .before .before .before .before .before .args .c) (sym (c .before .before .before .before .has .ensures) ∙ c .before .before .before .if1 .taken)
+returns c =
+    let start = c .before .before .before .before .before in
+    let has = c .before .before .before .before .has in
+    let test = c .before .before .before .if1 in
+    c .all-of .ensures
+    ∙ core-round (entry (now (start .args .rows))) (now (start .args .components)) (now (start .args .sets)) (start .args .m) (start .args .c)
+    (sym (has .ensures) ∙ test .taken)
 
 returns-2 : tie.Need-returns-2
 returns-2 c = core-not (entry (now (c .before .before .args .rows))) (now (c .before .before .args .components)) (now (c .before .before .args .sets)) (c .before .before .args .m) (c .before .before .args .c) (sym (c .before .has .ensures) ∙ c .if1 .left)

@@ -40,7 +40,14 @@ loop-less : tie.Need-loop-less Inv-loop μ-loop
 loop-less c = search needs
 
 loop-again : tie.Need-loop-again Inv-loop μ-loop
-loop-again c = (omega arith, added-more (λ y. labelAt (c .before .before .before .before .before .before .args .labels) (now (c .before .before .before .before .before .before .args .profiles)) (c .before .before .before .before .before .before .args .e) y) (c .before .before .before .before .before .loop .inv .1) (c .before .before .before .before .before .before .pre .0 .2) (c .before .before .label-in .result) (c .before .before .label-in .ensures .0) _ (c .mark .ensures))
+loop-again c =
+    let start = c .before .before .before .before .before .before in
+    let turn = c .before .before .before .before .before .loop in
+    let label-in = c .before .before .label-in in (
+      omega arith,
+      added-more (λ y. labelAt (start .args .labels) (now (start .args .profiles)) (start .args .e) y) (turn .inv .1) (start .pre .0 .2) (label-in .result)
+          (label-in .ensures .0) _ (c .mark .ensures),
+    )
 
 returns : tie.Need-returns Inv-loop μ-loop
 returns c = added-to (c .before .loop .inv .1) (c .before .before .args .labels) (omega arith)

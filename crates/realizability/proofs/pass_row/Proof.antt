@@ -60,7 +60,13 @@ element-write-rows-2 : tie.Need-element-write-rows-2
 element-write-rows-2 c = search needs
 
 returns : tie.Need-returns
-returns c = row-passed _ (c .before .before .before .before .before .before .args .a) (c .before .before .before .before .before .before .args .b) (c .before .before .before .before .before .before .args .x) (c .before .before .before .only-if .result) (c .before .only-if2 .result) (now (c .before .before .before .before .before .before .args .rows)) (c .before .before .before .before .before .before .pre .2) (c .before .before .before .before .before .before .pre .1) (c .before .before .before .only-if .ensures ∙ ap (λ (t : Bool). onlyIf t (c .before .before .before .before .before .before .args .a)) (c .before .before .before .before .has .ensures)) (c .before .only-if2 .ensures ∙ ap (λ (t : Bool). onlyIf t (c .before .before .before .before .before .before .args .b)) (c .before .before .before .before .has .ensures))
+returns c =
+    let start = c .before .before .before .before .before .before in
+    let has = c .before .before .before .before .has in
+    let only-if = c .before .before .before .only-if in
+    let only-if2 = c .before .only-if2 in
+    row-passed _ (start .args .a) (start .args .b) (start .args .x) (only-if .result) (only-if2 .result) (now (start .args .rows)) (start .pre .2) (start .pre .1)
+    (only-if .ensures ∙ ap (λ (t : Bool). onlyIf t (start .args .a)) (has .ensures)) (only-if2 .ensures ∙ ap (λ (t : Bool). onlyIf t (start .args .b)) (has .ensures))
 
 pub pass-row-spec : {M : Type 1} → statement M
 pass-row-spec =

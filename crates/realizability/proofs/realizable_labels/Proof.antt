@@ -13,13 +13,28 @@ close-requires : tie.Need-close-requires
 close-requires c κs = search needs
 
 core-row-requires : tie.Need-core-row-requires
-core-row-requires c κs = (c .before .before .before .before .before .pre, (c .before .close .ensures .0, reaches (c .before .before .before .before .before .args .events) (c .before .before .before .before .before .args .labels) (now (c .before .before .before .before .before .args .profiles)) _ _ (c .before .before .before .before .before .pre .some) (c .before .before .before .edge-rows .ensures .1) (c .before .close .ensures .1)))
+core-row-requires c κs =
+    let start = c .before .before .before .before .before in
+    let edge-rows = c .before .before .before .edge-rows in
+    let close = c .before .close in (
+      start .pre,
+      (
+        close .ensures .0,
+        reaches (start .args .events) (start .args .labels) (now (start .args .profiles)) _ _ (start .pre .some) (edge-rows .ensures .1) (close .ensures .1),
+      ),
+    )
 
 leading-row-requires : tie.Need-leading-row-requires
 leading-row-requires c κs = search needs
 
 returns : tie.Need-returns
-returns c = found (c .before .before .before .before .before .before .before .before .before .args .events) (c .before .before .before .before .before .before .before .before .before .args .labels) (now (c .before .before .before .before .before .before .before .before .before .args .profiles)) (c .before .before .before .before .before .before .before .before .before .args .m) (now (c .before .before .before .before .before .before .before .before .before .args .fairs)) _ _ _ _ (c .before .before .before .before .before .before .before .before .before .pre .some) (c .before .before .before .before .before .before .before .edge-rows .ensures .1) (c .before .before .before .before .before .close .ensures .1) (c .before .before .before .core-row .ensures) (c .leading-row .ensures)
+returns c =
+    let start = c .before .before .before .before .before .before .before .before .before in
+    let edge-rows = c .before .before .before .before .before .before .before .edge-rows in
+    let close = c .before .before .before .before .before .close in
+    let core-row = c .before .before .before .core-row in
+    found (start .args .events) (start .args .labels) (now (start .args .profiles)) (start .args .m) (now (start .args .fairs)) _ _ _ _ (start .pre .some)
+    (edge-rows .ensures .1) (close .ensures .1) (core-row .ensures) (c .leading-row .ensures)
 
 pub realizable-labels-spec : {M : Type 1} → statement M
 realizable-labels-spec =

@@ -46,10 +46,35 @@ loop-less : tie.Need-loop-less Inv-loop μ-loop
 loop-less c = search needs
 
 loop-again : tie.Need-loop-again Inv-loop μ-loop
-loop-again c = (omega arith, omega arith, simp length-set (c .before .before .before .before .before .loop .inv .2), simp length-set (c .before .before .before .before .before .loop .inv .3), fills-more (c .before .before .before .before .before .loop .inv .4) _ (c .before .before .byte-at .ensures) (c .before .before .before .before .before .before .before .before .before .pre .1 .0 .0) (c .before .before .before .before .before .loop .inv .0) (omega arith) (omega arith), fills-more (c .before .before .before .before .before .loop .inv .5) _ (c .byte-at2 .ensures) (c .before .before .before .before .before .before .before .before .before .pre .1 .0 .0) (c .before .before .before .before .before .loop .inv .0) (omega arith) (omega arith))
+loop-again c =
+    let start = c .before .before .before .before .before .before .before .before .before in
+    let turn = c .before .before .before .before .before .loop in
+    let byte-at = c .before .before .byte-at in (
+      omega arith,
+      omega arith,
+      simp length-set (turn .inv .2),
+      simp length-set (turn .inv .3),
+      fills-more (turn .inv .4) _ (byte-at .ensures) (start .pre .1 .0 .0) (turn .inv .0) (omega arith) (omega arith),
+      fills-more (turn .inv .5) _ (c .byte-at2 .ensures) (start .pre .1 .0 .0) (turn .inv .0) (omega arith) (omega arith),
+    )
 
 returns : tie.Need-returns Inv-loop μ-loop
-returns c = let z : c .before .loop .y ≡ c .before .before .before .before .before .args .to = omega arith in ((c .before .loop .inv .2, fills-to (c .before .loop .inv .4) (profileAt (c .before .before .before .before .before .args .count) (c .before .before .before .before .before .args .nodes) (c .before .before .before .before .before .args .event)) (λ z. profile-size (c .before .before .before .before .before .pre .0) (c .before .before .before .before .before .args .event) z) (c .before .before .before .before .value-nodes .ensures .1 .0) (c .before .before .before .before .before .pre .1 .1 .0 .1) (c .before .before .before .before .before .args .to) z), (c .before .loop .inv .3, fills-to (c .before .loop .inv .5) (fairsAt (c .before .before .before .before .before .args .count) (c .before .before .before .before .before .args .nodes) (c .before .before .before .before .before .args .event)) (λ z. fairs-size (c .before .before .before .before .before .pre .0) (c .before .before .before .before .before .args .event) z) (c .before .before .before .before .value-nodes .ensures .1 .1) (c .before .before .before .before .before .pre .1 .1 .1 .1) (c .before .before .before .before .before .args .to) z))
+returns c =
+    let start = c .before .before .before .before .before in
+    let value-nodes = c .before .before .before .before .value-nodes in
+    let turn = c .before .loop in
+    let z : turn .y ≡ start .args .to = omega arith in (
+      (
+        turn .inv .2,
+        fills-to (turn .inv .4) (profileAt (start .args .count) (start .args .nodes) (start .args .event)) (λ z. profile-size (start .pre .0) (start .args .event) z)
+            (value-nodes .ensures .1 .0) (start .pre .1 .1 .0 .1) (start .args .to) z,
+      ),
+      (
+        turn .inv .3,
+        fills-to (turn .inv .5) (fairsAt (start .args .count) (start .args .nodes) (start .args .event)) (λ z. fairs-size (start .pre .0) (start .args .event) z)
+            (value-nodes .ensures .1 .1) (start .pre .1 .1 .1 .1) (start .args .to) z,
+      ),
+    )
 
 pub fill-half-spec : {M : Type 1} → statement M
 fill-half-spec =

@@ -32,7 +32,18 @@ returns-7 : tie.Need-returns-7
 returns-7 c = bits-top (c .before .before .args .high) (c .before .before .args .j) _ (c .before .match .keys7) (c .everywhere .ensures)
 
 returns-8 : tie.Need-returns-8
-returns-8 c = bits-past (c .before .args .high) (c .before .args .j) (past 6 (c .before .args .j) (past 5 (c .before .args .j) (past 4 (c .before .args .j) (past 3 (c .before .args .j) (past 2 (c .before .args .j) (past 1 (c .before .args .j) (past 0 (c .before .args .j) (omega arith) (c .match .rest .0 .0 .0 .0 .0 .0 .1)) (c .match .rest .0 .0 .0 .0 .0 .1)) (c .match .rest .0 .0 .0 .0 .1)) (c .match .rest .0 .0 .0 .1)) (c .match .rest .0 .0 .1)) (c .match .rest .0 .1)) (c .match .rest .1))
+returns-8 c =
+    let start = c .before in
+    let j = start .args .j in
+    let rest = c .match .rest in
+    let from1 = past 0 j (omega arith) (rest .0 .0 .0 .0 .0 .0 .1) in
+    let from2 = past 1 j from1 (rest .0 .0 .0 .0 .0 .1) in
+    let from3 = past 2 j from2 (rest .0 .0 .0 .0 .1) in
+    let from4 = past 3 j from3 (rest .0 .0 .0 .1) in
+    let from5 = past 4 j from4 (rest .0 .0 .1) in
+    let from6 = past 5 j from5 (rest .0 .1) in
+    let from7 = past 6 j from6 (rest .1) in
+    bits-past (start .args .high) j from7
 
 pub label-word-spec : {M : Type 1} → statement M
 label-word-spec =

@@ -91,49 +91,124 @@ plain-requires-11 : tie.Need-plain-requires-11
 plain-requires-11 c κs = search needs
 
 returns : tie.Need-returns
-returns c = falsum-words (c .before .before .args .event) (c .before .before .args .a) (c .before .before .args .b) (c .before .before .args .x) (c .before .before .args .n) (c .before .match .keys1) (c .plain .ensures)
+returns c =
+    let start = c .before .before in
+    let arm = c .before .match in
+    falsum-words (start .args .event) (start .args .a) (start .args .b) (start .args .x) (start .args .n) (arm .keys1) (c .plain .ensures)
 
 returns-2 : tie.Need-returns-2
-returns-2 c = verum-words (c .before .before .before .args .event) (c .before .before .before .args .a) (c .before .before .before .args .b) (c .before .before .before .args .x) (c .before .before .before .args .n) (c .before .before .match .keys2) _ (c .before .everywhere .ensures) (c .plain2 .ensures)
+returns-2 c =
+    let start = c .before .before .before in
+    let arm = c .before .before .match in
+    let everywhere = c .before .everywhere in
+    verum-words (start .args .event) (start .args .a) (start .args .b) (start .args .x) (start .args .n) (arm .keys2) _ (everywhere .ensures) (c .plain2 .ensures)
 
 returns-3 : tie.Need-returns-3
-returns-3 c = signal-words (c .before .before .before .before .args .event) (c .before .before .before .before .args .a) (c .before .before .before .before .args .b) (c .before .before .before .before .args .x) (c .before .before .before .before .args .n) (c .before .before .before .match .keys3) _ (every-is (c .before .everywhere2 .ensures) _ (c .before .before .signal-on .ensures)) (c .plain3 .ensures)
+returns-3 c =
+    let start = c .before .before .before .before in
+    let arm = c .before .before .before .match in
+    let signal-on = c .before .before .signal-on in
+    let everywhere2 = c .before .everywhere2 in
+    signal-words (start .args .event) (start .args .a) (start .args .b) (start .args .x) (start .args .n) (arm .keys3) _
+    (every-is (everywhere2 .ensures) _ (signal-on .ensures)) (c .plain3 .ensures)
 
 returns-4 : tie.Need-returns-4
-returns-4 c = at-least-words (c .before .before .before .before .args .event) (c .before .before .before .before .args .a) (c .before .before .before .before .args .b) (c .before .before .before .before .args .x) (c .before .before .before .before .args .n) (c .before .before .before .match .keys4) _ (every-is (c .before .everywhere3 .ensures) _ (c .before .before .at-least .ensures)) (c .plain4 .ensures)
+returns-4 c =
+    let start = c .before .before .before .before in
+    let arm = c .before .before .before .match in
+    let at-least = c .before .before .at-least in
+    let everywhere3 = c .before .everywhere3 in
+    at-least-words (start .args .event) (start .args .a) (start .args .b) (start .args .x) (start .args .n) (arm .keys4) _
+    (every-is (everywhere3 .ensures) _ (at-least .ensures)) (c .plain4 .ensures)
 
 returns-5 : tie.Need-returns-5
-returns-5 c = neg-words (c .before .before .before .args .event) (c .before .before .before .args .a) (c .before .before .before .args .b) (c .before .before .before .args .x) (c .before .before .before .args .n) (c .before .before .match .keys5) _ (c .before .flip .ensures) (c .plain5 .ensures)
+returns-5 c =
+    let start = c .before .before .before in
+    let arm = c .before .before .match in
+    let flip = c .before .flip in
+    neg-words (start .args .event) (start .args .a) (start .args .b) (start .args .x) (start .args .n) (arm .keys5) _ (flip .ensures) (c .plain5 .ensures)
 
 returns-6 : tie.Need-returns-6
-returns-6 c = and-words (c .before .before .args .event) (c .before .before .args .a) (c .before .before .args .b) (c .before .before .args .x) (c .before .before .args .n) (c .before .match .keys6) (c .plain6 .ensures)
+returns-6 c =
+    let start = c .before .before in
+    let arm = c .before .match in
+    and-words (start .args .event) (start .args .a) (start .args .b) (start .args .x) (start .args .n) (arm .keys6) (c .plain6 .ensures)
 
 returns-7 : tie.Need-returns-7
-returns-7 c = or-words (c .before .before .args .event) (c .before .before .args .a) (c .before .before .args .b) (c .before .before .args .x) (c .before .before .args .n) (c .before .match .keys7) (c .plain7 .ensures)
+returns-7 c =
+    let start = c .before .before in
+    let arm = c .before .match in
+    or-words (start .args .event) (start .args .a) (start .args .b) (start .args .x) (start .args .n) (arm .keys7) (c .plain7 .ensures)
 
 returns-8 : tie.Need-returns-8
-returns-8 c = implies-words (c .before .before .before .args .event) (c .before .before .before .args .a) (c .before .before .before .args .b) (c .before .before .before .args .x) (c .before .before .before .args .n) (c .before .before .match .keys8) _ (c .before .flip2 .ensures) (c .plain8 .ensures)
+returns-8 c =
+    let start = c .before .before .before in
+    let arm = c .before .before .match in
+    let flip2 = c .before .flip2 in
+    implies-words (start .args .event) (start .args .a) (start .args .b) (start .args .x) (start .args .n) (arm .keys8) _ (flip2 .ensures) (c .plain8 .ensures)
 
 returns-9 : tie.Need-returns-9
-returns-9 c = iff-words (c .before .before .before .args .event) (c .before .before .before .args .a) (c .before .before .before .args .b) (c .before .before .before .args .x) (c .before .before .before .args .n) (c .before .before .match .keys9) _ (c .before .flip3 .ensures) (c .plain9 .ensures)
+returns-9 c =
+    let start = c .before .before .before in
+    let arm = c .before .before .match in
+    let flip3 = c .before .flip3 in
+    iff-words (start .args .event) (start .args .a) (start .args .b) (start .args .x) (start .args .n) (arm .keys9) _ (flip3 .ensures) (c .plain9 .ensures)
 
 returns-10 : tie.Need-returns-10
-returns-10 c = xor-words (c .before .before .before .args .event) (c .before .before .before .args .a) (c .before .before .before .args .b) (c .before .before .before .args .x) (c .before .before .before .args .n) (c .before .before .match .keys10) _ (c .before .flip4 .ensures) (c .plain10 .ensures)
+returns-10 c =
+    let start = c .before .before .before in
+    let arm = c .before .before .match in
+    let flip4 = c .before .flip4 in
+    xor-words (start .args .event) (start .args .a) (start .args .b) (start .args .x) (start .args .n) (arm .keys10) _ (flip4 .ensures) (c .plain10 .ensures)
 
 returns-11 : tie.Need-returns-11
-returns-11 c = next-words (c .before .before .before .args .event) (c .before .before .before .args .a) (c .before .before .before .args .b) (c .before .before .before .args .x) (c .before .before .before .args .n) (c .before .before .match .keys11) _ (c .before .everywhere4 .ensures) (c .promise .ensures)
+returns-11 c =
+    let start = c .before .before .before in
+    let arm = c .before .before .match in
+    let everywhere4 = c .before .everywhere4 in
+    next-words (start .args .event) (start .args .a) (start .args .b) (start .args .x) (start .args .n) (arm .keys11) _ (everywhere4 .ensures) (c .promise .ensures)
 
 returns-12 : tie.Need-returns-12
-returns-12 c = until-words (c .before .before .before .args .event) (c .before .before .before .args .a) (c .before .before .before .args .b) (c .before .before .before .args .x) (c .before .before .before .args .n) (c .before .before .match .keys12) _ (c .before .flip5 .ensures) (c .promise2 .ensures)
+returns-12 c =
+    let start = c .before .before .before in
+    let arm = c .before .before .match in
+    let flip5 = c .before .flip5 in
+    until-words (start .args .event) (start .args .a) (start .args .b) (start .args .x) (start .args .n) (arm .keys12) _ (flip5 .ensures) (c .promise2 .ensures)
 
 returns-13 : tie.Need-returns-13
-returns-13 c = eventually-words (c .before .before .before .args .event) (c .before .before .before .args .a) (c .before .before .before .args .b) (c .before .before .before .args .x) (c .before .before .before .args .n) (c .before .before .match .keys13) _ (c .before .flip6 .ensures) (c .promise3 .ensures)
+returns-13 c =
+    let start = c .before .before .before in
+    let arm = c .before .before .match in
+    let flip6 = c .before .flip6 in
+    eventually-words (start .args .event) (start .args .a) (start .args .b) (start .args .x) (start .args .n) (arm .keys13) _ (flip6 .ensures) (c .promise3 .ensures)
 
 returns-14 : tie.Need-returns-14
-returns-14 c = always-words (c .before .before .before .args .event) (c .before .before .before .args .a) (c .before .before .before .args .b) (c .before .before .before .args .x) (c .before .before .before .args .n) (c .before .before .match .keys14) _ (c .before .flip7 .ensures) (c .promise4 .ensures)
+returns-14 c =
+    let start = c .before .before .before in
+    let arm = c .before .before .match in
+    let flip7 = c .before .flip7 in
+    always-words (start .args .event) (start .args .a) (start .args .b) (start .args .x) (start .args .n) (arm .keys14) _ (flip7 .ensures) (c .promise4 .ensures)
 
 returns-15 : tie.Need-returns-15
-returns-15 c = no-kind (c .before .before .args .event) (c .before .before .args .a) (c .before .before .args .b) (c .before .before .args .x) (c .before .before .args .n) (past 13 (c .before .before .args .n .kind) (past 12 (c .before .before .args .n .kind) (past 11 (c .before .before .args .n .kind) (past 10 (c .before .before .args .n .kind) (past 9 (c .before .before .args .n .kind) (past 8 (c .before .before .args .n .kind) (past 7 (c .before .before .args .n .kind) (past 6 (c .before .before .args .n .kind) (past 5 (c .before .before .args .n .kind) (past 4 (c .before .before .args .n .kind) (past 3 (c .before .before .args .n .kind) (past 2 (c .before .before .args .n .kind) (past 1 (c .before .before .args .n .kind) (past 0 (c .before .before .args .n .kind) (omega arith) (c .before .match .rest .0 .0 .0 .0 .0 .0 .0 .0 .0 .0 .0 .0 .0 .1)) (c .before .match .rest .0 .0 .0 .0 .0 .0 .0 .0 .0 .0 .0 .0 .1)) (c .before .match .rest .0 .0 .0 .0 .0 .0 .0 .0 .0 .0 .0 .1)) (c .before .match .rest .0 .0 .0 .0 .0 .0 .0 .0 .0 .0 .1)) (c .before .match .rest .0 .0 .0 .0 .0 .0 .0 .0 .0 .1)) (c .before .match .rest .0 .0 .0 .0 .0 .0 .0 .0 .1)) (c .before .match .rest .0 .0 .0 .0 .0 .0 .0 .1)) (c .before .match .rest .0 .0 .0 .0 .0 .0 .1)) (c .before .match .rest .0 .0 .0 .0 .0 .1)) (c .before .match .rest .0 .0 .0 .0 .1)) (c .before .match .rest .0 .0 .0 .1)) (c .before .match .rest .0 .0 .1)) (c .before .match .rest .0 .1)) (c .before .match .rest .1)) (c .plain11 .ensures)
+returns-15 c =
+    let start = c .before .before in
+    let kind = start .args .n .kind in
+    let rest = c .before .match .rest in
+    let from1 = past 0 kind (omega arith) (rest .0 .0 .0 .0 .0 .0 .0 .0 .0 .0 .0 .0 .0 .1) in
+    let from2 = past 1 kind from1 (rest .0 .0 .0 .0 .0 .0 .0 .0 .0 .0 .0 .0 .1) in
+    let from3 = past 2 kind from2 (rest .0 .0 .0 .0 .0 .0 .0 .0 .0 .0 .0 .1) in
+    let from4 = past 3 kind from3 (rest .0 .0 .0 .0 .0 .0 .0 .0 .0 .0 .1) in
+    let from5 = past 4 kind from4 (rest .0 .0 .0 .0 .0 .0 .0 .0 .0 .1) in
+    let from6 = past 5 kind from5 (rest .0 .0 .0 .0 .0 .0 .0 .0 .1) in
+    let from7 = past 6 kind from6 (rest .0 .0 .0 .0 .0 .0 .0 .1) in
+    let from8 = past 7 kind from7 (rest .0 .0 .0 .0 .0 .0 .1) in
+    let from9 = past 8 kind from8 (rest .0 .0 .0 .0 .0 .1) in
+    let from10 = past 9 kind from9 (rest .0 .0 .0 .0 .1) in
+    let from11 = past 10 kind from10 (rest .0 .0 .0 .1) in
+    let from12 = past 11 kind from11 (rest .0 .0 .1) in
+    let from13 = past 12 kind from12 (rest .0 .1) in
+    let from14 = past 13 kind from13 (rest .1) in
+    no-kind (start .args .event) (start .args .a) (start .args .b) (start .args .x) (start .args .n) from14 (c .plain11 .ensures)
 
 pub node-words-spec : {M : Type 1} → statement M
 node-words-spec =

@@ -41,10 +41,30 @@ add-result : tie.Need-add-result
 add-result c = search needs
 
 returns : tie.Need-returns
-returns c = ((simp length-set (c .before .before .before .before .before .before .before .pre .1 .0), simp length-set (c .before .before .before .before .before .before .before .pre .1 .1), simp length-set (c .before .before .before .before .before .before .before .pre .1 .2)), advanced-temporal (c .before .before .before .before .before .before .before .args .event) (c .before .before .before .before .before .before .before .args .high) (c .before .before .before .before .before .before .before .args .i) (c .before .before .before .before .before .before .before .args .m) (c .before .before .before .before .before .before .before .args .n) (now (c .before .before .before .before .before .before .before .args .values)) (now (c .before .before .before .before .before .before .before .args .label)) (now (c .before .before .before .before .before .before .before .args .fairs)) (c .before .before .before .before .before .operand .result) (c .before .before .before .operand2 .result) (c .before .before .label-word .result) (c .before .node-words .result) (c .before .before .before .before .before .operand .ensures) (c .before .before .before .operand2 .ensures) (c .before .before .label-word .ensures) (c .before .node-words .ensures) (c .if1 .taken) (omega arith) (omega arith) (omega arith))
+returns c =
+    let start = c .before .before .before .before .before .before .before in
+    let operand = c .before .before .before .before .before .operand in
+    let operand2 = c .before .before .before .operand2 in
+    let label-word = c .before .before .label-word in
+    let node-words = c .before .node-words in (
+      (simp length-set (start .pre .1 .0), simp length-set (start .pre .1 .1), simp length-set (start .pre .1 .2)),
+      advanced-temporal (start .args .event) (start .args .high) (start .args .i) (start .args .m) (start .args .n) (now (start .args .values)) (now (start .args .label))
+          (now (start .args .fairs)) (operand .result) (operand2 .result) (label-word .result) (node-words .result) (operand .ensures) (operand2 .ensures) (label-word .ensures)
+          (node-words .ensures) (c .if1 .taken) (omega arith) (omega arith) (omega arith),
+    )
 
 returns-2 : tie.Need-returns-2
-returns-2 c = ((simp length-set (c .before .before .before .before .before .before .before .pre .1 .0), c .before .before .before .before .before .before .before .pre .1 .1, c .before .before .before .before .before .before .before .pre .1 .2), advanced-plain (c .before .before .before .before .before .before .before .args .event) (c .before .before .before .before .before .before .before .args .high) (c .before .before .before .before .before .before .before .args .i) (c .before .before .before .before .before .before .before .args .m) (c .before .before .before .before .before .before .before .args .n) (now (c .before .before .before .before .before .before .before .args .values)) (now (c .before .before .before .before .before .before .before .args .label)) (now (c .before .before .before .before .before .before .before .args .fairs)) (c .before .before .before .before .before .operand .result) (c .before .before .before .operand2 .result) (c .before .before .label-word .result) (c .before .node-words .result) (c .before .before .before .before .before .operand .ensures) (c .before .before .before .operand2 .ensures) (c .before .before .label-word .ensures) (c .before .node-words .ensures) (c .if1 .left) (omega arith))
+returns-2 c =
+    let start = c .before .before .before .before .before .before .before in
+    let operand = c .before .before .before .before .before .operand in
+    let operand2 = c .before .before .before .operand2 in
+    let label-word = c .before .before .label-word in
+    let node-words = c .before .node-words in (
+      (simp length-set (start .pre .1 .0), start .pre .1 .1, start .pre .1 .2),
+      advanced-plain (start .args .event) (start .args .high) (start .args .i) (start .args .m) (start .args .n) (now (start .args .values)) (now (start .args .label))
+          (now (start .args .fairs)) (operand .result) (operand2 .result) (label-word .result) (node-words .result) (operand .ensures) (operand2 .ensures) (label-word .ensures)
+          (node-words .ensures) (c .if1 .left) (omega arith),
+    )
 
 pub value-node-spec : {M : Type 1} → statement M
 value-node-spec =

@@ -25,7 +25,17 @@ array-copy-out-n : tie.Need-array-copy-out-n Inv-loop μ-loop
 array-copy-out-n c = search needs
 
 value-node-requires : tie.Need-value-node-requires Inv-loop μ-loop
-value-node-requires c κs = ((omega arith, prefix-room (c .before .before .before .before .before .before .args .event) (c .before .before .before .before .before .before .args .high) (c .before .before .before .before .before .before .args .t4) (c .before .before .before .before .before .loop .i) (c .before .before .before .before .before .loop .m) _ _ _ (c .before .before .before .before .before .loop .inv .4) (c .before .before .before .before .before .before .args .count) _ (omega arith) (c .before .before .before .before .loop-test .taken) (c .before .before .before .before .before .before .pre .temporal)), (c .before .before .before .before .before .loop .inv .1, c .before .before .before .before .before .loop .inv .2, c .before .before .before .before .before .loop .inv .3))
+value-node-requires c κs =
+    let start = c .before .before .before .before .before .before in
+    let turn = c .before .before .before .before .before .loop in
+    let test = c .before .before .before .before .loop-test in (
+      (
+        omega arith,
+        prefix-room (start .args .event) (start .args .high) (start .args .t4) (turn .i) (turn .m) _ _ _ (turn .inv .4) (start .args .count) _ (omega arith) (test .taken)
+            (start .pre .temporal),
+      ),
+      (turn .inv .1, turn .inv .2, turn .inv .3),
+    )
 
 add-i : tie.Need-add-i Inv-loop μ-loop
 add-i c = search needs
@@ -34,7 +44,15 @@ loop-less : tie.Need-loop-less Inv-loop μ-loop
 loop-less c = search needs
 
 loop-again : tie.Need-loop-again Inv-loop μ-loop
-loop-again c = (omega arith, c .value-node .ensures .0 .0, c .value-node .ensures .0 .1, c .value-node .ensures .0 .2, prefix-more (c .before .before .before .before .before .before .before .args .event) (c .before .before .before .before .before .before .before .args .high) (c .before .before .before .before .before .before .before .args .t4) (c .before .before .before .before .before .before .loop .i) _ _ (omega arith) (c .value-node .ensures .1 .next _ (c .before .before .before .before .before .before .loop .inv .4)))
+loop-again c =
+    let start = c .before .before .before .before .before .before .before in
+    let turn = c .before .before .before .before .before .before .loop in (
+      omega arith,
+      c .value-node .ensures .0 .0,
+      c .value-node .ensures .0 .1,
+      c .value-node .ensures .0 .2,
+      prefix-more (start .args .event) (start .args .high) (start .args .t4) (turn .i) _ _ (omega arith) (c .value-node .ensures .1 .next _ (turn .inv .4)),
+    )
 
 sub-label : tie.Need-sub-label Inv-loop μ-loop
 sub-label c = search needs
@@ -45,17 +63,33 @@ mul-label c = search needs
 array-read-label : tie.Need-array-read-label Inv-loop μ-loop
 array-read-label c = search needs
 
+-- so few nodes are temporal that the rule's own truth has room above them
+few-temporal : (c : tie.After-loop Inv-loop μ-loop) → c .before .loop .m ≤ 7
+few-temporal c =
+    let start = c .before .before in
+    let turn = c .before .loop in
+    prefix-few (start .args .event) (start .args .high) (start .args .t4) (turn .i) (turn .m) _ _ _ (turn .inv .4) (start .args .count) (omega arith) (start .pre)
+
 cast-label : tie.Need-cast-label Inv-loop μ-loop
-cast-label c = let k : c .before .loop .m ≤ 7 = prefix-few (c .before .before .args .event) (c .before .before .args .high) (c .before .before .args .t4) (c .before .loop .i) (c .before .loop .m) _ _ _ (c .before .loop .inv .4) (c .before .before .args .count) (omega arith) (c .before .before .pre) in search needs
+cast-label c = let few = few-temporal c in search needs
 
 mul-label-2 : tie.Need-mul-label-2 Inv-loop μ-loop
-mul-label-2 c = let k : c .before .loop .m ≤ 7 = prefix-few (c .before .before .args .event) (c .before .before .args .high) (c .before .before .args .t4) (c .before .loop .i) (c .before .loop .m) _ _ _ (c .before .loop .inv .4) (c .before .before .args .count) (omega arith) (c .before .before .pre) in search needs
+mul-label-2 c = let few = few-temporal c in search needs
 
 array-write-label : tie.Need-array-write-label Inv-loop μ-loop
-array-write-label c = let k : c .before .loop .m ≤ 7 = prefix-few (c .before .before .args .event) (c .before .before .args .high) (c .before .before .args .t4) (c .before .loop .i) (c .before .loop .m) _ _ _ (c .before .loop .inv .4) (c .before .before .args .count) (omega arith) (c .before .before .pre) in search needs
+array-write-label c = let few = few-temporal c in search needs
 
 returns : tie.Need-returns Inv-loop μ-loop
-returns c = let k : c .before .loop .m ≤ 7 = prefix-few (c .before .before .args .event) (c .before .before .args .high) (c .before .before .args .t4) (c .before .loop .i) (c .before .loop .m) _ _ _ (c .before .loop .inv .4) (c .before .before .args .count) (omega arith) (c .before .before .pre) in let z : c .before .loop .i ≡ c .before .before .args .count = omega arith in let h : Prefix (c .before .before .args .event) (c .before .before .args .high) (c .before .before .args .t4) (c .before .before .args .count) (c .before .loop .m) (c .before .loop .values) (c .before .loop .label) (c .before .loop .fairs) = prefix-to (c .before .before .args .event) (c .before .before .args .high) (c .before .before .args .t4) (c .before .loop .i) (c .before .loop .m) (c .before .loop .inv .4) (c .before .before .args .count) z in (prefix-temporals (c .before .before .args .event) (c .before .before .args .high) (c .before .before .args .t4) (c .before .before .args .count) (c .before .loop .m) _ _ _ h, (prefix-profiles (c .before .before .args .event) (c .before .before .args .high) (c .before .before .args .t4) (c .before .before .args .count) (c .before .loop .m) h (omega arith), h .of-fairs))
+returns c =
+    let few = few-temporal c in
+    let start = c .before .before in
+    let turn = c .before .loop in
+    let event = start .args .event in
+    let high = start .args .high in
+    let nodes = start .args .t4 in
+    let count = start .args .count in
+    let all = prefix-to event high nodes (turn .i) (turn .m) (turn .inv .4) count (omega arith) in
+    (prefix-temporals event high nodes count (turn .m) _ _ _ all, (prefix-profiles event high nodes count (turn .m) all (omega arith), all .of-fairs))
 
 pub value-nodes-spec : {M : Type 1} → statement M
 value-nodes-spec =

@@ -44,10 +44,24 @@ loop-less : tie.Need-loop-less Inv-loop μ-loop
 loop-less c = search needs
 
 loop-again : tie.Need-loop-again Inv-loop μ-loop
-loop-again c = (omega arith, simp length-set (c .before .before .before .before .loop .inv .1), simp length-set (c .before .before .before .before .loop .inv .2), table-more (c .before .before .before .before .loop .inv .3) (c .before .before .value-rows .ensures .0) (omega arith), table-more (c .before .before .before .before .loop .inv .4) (c .before .before .value-rows .ensures .1) (omega arith))
+loop-again c =
+    let turn = c .before .before .before .before .loop in
+    let value-rows = c .before .before .value-rows in (
+      omega arith,
+      simp length-set (turn .inv .1),
+      simp length-set (turn .inv .2),
+      table-more (turn .inv .3) (value-rows .ensures .0) (omega arith),
+      table-more (turn .inv .4) (value-rows .ensures .1) (omega arith),
+    )
 
 returns : tie.Need-returns Inv-loop μ-loop
-returns c = let z : c .before .loop .e ≡ c .before .before .args .events = omega arith in ((c .before .loop .inv .1 ∙ c .before .before .pre .1 .1 .0, table-to (c .before .loop .inv .3) (c .before .before .args .events) z), (c .before .loop .inv .2 ∙ c .before .before .pre .1 .1 .1, table-to (c .before .loop .inv .4) (c .before .before .args .events) z))
+returns c =
+    let start = c .before .before in
+    let turn = c .before .loop in
+    let z : turn .e ≡ start .args .events = omega arith in (
+      (turn .inv .1 ∙ start .pre .1 .1 .0, table-to (turn .inv .3) (start .args .events) z),
+      (turn .inv .2 ∙ start .pre .1 .1 .1, table-to (turn .inv .4) (start .args .events) z),
+    )
 
 pub value-tables-spec : {M : Type 1} → statement M
 value-tables-spec =
