@@ -18,8 +18,9 @@ use Rattle.ltl.specs.Keys.{look}
 use Rattle.ltl.proofs.Truth.{t-equal}
 use Rattle.ltl.proofs.Searches.{both, both-cases}
 use Rattle.valuation.specs.Entries.{Entries}
-use Rattle.realizability.specs.Relations.{labelAt, leadsBy, viaBy, coreBy, onlyIf, bothWays, componentBy, Within, withinComponent, AllGathered, Reaches, coreIn}
-use Rattle.realizability.proofs.Searches.{union-same}
+use Rattle.relations.specs.Relations.{labelAt, onlyIf, Reaches}
+use Rattle.realizability.specs.Core.{leadsBy, viaBy, coreBy, bothWays, componentBy, Within, withinComponent, AllGathered, coreIn}
+use Rattle.relations.proofs.Searches.{union-same}
 use Rattle.realizability.proofs.Core.{leads-there, leads-else}
 
 both-true : (a b : Bool) → (a && b) ≡ true → (a ≡ true) × (b ≡ true)

@@ -6,7 +6,7 @@ use Prim.Native.Nat.{ℕ}
 use lib.ListN.{getD}
 use borrow.Author.Tests.{eq-eqb, ne-eqb}
 use Rattle.ltl.specs.Realizable.{allOf}
-use Rattle.realizability.specs.Relations.{leadsBy, coreIn, toCoreBy}
+use Rattle.realizability.specs.Core.{leadsBy, coreIn, toCoreBy}
 
 module _ (r : ℕ → ℕ → Bool) where
   pub leads-there : (x y : ℕ) → x ≡ y → true ≡ leadsBy r x y

@@ -13,7 +13,8 @@ use lib.Dec.{eqb}
 use borrow.Author.Tests.{eq-eqb, ne-eqb}
 use Rattle.ltl.specs.Sets.{on, unionBelow}
 use Rattle.ltl.proofs.Sets.{on-or, same-members}
-use Rattle.realizability.specs.Relations.{onlyIf, withinComponent, Gathered, AllGathered}
+use Rattle.relations.specs.Relations.{onlyIf}
+use Rattle.realizability.specs.Core.{withinComponent, Gathered, AllGathered}
 
 or-assoc : (a b c : ℕ) → bitOr a (bitOr b c) ≡ bitOr (bitOr a b) c
 or-assoc a b c =

@@ -15,9 +15,10 @@ use Rattle.ltl.specs.Residuals.{before}
 use Rattle.ltl.specs.Keys.{look}
 use Rattle.ltl.proofs.Sets.{on-set}
 use Rattle.valuation.specs.Entries.{Entries}
-use Rattle.realizability.specs.Relations.{entry, Matrix, labelAt, edge, closed, leadsBy, viaBy, coreBy, toCoreBy, realizableBy}
-use Rattle.realizability.proofs.Searches.{some-same, union-same}
-use Rattle.realizability.proofs.Closures.{Agree, related, closed-related}
+use Rattle.relations.specs.Relations.{entry, Matrix, labelAt, edge, closed}
+use Rattle.realizability.specs.Core.{leadsBy, viaBy, coreBy, toCoreBy, realizableBy}
+use Rattle.relations.proofs.Searches.{some-same, union-same}
+use Rattle.relations.proofs.Closures.{Agree, related, closed-related}
 
 -- ---- relations that agree on the labels there are
 

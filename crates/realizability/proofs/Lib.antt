@@ -1,10 +1,5 @@
-pub mod Searches
-pub mod Words
-pub mod Rows
-pub mod Closures
 pub mod Core
 pub mod Labels
 pub mod Gathers
 pub mod Components
-pub mod Reach
-pub mod Empty
+pub mod Alone

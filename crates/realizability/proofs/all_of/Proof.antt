@@ -4,7 +4,7 @@ use borrow.Author.Needs.{needs}
 use mathlib.Core.Path.{sym, _∙_}
 use Prim.Native.Nat.{_-_, _≤_}
 use borrow.Author.Tests.{not-true, not-false}
-use Rattle.realizability.proofs.Searches.{AllBelow, all-zero, all-more, all-all, not-all}
+use Rattle.relations.proofs.Searches.{AllBelow, all-zero, all-more, all-all, not-all}
 use Rattle.ltl.specs.Sets.{on}
 use Rattle.realizability.proofs.all_of.Statement.{statement}
 use Rattle.realizability.proofs.all_of.Tie as tie

@@ -6,8 +6,9 @@ use mathlib.Core.Bool.{false}
 use Prim.Native.Nat.{_-_, _≤_}
 use denote.Ref.{now}
 use lib.ListN.{getD}
-use Rattle.realizability.proofs.Searches.{NoneBelow, none-zero, none-more, none-all, some-found}
-use Rattle.realizability.specs.Relations.{entry, toCoreBy}
+use Rattle.relations.proofs.Searches.{NoneBelow, none-zero, none-more, none-all, some-found}
+use Rattle.relations.specs.Relations.{entry}
+use Rattle.realizability.specs.Core.{toCoreBy}
 use Rattle.realizability.proofs.any_in_core.Statement.{statement}
 use Rattle.realizability.proofs.any_in_core.Tie as tie
 

@@ -1,7 +1,7 @@
 -- `realizability::component` meets its contract.
 use native.Mathlib.Omega.{arith}
 use borrow.Author.Needs.{needs}
-use Rattle.realizability.proofs.Empty.{component-alone}
+use Rattle.realizability.proofs.Alone.{component-alone}
 use Rattle.realizability.proofs.component.Statement.{statement}
 use Rattle.realizability.proofs.component.Tie as tie
 

@@ -6,7 +6,8 @@ use Prim.Native.Nat.{_-_, _≤_}
 use lib.ListN.{length, length-set}
 use Rattle.valuation.specs.Entries.{Entries}
 use Rattle.valuation.proofs.Entries.{entries-none, entries-more, entries-to}
-use Rattle.realizability.specs.Relations.{entry, componentBy}
+use Rattle.relations.specs.Relations.{entry}
+use Rattle.realizability.specs.Core.{componentBy}
 use Rattle.realizability.proofs.component_row.Statement.{statement}
 use Rattle.realizability.proofs.component_row.Tie as tie
 

@@ -7,7 +7,8 @@ use Prim.Native.Nat.{_-_, _≤_}
 use lib.ListN.{length, length-set}
 use Rattle.valuation.specs.Entries.{Entries}
 use Rattle.valuation.proofs.Entries.{entries-none, entries-more, entries-to}
-use Rattle.realizability.specs.Relations.{entry, coreIn}
+use Rattle.relations.specs.Relations.{entry}
+use Rattle.realizability.specs.Core.{coreIn}
 use Rattle.realizability.proofs.core_in.Statement.{statement}
 use Rattle.realizability.proofs.core_in.Tie as tie
 

@@ -2,7 +2,7 @@
 use borrow.Author.Needs.{needs}
 use denote.Ref.{now}
 use Rattle.realizability.proofs.Components.{within-components, core-components}
-use Rattle.realizability.specs.Relations.{entry}
+use Rattle.relations.specs.Relations.{entry}
 use Rattle.realizability.proofs.core_row.Statement.{statement}
 use Rattle.realizability.proofs.core_row.Tie as tie
 

@@ -4,7 +4,8 @@ use borrow.Author.Needs.{needs}
 use mathlib.Core.Path.{sym, _∙_}
 use Prim.Native.Nat.{_-_, _≤_}
 use Rattle.sequences.proofs.Loops.{Missed, missed-none, missed-more, missed-found, missed-end}
-use Rattle.realizability.specs.Relations.{entry, bothWays}
+use Rattle.relations.specs.Relations.{entry}
+use Rattle.realizability.specs.Core.{bothWays}
 use Rattle.realizability.proofs.first_both.Statement.{statement}
 use Rattle.realizability.proofs.first_both.Tie as tie
 

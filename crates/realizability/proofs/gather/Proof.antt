@@ -4,7 +4,8 @@ use borrow.Author.Needs.{needs}
 use Prim.Native.Nat.{_-_, _≤_}
 use Rattle.ltl.specs.Keys.{look}
 use Rattle.realizability.proofs.Gathers.{all-none, all-more, all-to}
-use Rattle.realizability.specs.Relations.{labelAt, withinComponent, AllGathered}
+use Rattle.relations.specs.Relations.{labelAt}
+use Rattle.realizability.specs.Core.{withinComponent, AllGathered}
 use Rattle.realizability.proofs.gather.Statement.{statement}
 use Rattle.realizability.proofs.gather.Tie as tie
 

@@ -8,7 +8,8 @@ use lib.ListN.{getD}
 use lib.Dec.{eqb}
 use Rattle.ltl.specs.Keys.{look}
 use Rattle.realizability.proofs.Gathers.{gathered-none, gathered-more, gathered-to}
-use Rattle.realizability.specs.Relations.{labelAt, onlyIf, withinComponent, Gathered}
+use Rattle.relations.specs.Relations.{labelAt, onlyIf}
+use Rattle.realizability.specs.Core.{withinComponent, Gathered}
 use Rattle.realizability.proofs.gather_event.Statement.{statement}
 use Rattle.realizability.proofs.gather_event.Tie as tie
 

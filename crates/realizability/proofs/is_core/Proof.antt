@@ -3,7 +3,7 @@ use borrow.Author.Needs.{needs}
 use mathlib.Core.Path.{sym, _∙_}
 use denote.Ref.{now}
 use Rattle.realizability.proofs.Core.{core-round, core-not}
-use Rattle.realizability.specs.Relations.{entry}
+use Rattle.relations.specs.Relations.{entry}
 use Rattle.realizability.proofs.is_core.Statement.{statement}
 use Rattle.realizability.proofs.is_core.Tie as tie
 

@@ -7,7 +7,8 @@ use Prim.Native.Nat.{_-_, _≤_}
 use lib.ListN.{length, getD, length-set}
 use Rattle.valuation.proofs.Entries.{entries-none, entries-more, entries-to}
 use Rattle.valuation.specs.Entries.{Entries}
-use Rattle.realizability.specs.Relations.{entry, realizableBy}
+use Rattle.relations.specs.Relations.{entry}
+use Rattle.realizability.specs.Core.{realizableBy}
 use Rattle.realizability.proofs.leading_row.Statement.{statement}
 use Rattle.realizability.proofs.leading_row.Tie as tie
 

@@ -3,7 +3,7 @@ use borrow.Author.Needs.{needs}
 use mathlib.Core.Path.{_∙_}
 use denote.Ref.{now}
 use Rattle.realizability.proofs.Core.{leads-there, leads-else}
-use Rattle.realizability.specs.Relations.{entry}
+use Rattle.relations.specs.Relations.{entry}
 use Rattle.realizability.proofs.leads.Statement.{statement}
 use Rattle.realizability.proofs.leads.Tie as tie
 

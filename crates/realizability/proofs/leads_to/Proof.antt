@@ -4,7 +4,7 @@ use mathlib.Core.Bool.{false}
 use denote.Ref.{now}
 use lib.ListN.{getD}
 use Rattle.realizability.proofs.Core.{to-core, no-core}
-use Rattle.realizability.specs.Relations.{entry}
+use Rattle.relations.specs.Relations.{entry}
 use borrow.Author.Needs.{needs}
 use Rattle.realizability.proofs.leads_to.Statement.{statement}
 use Rattle.realizability.proofs.leads_to.Tie as tie

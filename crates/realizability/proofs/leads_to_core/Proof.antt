@@ -3,7 +3,7 @@ use borrow.Author.Needs.{needs}
 use mathlib.Core.Bool.{false}
 use denote.Ref.{now}
 use lib.ListN.{getD}
-use Rattle.realizability.proofs.Empty.{core-alone}
+use Rattle.realizability.proofs.Alone.{core-alone}
 use Rattle.realizability.proofs.leads_to_core.Statement.{statement}
 use Rattle.realizability.proofs.leads_to_core.Tie as tie
 

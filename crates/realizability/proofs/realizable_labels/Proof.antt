@@ -1,7 +1,7 @@
 -- `realizability::realizable_labels` meets its contract. What the code finds is what crate ltl finds (proofs/Labels).
 use denote.Ref.{now}
 use Rattle.realizability.proofs.Labels.{found}
-use Rattle.realizability.proofs.Reach.{reaches}
+use Rattle.relations.proofs.Reach.{reaches}
 use borrow.Author.Needs.{needs}
 use Rattle.realizability.proofs.realizable_labels.Statement.{statement}
 use Rattle.realizability.proofs.realizable_labels.Tie as tie

@@ -12,7 +12,7 @@ use lib.Bits.{bitOr}
 use Rattle.sequences.proofs.Pointwise.{is-true, is-false}
 use Rattle.ltl.specs.Sets.{on}
 use Rattle.ltl.proofs.Sets.{on-zero, on-or, single-in, in-single}
-use Rattle.realizability.specs.Relations.{entry, MarkedAt, onlyIf, inWords, RowPassed}
+use Rattle.relations.specs.Relations.{entry, MarkedAt, onlyIf, inWords, RowPassed}
 
 -- the remainder by one subtraction
 pub mod-once : (p n : ℕ) → n ≤ p → p - n < n → p - n ≡ p % n

@@ -1,12 +1,12 @@
--- `realizability::pass_row` meets its contract. Both words are joined, or stay.
+-- `relations::pass_row` meets its contract. Both words are joined, or stay.
 use borrow.Author.Needs.{needs}
 use mathlib.Core.Path.{_∙_, ap}
 use mathlib.Core.Bool.{Bool}
 use denote.Ref.{now}
-use Rattle.realizability.proofs.Words.{row-passed}
-use Rattle.realizability.specs.Relations.{onlyIf}
-use Rattle.realizability.proofs.pass_row.Statement.{statement}
-use Rattle.realizability.proofs.pass_row.Tie as tie
+use Rattle.relations.proofs.Words.{row-passed}
+use Rattle.relations.specs.Relations.{onlyIf}
+use Rattle.relations.proofs.pass_row.Statement.{statement}
+use Rattle.relations.proofs.pass_row.Tie as tie
 
 has-requires : tie.Need-has-requires
 has-requires c κs = search needs

@@ -1,13 +1,13 @@
--- `realizability::is_empty` meets its contract.
+-- `relations::is_empty` meets its contract.
 use native.Mathlib.Omega.{arith}
 use borrow.Author.Needs.{needs}
 use mathlib.Core.Path.{_≡_}
 use Prim.Native.Nat.{ℕ}
 use denote.Ref.{now}
 use borrow.Author.Tests.{eqb-true}
-use Rattle.realizability.proofs.Empty.{empty}
-use Rattle.realizability.proofs.is_empty.Statement.{statement}
-use Rattle.realizability.proofs.is_empty.Tie as tie
+use Rattle.relations.proofs.Empty.{empty}
+use Rattle.relations.proofs.is_empty.Statement.{statement}
+use Rattle.relations.proofs.is_empty.Tie as tie
 
 mul-if1 : tie.Need-mul-if1
 mul-if1 c = search needs

@@ -1,13 +1,13 @@
--- `realizability::mark_event` meets its contract. The loop's invariant: the edges to the labels passed are added.
+-- `relations::mark_event` meets its contract. The loop's invariant: the edges to the labels passed are added.
 use native.Mathlib.Omega.{arith}
 use borrow.Author.Needs.{needs}
 use Prim.Native.Nat.{_-_, _≤_}
 use denote.Ref.{now}
 use lib.Dec.{eqb}
-use Rattle.realizability.proofs.Rows.{added-none, added-more, added-to}
-use Rattle.realizability.specs.Relations.{Added, labelAt}
-use Rattle.realizability.proofs.mark_event.Statement.{statement}
-use Rattle.realizability.proofs.mark_event.Tie as tie
+use Rattle.relations.proofs.Rows.{added-none, added-more, added-to}
+use Rattle.relations.specs.Relations.{Added, labelAt}
+use Rattle.relations.proofs.mark_event.Statement.{statement}
+use Rattle.relations.proofs.mark_event.Tie as tie
 
 abbrev Inv-loop : tie.InvT-loop
 Inv-loop rows₀ profiles labels e y₀ rows y = (y ≤ labels) × Added y labels (λ x y. eqb (labelAt labels profiles e y) x) rows₀ rows

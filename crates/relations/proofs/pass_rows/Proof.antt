@@ -1,11 +1,11 @@
--- `realizability::pass_rows` meets its contract. The loop's invariant: the rows below x are passed, and the others as they were.
+-- `relations::pass_rows` meets its contract. The loop's invariant: the rows below x are passed, and the others as they were.
 use native.Mathlib.Omega.{arith}
 use borrow.Author.Needs.{needs}
 use Prim.Native.Nat.{_-_, _≤_}
-use Rattle.realizability.proofs.Rows.{Made, made-none, made-more, made-all}
-use Rattle.realizability.specs.Relations.{entry, through}
-use Rattle.realizability.proofs.pass_rows.Statement.{statement}
-use Rattle.realizability.proofs.pass_rows.Tie as tie
+use Rattle.relations.proofs.Rows.{Made, made-none, made-more, made-all}
+use Rattle.relations.specs.Relations.{entry, through}
+use Rattle.relations.proofs.pass_rows.Statement.{statement}
+use Rattle.relations.proofs.pass_rows.Tie as tie
 
 abbrev Inv-loop : tie.InvT-loop
 Inv-loop k labels rows₀ a b x₀ rows x = (x ≤ labels) × Made x labels (through k (entry rows₀)) rows₀ rows

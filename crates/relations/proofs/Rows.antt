@@ -11,8 +11,8 @@ use lib.Dec.{eqb}
 use borrow.Author.Tests.{eq-eqb, ne-eqb}
 use Rattle.ltl.specs.Sets.{on, someBelow}
 use Rattle.ltl.proofs.Sets.{on-zero}
-use Rattle.realizability.specs.Relations.{entry, Matrix, MarkedAt, Added, RowPassed, labelAt, edge, through}
-use Rattle.realizability.proofs.Words.{words-of}
+use Rattle.relations.specs.Relations.{entry, Matrix, MarkedAt, Added, RowPassed, labelAt, edge, through}
+use Rattle.relations.proofs.Words.{words-of}
 
 -- ---- the ways through k, row by row
 

@@ -11,8 +11,8 @@ use lib.Dec.{T, eqb}
 use borrow.Author.Tests.{eq-eqb}
 use Rattle.sequences.proofs.Pointwise.{is-true}
 use Rattle.ltl.specs.Keys.{look}
-use Rattle.realizability.specs.Relations.{entry, Matrix, labelAt, edge, closed, Reaches}
-use Rattle.realizability.proofs.Searches.{some-found}
+use Rattle.relations.specs.Relations.{entry, Matrix, labelAt, edge, closed, Reaches}
+use Rattle.relations.proofs.Searches.{some-found}
 
 abbrev joins : Bool → Bool → Bool → Bool
 joins a b c = elim a [ true ↦ b || c | false ↦ c ]

@@ -1,12 +1,12 @@
--- `realizability::mark` meets its contract. The bit of the pair is added to its word.
+-- `relations::mark` meets its contract. The bit of the pair is added to its word.
 use native.Mathlib.Omega.{arith}
 use borrow.Author.Needs.{needs}
 use Prim.Native.Nat.{_%_}
 use denote.Ref.{now}
 use Rattle.events.proofs.Powers.{shift-one}
-use Rattle.realizability.proofs.Words.{marked-at}
-use Rattle.realizability.proofs.mark.Statement.{statement}
-use Rattle.realizability.proofs.mark.Tie as tie
+use Rattle.relations.proofs.Words.{marked-at}
+use Rattle.relations.proofs.mark.Statement.{statement}
+use Rattle.relations.proofs.mark.Tie as tie
 
 mul-i : tie.Need-mul-i
 mul-i c = search needs

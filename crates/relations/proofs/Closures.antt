@@ -11,7 +11,7 @@ use Rattle.ltl.specs.Sets.{on}
 use Rattle.ltl.specs.Closure.{row, closure}
 use Rattle.ltl.proofs.Closure.{row-pass}
 use Rattle.ltl.proofs.Sets.{on-or}
-use Rattle.realizability.specs.Relations.{entry, Matrix, through, closed}
+use Rattle.relations.specs.Relations.{entry, Matrix, through, closed}
 
 abbrev joins : Bool → Bool → Bool → Bool
 joins a b c = elim a [ true ↦ b || c | false ↦ c ]

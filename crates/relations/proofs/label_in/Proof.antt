@@ -1,12 +1,12 @@
--- `realizability::label_in` meets its contract. The label is the profile, or the profile less the labels, or the remainder.
+-- `relations::label_in` meets its contract. The label is the profile, or the profile less the labels, or the remainder.
 use native.Mathlib.Omega.{arith}
 use borrow.Author.Needs.{needs}
 use mathlib.Core.Path.{sym, ap, _∙_}
 use Prim.Native.Nat.{ℕ, _%_}
 use native.Mathlib.Nat.{mod-lt, mod-eq-of-lt}
-use Rattle.realizability.proofs.Words.{mod-once}
-use Rattle.realizability.proofs.label_in.Statement.{statement}
-use Rattle.realizability.proofs.label_in.Tie as tie
+use Rattle.relations.proofs.Words.{mod-once}
+use Rattle.relations.proofs.label_in.Statement.{statement}
+use Rattle.relations.proofs.label_in.Tie as tie
 
 wide-requires : tie.Need-wide-requires
 wide-requires c κs = search needs

@@ -1,10 +1,10 @@
--- `realizability::close` meets its contract. The loop's invariant: the matrix holds the ways through the labels below k.
+-- `relations::close` meets its contract. The loop's invariant: the matrix holds the ways through the labels below k.
 use native.Mathlib.Omega.{arith}
 use borrow.Author.Needs.{needs}
 use Prim.Native.Nat.{_-_, _≤_}
-use Rattle.realizability.proofs.Closures.{Closing, closing-none, closing-more, closing-all}
-use Rattle.realizability.proofs.close.Statement.{statement}
-use Rattle.realizability.proofs.close.Tie as tie
+use Rattle.relations.proofs.Closures.{Closing, closing-none, closing-more, closing-all}
+use Rattle.relations.proofs.close.Statement.{statement}
+use Rattle.relations.proofs.close.Tie as tie
 
 abbrev Inv-loop : tie.InvT-loop
 Inv-loop labels rows₀ k₀ rows k = (k ≤ labels) × Closing k labels rows₀ rows

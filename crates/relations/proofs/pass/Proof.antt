@@ -1,8 +1,8 @@
--- `realizability::pass` meets its contract.
+-- `relations::pass` meets its contract.
 use borrow.Author.Needs.{needs}
-use Rattle.realizability.proofs.Empty.{through-none}
-use Rattle.realizability.proofs.pass.Statement.{statement}
-use Rattle.realizability.proofs.pass.Tie as tie
+use Rattle.relations.proofs.Empty.{through-none}
+use Rattle.relations.proofs.pass.Statement.{statement}
+use Rattle.relations.proofs.pass.Tie as tie
 
 is-empty-requires : tie.Need-is-empty-requires
 is-empty-requires c κs = search needs

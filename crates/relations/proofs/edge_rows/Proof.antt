@@ -1,10 +1,10 @@
--- `realizability::edge_rows` meets its contract. The loop's invariant: the rows hold the edges of the events passed.
+-- `relations::edge_rows` meets its contract. The loop's invariant: the rows hold the edges of the events passed.
 use native.Mathlib.Omega.{arith}
 use borrow.Author.Needs.{needs}
 use Prim.Native.Nat.{_-_, _≤_}
-use Rattle.realizability.proofs.Rows.{Edges, edges-none, edges-more, edges-to}
-use Rattle.realizability.proofs.edge_rows.Statement.{statement}
-use Rattle.realizability.proofs.edge_rows.Tie as tie
+use Rattle.relations.proofs.Rows.{Edges, edges-none, edges-more, edges-to}
+use Rattle.relations.proofs.edge_rows.Statement.{statement}
+use Rattle.relations.proofs.edge_rows.Tie as tie
 
 abbrev Inv-loop : tie.InvT-loop
 Inv-loop events labels profiles rows₀ e₀ rows e = (e ≤ events) × Edges e labels profiles rows
