@@ -69,3 +69,10 @@ textAnswer t out =
 -- the output then: on a refusal "Lent buffers keep every byte"
 abbrev pub textAfter : List ℕ → List ℕ → List ℕ
 textAfter t out = cond (isTable t) (cond (leb 32768 (length out)) (atFront (textOf t) out) out) out
+
+-- the same of a refusal's line: every one fits in 64 bytes
+abbrev pub lineAnswer : Refusal → List ℕ → Text
+lineAnswer r out = cond (leb 64 (length out)) (Text.Written (length (refusalText r))) (Text.Refused ShortOutput)
+
+abbrev pub lineAfter : Refusal → List ℕ → List ℕ
+lineAfter r out = cond (leb 64 (length out)) (atFront (refusalText r) out) out

@@ -4,7 +4,7 @@ ghost use Prim.Native.Nat.{_+_, _*_, _^_, _≤_, _<_};
 ghost use mathlib.Core.List.{_∷_};
 ghost use lib.ListN.{length};
 ghost use Rattle.table_text.specs.Put.{Put};
-ghost use Rattle.table_text.specs.Text.{decimal, word, countsText, successorsText, lineText, linesText, refusalText, atFront, textAnswer, textAfter};
+ghost use Rattle.table_text.specs.Text.{decimal, word, countsText, successorsText, lineText, linesText, textAnswer, textAfter, lineAnswer, lineAfter};
 use meaning::Checked;
 use meaning::Refusal;
 use meaning::Verdict;
@@ -166,15 +166,19 @@ pub fn table_text(table: &[u8], out: &mut [u8]) -> Text
     Text::Written(end)
 }
 
-// The refusal's line at the front of the output, and its length. Bytes past it are kept.
-pub fn refusal_text(refusal: Refusal, out: &mut [u8; 64]) -> usize
-    ensures { λ r. ⌜ r ≡ length (refusalText refusal) ⌝ }
-    ensures { λ _. ⌜ now (out .exit) ≡ atFront (refusalText refusal) (now (out .entry)) ⌝ }
-    ensures { λ r. ⌜ r ≤ 64 ⌝ }
+// The refusal's line at the front of the output and its length; or 10 where the output has fewer than 64 bytes, and every byte of it as it was.
+// Bytes past the line are kept.
+pub fn refusal_text(refusal: Refusal, out: &mut [u8]) -> Text
+    ensures { λ r. ⌜ r ≡ lineAnswer refusal (now (out .entry)) ⌝ }
+    ensures { λ _. ⌜ now (out .exit) ≡ lineAfter refusal (now (out .entry)) ⌝ }
 {
+    if out.len() < 64 {
+        return Text::Refused(Refusal::ShortOutput);
+    }
     let a = put_bytes(out, 0, b"refused ");
     let b = put_number(out, a, refusal.number() as u16);
     let c = put_bytes(out, b, b" at ");
     let d = put_decimal(out, c, refusal.place());
-    put_bytes(out, d, b"\n")
+    let end = put_bytes(out, d, b"\n");
+    Text::Written(end)
 }

@@ -38,11 +38,18 @@ same-length c = search needs
 
 returns : tie.Need-returns
 returns c =
-    let v = verdictOf (verdictByte (now (c .before .before .before .before .before .before .before .before .before .before .before .before .before .before .before .before .before .before .before .before .before .before .before .before .before .args .table)) (c .before .before .before .before .before .before .before .before .before .before .before .before .before .before .before .before .before .before .before .before .before .before .before .before .before .args .signals) (c .before .before .before .before .before .before .before .before .before .before .before .before .before .before .before .before .before .before .before .before .before .before .before .before .before .args .state)) in
-    let h₁ = put-more (c .before .before .before .before .before .before .before .before .before .before .before .before .before .before .before .before .before .before .before .before .before .put-number .ensures .0) (c .before .before .before .before .before .before .before .before .before .before .before .before .before .before .before .before .put-bytes .ensures) in
-    let h₂ = put-more h₁ (put-is (c .before .before .before .before .before .before .before .before .before .before .before .put-word .ensures .0) (word v) (ap word (c .before .before .before .before .before .before .before .before .before .before .before .before .verdict-at .ensures))) in
-    let h₃ = put-more h₂ (c .before .before .before .before .before .before .before .put-successors .ensures .0) in
-    (put-more h₃ (c .before .before .put-bytes2 .ensures), omega arith)
+    let at-put-bytes2 = c .before .before in
+    let at-put-successors = at-put-bytes2 .before .before .before .before .before in
+    let at-put-word = at-put-successors .before .before .before .before in
+    let at-verdict-at = at-put-word .before in
+    let at-put-bytes = at-verdict-at .before .before .before .before in
+    let at-put-number = at-put-bytes .before .before .before .before .before in
+    let start = at-put-number .before .before .before .before in
+    let v = verdictOf (verdictByte (now (start .args .table)) (start .args .signals) (start .args .state)) in
+    let h₁ = put-more (at-put-number .put-number .ensures .0) (at-put-bytes .put-bytes .ensures) in
+    let h₂ = put-more h₁ (put-is (at-put-word .put-word .ensures .0) (word v) (ap word (at-verdict-at .verdict-at .ensures))) in
+    let h₃ = put-more h₂ (at-put-successors .put-successors .ensures .0) in
+    (put-more h₃ (at-put-bytes2 .put-bytes2 .ensures), omega arith)
 
 pub put-line-spec : {M : Type 1} → statement M
 put-line-spec =

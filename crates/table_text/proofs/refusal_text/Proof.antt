@@ -3,13 +3,19 @@ use native.Mathlib.Omega.{arith}
 use native.Mathlib.Nat.{zero-add}
 use mathlib.Core.Path.{_∙_, ap}
 use lib.ListN.{length}
+use borrow.Author.Tests.{le-leb, lt-leb}
+use denote.Ref.{now}
 use Rattle.table_text.specs.Text.{decimal, refusalText}
-use Rattle.table_text.proofs.Laws.{put-more, put-is, put-front}
+use Rattle.table_text.specs.declared.Text.the-variants as Text
+use Rattle.table_text.proofs.Laws.{put-length, put-more, put-is, put-front}
 use Rattle.table_text.proofs.Decimal.{decimal-u64}
 use Rattle.meaning.specs.Refusals.{codeOf}
 use borrow.Author.Needs.{needs}
 use Rattle.table_text.proofs.refusal_text.Statement.{statement}
 use Rattle.table_text.proofs.refusal_text.Tie as tie
+
+returns : tie.Need-returns
+returns c = let l = lt-leb 64 (length (now (c .before .before .args .out))) (c .if1 .taken) in (rw l, rw l)
 
 slice-aggregate-put-bytes : tie.Need-slice-aggregate-put-bytes
 slice-aggregate-put-bytes c = search needs
@@ -42,21 +48,46 @@ slice-aggregate-put-bytes-3 : tie.Need-slice-aggregate-put-bytes-3
 slice-aggregate-put-bytes-3 c = search needs
 
 put-bytes-requires-3 : tie.Need-put-bytes-requires-3
-put-bytes-requires-3 c κs = omega (arith, decimal-u64 (c .before .before .before .place .result) (c .before .before .before .place .ok))
+put-bytes-requires-3 c κs =
+    let at-decimal = c .before .before .before .before in
+    let at-place = at-decimal .before in
+    let at-text = at-place .before .before .before .before in
+    let at-digits = at-text .before .before .before .before .before in
+    let at-first = at-digits .before .before .before .before .before in
+    let at-test = at-first .before .before .before in
+    let l₁ = put-length (at-first .put-bytes .ensures) in
+    let l₂ = put-length (at-digits .put-number .ensures .0) in
+    let l₃ = put-length (at-text .put-bytes2 .ensures) in
+    let l₄ = put-length (at-decimal .put-decimal .ensures) in
+    omega (arith, decimal-u64 (at-place .place .result) (at-place .place .ok), at-test .if1 .left)
 
-returns : tie.Need-returns
+same-length : tie.Need-same-length
+same-length c = search needs
+
+returns-2 : tie.Need-returns-2
 unfolding refusalText
-returns c =
-    let r = c .before .before .before .before .before .before .before .before .before .before .before .before .before .before .before .args .refusal in
-    let n = put-is (c .before .before .before .before .before .before .before .before .before .put-number .ensures .0) (decimal (codeOf r .0)) (ap decimal (c .before .before .before .before .before .before .before .before .before .before .number .ensures)) in
-    let p = put-is (c .before .before .before .put-decimal .ensures) (decimal (codeOf r .1)) (ap decimal (c .before .before .before .before .place .ensures)) in
-    let h = put-more (put-more (put-more (put-more (c .before .before .before .before .before .before .before .before .before .before .before .before .put-bytes .ensures) n) (c .before .before .before .before .before .before .put-bytes2 .ensures)) p) (c .put-bytes3 .ensures) in
-    (h .next ∙ zero-add (length (refusalText r)), (put-front h (omega (arith, decimal-u64 (c .before .before .before .before .place .result) (c .before .before .before .before .place .ok))), omega (arith, decimal-u64 (c .before .before .before .before .place .result) (c .before .before .before .before .place .ok))))
+returns-2 c =
+    let at-end = c .before .before in
+    let at-decimal = at-end .before .before .before .before .before in
+    let at-place = at-decimal .before in
+    let at-text = at-place .before .before .before .before in
+    let at-digits = at-text .before .before .before .before .before in
+    let at-number = at-digits .before in
+    let at-first = at-number .before .before .before .before in
+    let at-test = at-first .before .before .before in
+    let start = at-test .before .before in
+    let r = start .args .refusal in
+    let n = put-is (at-digits .put-number .ensures .0) (decimal (codeOf r .0)) (ap decimal (at-number .number .ensures)) in
+    let p = put-is (at-decimal .put-decimal .ensures) (decimal (codeOf r .1)) (ap decimal (at-place .place .ensures)) in
+    let h = put-more (put-more (put-more (put-more (at-first .put-bytes .ensures) n) (at-text .put-bytes2 .ensures)) p) (at-end .put-bytes3 .ensures) in
+    let room = le-leb 64 (length (now (start .args .out))) (at-test .if1 .left) in
+    (rw room (ap Text.Written (h .next ∙ zero-add (length (refusalText r)))), rw room (put-front h (omega (arith, decimal-u64 (at-place .place .result) (at-place .place .ok)))))
 
 pub refusal-text-spec : {M : Type 1} → statement M
 refusal-text-spec =
     tie.close
     (tie.spec
+    returns
     slice-aggregate-put-bytes
     put-bytes-requires
     number-requires
@@ -68,4 +99,5 @@ refusal-text-spec =
     put-decimal-requires
     slice-aggregate-put-bytes-3
     put-bytes-requires-3
-    returns)
+    same-length
+    returns-2)
