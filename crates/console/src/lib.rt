@@ -1,7 +1,9 @@
-// What the test programs read and write: a stream of cases on standard input, and answers as text on standard output.
+// What the test programs read and write: a stream of cases on standard input, and answers as text on standard output. What is read and what is
+// written no contract can say: a function that only writes has none, and its comment says what it writes.
 ghost use mathlib.Core.Path.{_≡_};
 ghost use Prim.Native.Nat.{_≤_};
-ghost use lib.ListN.{length};
+ghost use lib.ListN.{length, take, replicate};
+ghost use Rattle.console.specs.Input.{Filled};
 use meaning::Decided;
 use meaning::Ran;
 use meaning::Refusal;
@@ -19,14 +21,17 @@ pub fn number() -> usize
     wire::wide(two[0]) + 256 * wire::wide(two[1])
 }
 
+// Only writes: the text.
 pub fn say(text: &[u8]) {
     io::write_all(1, text);
 }
 
+// Only writes: the number in decimal.
 pub fn say_number(n: usize) {
     io::print_decimal(1, n as u64);
 }
 
+// Only writes: "refused", the number, "at" and the place.
 pub fn say_refusal(r: Refusal) {
     say(b"refused ");
     say_number(wire::wide(r.number()));
@@ -34,6 +39,7 @@ pub fn say_refusal(r: Refusal) {
     say_number(r.place());
 }
 
+// Only writes: the verdict's word and a space.
 pub fn say_verdict(v: Verdict) {
     match v {
         Verdict::Undecided => say(b"undecided "),
@@ -43,6 +49,7 @@ pub fn say_verdict(v: Verdict) {
     }
 }
 
+// Only writes: the end state, its verdict and the count, or the refusal.
 pub fn say_run(r: Ran) {
     match r {
         Ran::Refused(why) => say_refusal(why),
@@ -63,8 +70,11 @@ pub fn say_run(r: Ran) {
     }
 }
 
-// Fills the first n bytes from the input.
-pub fn fill(buffer: &mut [u8], n: usize) -> bool {
+// Fills the first n bytes from the input: whether there were n, in the buffer and in the input. Bytes past them are kept, and all in a buffer that
+// is too short.
+pub fn fill(buffer: &mut [u8], n: usize) -> bool
+    ensures { λ r. ⌜ Filled n (now (buffer .entry)) (now (buffer .exit)) r ⌝ }
+{
     if buffer.len() < n {
         return false;
     }
@@ -72,15 +82,19 @@ pub fn fill(buffer: &mut [u8], n: usize) -> bool {
     got == n
 }
 
-pub fn front(buffer: &[u8], n: usize) -> &[u8] {
+// The first n bytes, or all where there are fewer.
+pub fn front(buffer: &[u8], n: usize) -> &[u8]
+    ensures { λ r. ⌜ now r ≡ take n (now (buffer .entry)) ⌝ }
+{
     if n <= buffer.len() {
         return &buffer[..n];
     }
     buffer
 }
 
-// Room for any table.
+// Room for any table, of which the longest has 9,479 bytes: zeros.
 pub fn room() -> [u8; 9600]
+    ensures { λ r. ⌜ r ≡ replicate 9600 0 ⌝ }
     ensures { λ r. ⌜ 9600 ≡ length r ⌝ }
 {
     [0; 9600]
