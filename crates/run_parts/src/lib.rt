@@ -107,17 +107,15 @@ pub fn successors_of(t: &[u8], signals: u8, state: u16) -> [u16; 16]
 // ---- copied rows
 
 // The successors of all the states that a table can have, copied out of the bytes, 16 to a state: a long run finds them faster here.
-pub fn rows_of(t: &[u8], signals: u8) -> [u16; 4096]
-    requires { ⌜ signals ≤ 4 ⌝ }
-    ensures { λ r. ⌜ Copied (now (t .entry)) signals r ⌝ }
+pub fn fill_rows(t: &[u8], signals: u8, rows: &mut [u16; 4096])
+    requires { ⌜ (signals ≤ 4) × (length (now rows) ≡ 4096) ⌝ }
+    ensures { λ _. ⌜ Copied (now (t .entry)) signals (now (rows .exit)) × (length (now (rows .exit)) ≡ 4096) ⌝ }
 {
-    let mut rows: [u16; 4096] = [0; 4096];
     let mut k: usize = 0;
     while k < 4096 {
         rows[k] = successor_at(t, signals, (k / 16) as u16, (k % 16) as u8);
         k += 1;
     }
-    rows
 }
 
 // The successor of a state for an event, from the copied rows where they have it.

@@ -1,23 +1,18 @@
--- Laws of a run over the bytes of a table, one event at a time.
-use mathlib.Core.Path.{_≡_, refl, ap, _∙_}
+-- Laws of a run over bytes and counts, one event at a time.
+use mathlib.Core.Path.{_≡_, refl, sym, ap, _∙_}
 use mathlib.Core.List.{List, [], _∷_}
 use mathlib.Core.Bool.{Bool, true, false, cond, _&&_}
 use Prim.Native.Nat.{ℕ, suc, _+_, _^_, _≤_, _<_}
 use native.Mathlib.Numerals.{add-one}
 use native.Mathlib.Omega.{arith}
-use native.Mathlib.Decide.{decLt}
 use borrow.Author.Tests.{lt-leb, le-leb, lt-ltb, le-ltb, leb-true, ltb-true}
 use lib.Dec.{leb, ltb}
-use Rattle.sequences.specs.Tabulate.{tabulate}
-use Rattle.sequences.proofs.Loops.{Missed, Filled, filled-to, length-tab, getD-tab}
-use Rattle.table_file.specs.Tables.{NoneAbove, Copied, admission, shownBy, ranIn}
-use Rattle.table_file.specs.declared.Admission.the-variants as Adm
-use Rattle.table_file.specs.declared.Admission.the-variants.{Granted}
-use lib.ListN.{length, getD, drop, drop-of-length-le, List·getD-append}
+use lib.ListN.{length, getD, drop, drop-of-length-le}
 use lib.Seq.{drop-cons}
+use Rattle.sequences.proofs.Tests.{holds}
 use Rattle.meaning.specs.Monitors.{Monitor, follow}
 use Rattle.meaning.specs.TableFiles.{verdictOf, verdictByte, successor, monitorIn}
-use Rattle.meaning.specs.Runs.{decides, decidedFrom, endOf, firstBad}
+use Rattle.meaning.specs.Runs.{decides, decidedFrom, endOf, firstBad, countsFit, inTable, onTable, tested, ranIn}
 use Rattle.meaning.specs.declared.Verdict.{Verdict}
 use Rattle.meaning.specs.declared.Decided.{Decided}
 use Rattle.meaning.specs.declared.Decided.the-variants.{After, Never}
@@ -26,115 +21,132 @@ use Rattle.meaning.specs.declared.Ran.the-variants as Ran
 use Rattle.meaning.specs.declared.Ran.the-variants.{Ended}
 use Rattle.meaning.specs.declared.Refusal.{Refusal}
 use Rattle.meaning.specs.declared.Refusal.the-variants.{WrongEvent, WrongState, WrongTable}
+use Rattle.table_file.proofs.Form.{countsTests}
+use Rattle.run_parts.specs.Parts.{decidesAt}
+use Rattle.table_run.specs.Tables.{admission, notedOf, shownBy, endIn}
+use Rattle.table_run.specs.declared.Admission.the-variants as Adm
+use Rattle.table_run.specs.declared.Admission.the-variants.{Granted}
 
-module _ (m : Monitor) (es : List ℕ) where
-  -- one event more
-  pub follow-step : (s i r : ℕ) → i < length es → r ≡ m .next s (getD es i 0) → follow m r (drop (i + 1) es) ≡ follow m s (drop i es)
-  follow-step s i r h e = rw (add-one i, drop-cons es i 0 h, e)
+module _ (t : List ℕ) (P S : ℕ) where
+  -- a run by one loop: at s after n events, with the count so far
+  unfoldable pub going : Decided → ℕ → ℕ → List ℕ → Ran
+  going d n s [] = cond (inTable t P S s) (Ended s (verdictOf (verdictByte t P s)) (notedOf d (decidesAt t P s) n)) (Ran.Refused WrongTable)
+  going d n s (e ∷ es) =
+      let later = going (notedOf d (decidesAt t P s) n) (suc n) (successor t P s e) es in
+      cond (inTable t P S s) later (Ran.Refused WrongTable)
 
-  pub follow-end : (s i : ℕ) → length es ≤ i → s ≡ follow m s (drop i es)
-  follow-end s i h = rw (drop-of-length-le es h)
+  -- the count, where it was there before
+  abbrev earlier : Decided → Decided → Decided
+  earlier (After k) d = After k
+  earlier Never d = d
 
-  pub decided-step : (s i r : ℕ) → i < length es → decides (m .verdict s) ≡ false → r ≡ m .next s (getD es i 0)
-      → decidedFrom m (i + 1) r (drop (i + 1) es) ≡ decidedFrom m i s (drop i es)
-  unfolding decidedFrom
-  decided-step s i r h d e = rw (add-one i, drop-cons es i 0 h, e, d)
+  noted-earlier : (d : Decided) (b : Bool) (n : ℕ) → notedOf d b n ≡ earlier d (cond b (After n) Never)
+  noted-earlier (After k) b n = refl
+  noted-earlier Never b n = refl
 
-  pub decided-now : (s i : ℕ) → decides (m .verdict s) ≡ true → decidedFrom m i s (drop i es) ≡ After i
-  unfolding decidedFrom
-  decided-now s i d = at (drop i es)
+  earlier-noted : (d : Decided) (b : Bool) (n : ℕ) (r : Decided) → earlier (notedOf d b n) r ≡ earlier d (cond b (After n) r)
+  earlier-noted (After k) b n r = refl
+  earlier-noted Never true n r = refl
+  earlier-noted Never false n r = refl
+
+  abbrev m : Monitor
+  m = monitorIn t P S
+
+  abbrev reached : Decided → ℕ → ℕ → List ℕ → Ran
+  reached d n s es = Ended (follow m s es) (m .verdict (follow m s es)) (earlier d (decidedFrom m n s es))
+
+  going-is : (d : Decided) (n s : ℕ) (es : List ℕ) → going d n s es ≡ cond (onTable t P S s es) (reached d n s es) (Ran.Refused WrongTable)
+  unfolding going onTable decidedFrom
+  going-is d n s [] = ap (λ (k : Decided). cond (inTable t P S s) (Ended s (m .verdict s) k) (Ran.Refused WrongTable)) (noted-earlier d (decidesAt t P s) n)
+  going-is d n s (e ∷ es) = go (inTable t P S s) (going-is (notedOf d (decidesAt t P s) n) (suc n) (successor t P s e) es)
     where
-      at : (l : List ℕ) → decidedFrom m i s l ≡ After i
-      at [] = rw d
-      at (e ∷ l) = rw d
+      r : ℕ
+      r = successor t P s e
 
-  pub decided-end : (s i : ℕ) (b : Bool) → length es ≤ i → b ≡ decides (m .verdict s) → decidedFrom m i s (drop i es) ≡ cond b (After i) Never
-  unfolding decidedFrom
-  decided-end s i b h e = rw (drop-of-length-le es h, e)
+      k : Decided
+      k = notedOf d (decidesAt t P s) n
 
--- how many states there are does not matter to a run
-module _ (t : List ℕ) (P S R : ℕ) where
-  follow-any : (s : ℕ) (es : List ℕ) → follow (monitorIn t P S) s es ≡ follow (monitorIn t P R) s es
-  follow-any s [] = refl
-  follow-any s (e ∷ es) = follow-any (monitorIn t P S .next s e) es
+      go : (b : Bool) → going k (suc n) r es ≡ cond (onTable t P S r es) (reached k (suc n) r es) (Ran.Refused WrongTable)
+          → cond b (going k (suc n) r es) (Ran.Refused WrongTable) ≡ cond (b && onTable t P S r es) (reached d n s (e ∷ es)) (Ran.Refused WrongTable)
+      go true h =
+          h ∙ ap (λ (x : Decided). cond (onTable t P S r es) (Ended (follow m r es) (m .verdict (follow m r es)) x) (Ran.Refused WrongTable))
+          (earlier-noted d (decidesAt t P s) n (decidedFrom m (suc n) r es))
+      go false h = refl
 
-  decided-any : (n s : ℕ) (es : List ℕ) → decidedFrom (monitorIn t P S) n s es ≡ decidedFrom (monitorIn t P R) n s es
-  unfolding decidedFrom
-  decided-any n s [] = refl
-  decided-any n s (e ∷ es) = ap (λ (d : Decided). cond (decides (monitorIn t P S .verdict s)) (After n) d) (decided-any (suc n) (monitorIn t P S .next s e) es)
+  pub going-ends : (s : ℕ) (es : List ℕ) → going Never 0 s es ≡ endIn t P S s es
+  going-ends s es = going-is Never 0 s es
 
-  pub end-any : (s : ℕ) (es : List ℕ) → endOf (monitorIn t P S) s es ≡ endOf (monitorIn t P R) s es
-  end-any s es = rw (follow-any s es, decided-any 0 s es)
+  module _ (es : List ℕ) where
+    -- one event more
+    pub going-more : (d k : Decided) (s i r : ℕ) → i < length es → inTable t P S s ≡ true → k ≡ notedOf d (decidesAt t P s) i → r ≡ successor t P s (getD es i 0)
+        → going k (i + 1) r (drop (i + 1) es) ≡ going d i s (drop i es)
+    unfolding going
+    going-more d k s i r l h p q = rw (add-one i, drop-cons es i 0 l, p, q, h)
 
-pub end-is : (m : Monitor) (s : ℕ) (es : List ℕ) (last : ℕ) (v : Verdict) (d : Decided) → last ≡ follow m s es → v ≡ m .verdict last → d ≡ decidedFrom m 0 s es
-    → Ended last v d ≡ endOf m s es
-end-is m s es last v d p q r = rw (q, r, p)
+    pub going-off : (d : Decided) (s i : ℕ) → inTable t P S s ≡ false → going d i s (drop i es) ≡ Ran.Refused WrongTable
+    unfolding going
+    going-off d s i h = at (drop i es)
+      where
+        at : (l : List ℕ) → going d i s l ≡ Ran.Refused WrongTable
+        at [] = rw h
+        at (e ∷ l) = rw h
 
--- events that are not above a number
-pub above-none : {es : List ℕ} {m : ℕ} → NoneAbove 0 es m
-above-none = record { under = λ i l. absurd (omega (arith, l)) }
-
-pub above-more : {n : ℕ} {es : List ℕ} {m : ℕ} (k : ℕ) → NoneAbove n es m → m ≤ k → getD es n 0 ≤ k → NoneAbove (n + 1) es k
-above-more {n} {es} k h p q = record { under = λ i l. go i (decLt i n) l }
-  where
-    go : (i : ℕ) → Dec (i < n) → i < n + 1 → getD es i 0 ≤ k
-    go i (yes a) l = omega (arith, h .under i a, p)
-    go i (no a) l = let e : i ≡ n = omega (arith, a, l) in rw e q
-
-pub above-missed : {n : ℕ} {es : List ℕ} {m : ℕ} (P : ℕ) → NoneAbove n es m → m < 2 ^ P → Missed n (λ i. leb (2 ^ P) (getD es i 0))
-above-missed {n} {es} P h l = record { none = λ i b. lt-leb (2 ^ P) (getD es i 0) (omega (arith, h .under i b, l)) }
-
--- rows copied from the bytes
-abbrev row : List ℕ → ℕ → ℕ → List ℕ
-row t P s = tabulate 16 (successor t P s)
-
-module _ {t : List ℕ} {P n : ℕ} {d rows : List (List ℕ)} where
-  pub copied : Filled n (λ s. row t P s) d rows → (m : ℕ) → n ≡ m → Copied t P m rows
-  copied h m e = record { there = there }
-    where
-      there : (s k : ℕ) → s < m → k < 16 → getD (getD rows s []) k 0 ≡ successor t P s k
-      there s k l b =
-          rw (filled-to m h e, List·getD-append (tabulate m (λ s. row t P s)) (drop m d) [] s (rw (length-tab m (λ s. row t P s)) l), getD-tab m (λ s. row t P s) s [] l)
-          (getD-tab 16 (successor t P s) k 0 b)
+    pub going-end : (d k : Decided) (v : Verdict) (s i : ℕ) → length es ≤ i → inTable t P S s ≡ true → v ≡ verdictOf (verdictByte t P s)
+        → k ≡ notedOf d (decidesAt t P s) i → going d i s (drop i es) ≡ Ended s v k
+    unfolding going
+    going-end d k v s i l h p q = rw (drop-of-length-le es l, h, p, q)
 
 -- where a run may start
-module _ (P S s : ℕ) where
+module _ (t : List ℕ) (P S s : ℕ) where
   pub record Start : Type 0 where
+    pub fits : countsFit t P S ≡ true
     pub few : P ≤ 4
-    pub some : 1 ≤ S
     pub inside : s < S
 
-  pub granted : admission P S s ≡ Granted → Start
-  granted h = go (leb P 4) (leb 1 S) (ltb s S) refl refl refl h
+  pub granted : admission t P S s ≡ Granted → Start
+  granted h = go (countsFit t P S) (ltb s S) refl refl h
     where
-      go : (a b c : Bool) → leb P 4 ≡ a → leb 1 S ≡ b → ltb s S ≡ c → cond (a && b) (cond c Granted (Adm.Refused WrongState)) (Adm.Refused WrongTable) ≡ Granted → Start
-      go true true true p q r e = record { few = leb-true P 4 p; some = leb-true 1 S q; inside = ltb-true s S r }
-      go true true false p q r e = let z : _≡_ {A = ℕ} 0 1 = cc in absurd (omega arith)
-      go true false c p q r e = let z : _≡_ {A = ℕ} 0 1 = cc in absurd (omega arith)
-      go false b c p q r e = let z : _≡_ {A = ℕ} 0 1 = cc in absurd (omega arith)
+      go : (a b : Bool) → countsFit t P S ≡ a → ltb s S ≡ b → cond a (cond b Granted (Adm.Refused WrongState)) (Adm.Refused WrongTable) ≡ Granted → Start
+      go true true p q e = record { fits = p; few = leb-true P 4 (holds (countsTests t P S) p 1); inside = ltb-true s S q }
+      go true false p q e = let z : _≡_ {A = ℕ} 0 1 = cc in absurd (omega arith)
+      go false b p q e = let z : _≡_ {A = ℕ} 0 1 = cc in absurd (omega arith)
 
-  pub refused : (t es : List ℕ) (x : Refusal) → admission P S s ≡ Adm.Refused x → Ran.Refused x ≡ ranIn t P S s es
-  refused t es x h = go (leb P 4 && leb 1 S) (ltb s S) refl refl h
+  pub refused : (es : List ℕ) (x : Refusal) → admission t P S s ≡ Adm.Refused x → Ran.Refused x ≡ ranIn t P S s es
+  refused es x h = go (countsFit t P S) (ltb s S) refl refl h
     where
-      go : (a c : Bool) → (leb P 4 && leb 1 S) ≡ a → ltb s S ≡ c → cond a (cond c Granted (Adm.Refused WrongState)) (Adm.Refused WrongTable) ≡ Adm.Refused x → Ran.Refused x ≡ ranIn t P S s es
-      go true true p r e = let z : _≡_ {A = ℕ} 0 1 = cc in absurd (omega arith)
-      go true false p r e = let y : x ≡ WrongState = cc in rw (p, r, y)
-      go false c p r e = let y : x ≡ WrongTable = cc in rw (p, y)
+      go : (a b : Bool) → countsFit t P S ≡ a → ltb s S ≡ b → cond a (cond b Granted (Adm.Refused WrongState)) (Adm.Refused WrongTable) ≡ Adm.Refused x
+          → Ran.Refused x ≡ ranIn t P S s es
+      go true true p q e = let z : _≡_ {A = ℕ} 0 1 = cc in absurd (omega arith)
+      go true false p q e = let y : x ≡ WrongState = cc in rw (p, q, y)
+      go false b p q e = let y : x ≡ WrongTable = cc in rw (p, y)
 
   -- the answer of a run that starts
-  module _ (t es : List ℕ) (a : Start) where
+  module _ (es : List ℕ) (a : Start) where
     pub run-bad : (b : ℕ) → b ≡ firstBad P es → b < length es → Ran.Refused (WrongEvent b) ≡ ranIn t P S s es
-    run-bad b e l = rw (le-leb P 4 (a .few), le-leb 1 S (a .some), lt-ltb s S (a .inside), e, lt-ltb (firstBad P es) (length es) (omega (arith, e, l)))
+    run-bad b e l = rw (a .fits, lt-ltb s S (a .inside), e, lt-ltb (firstBad P es) (length es) (omega (arith, e, l)))
 
-    pub run-ends : (r : Ran) → r ≡ endOf (monitorIn t P 0) s es → length es ≤ firstBad P es → r ≡ ranIn t P S s es
-    run-ends r h l = rw (le-leb P 4 (a .few), le-leb 1 S (a .some), lt-ltb s S (a .inside), le-ltb (firstBad P es) (length es) l) (h ∙ end-any t P 0 S s es)
+    pub run-ends : (r : Ran) → r ≡ endIn t P S s es → length es ≤ firstBad P es → r ≡ ranIn t P S s es
+    run-ends r h l = rw (a .fits, lt-ltb s S (a .inside), le-ltb (firstBad P es) (length es) l) h
 
   -- and of one event
-  module _ (t : List ℕ) (e : ℕ) (a : Start) where
+  module _ (e : ℕ) (a : Start) where
     pub step-refused : 2 ^ P ≤ e → Ran.Refused (WrongEvent 0) ≡ ranIn t P S s (e ∷ [])
-    step-refused h = rw (le-leb P 4 (a .few), le-leb 1 S (a .some), lt-ltb s S (a .inside), le-leb (2 ^ P) e h)
+    step-refused h = rw (a .fits, lt-ltb s S (a .inside), le-leb (2 ^ P) e h)
 
-    pub step-ended : e < 2 ^ P → (r : ℕ) (v : Verdict) (d : Decided) → r ≡ successor t P s e → v ≡ verdictOf (verdictByte t P r) → d ≡ shownBy t P s r
-        → Ended r v d ≡ ranIn t P S s (e ∷ [])
-    unfolding decidedFrom
-    step-ended h r v d p q u = rw (le-leb P 4 (a .few), le-leb 1 S (a .some), lt-ltb s S (a .inside), lt-leb (2 ^ P) e h, q, u, p)
+    module _ (h : e < 2 ^ P) (r : ℕ) (p : r ≡ successor t P s e) where
+      pub step-ended : (v : Verdict) (d : Decided) → inTable t P S s ≡ true → inTable t P S r ≡ true → v ≡ verdictOf (verdictByte t P r) → d ≡ shownBy t P s r
+          → Ended r v d ≡ ranIn t P S s (e ∷ [])
+      unfolding decidedFrom onTable
+      step-ended v d i j q u =
+          let k : inTable t P S (successor t P s e) ≡ true = rw p at j in
+          rw (a .fits, lt-ltb s S (a .inside), lt-leb (2 ^ P) e h, i, k, q, u, p)
+
+      pub step-off : inTable t P S s ≡ false → Ran.Refused WrongTable ≡ ranIn t P S s (e ∷ [])
+      unfolding onTable
+      step-off i = rw (a .fits, lt-ltb s S (a .inside), lt-leb (2 ^ P) e h, i)
+
+      pub step-away : inTable t P S s ≡ true → inTable t P S r ≡ false → Ran.Refused WrongTable ≡ ranIn t P S s (e ∷ [])
+      unfolding onTable
+      step-away i j =
+          let k : inTable t P S (successor t P s e) ≡ false = rw p at j in
+          rw (a .fits, lt-ltb s S (a .inside), lt-leb (2 ^ P) e h, i, k)

@@ -13,9 +13,9 @@ use meaning::Refusal;
 use meaning::Shown;
 use meaning::StateRow;
 use run_parts::decides_at;
+use run_parts::fill_rows;
 use run_parts::first_bad;
 use run_parts::in_table;
-use run_parts::rows_of;
 use run_parts::successor_in;
 use run_parts::successors_of;
 use table_file::counts_fit;
@@ -93,14 +93,27 @@ fn ended(t: &[u8], rows: &[u16], signals: u8, states: u16, state: u16, events: &
     Ran::Refused(Refusal::WrongTable)
 }
 
-// The same with the successors copied first, which pays from 4,096 events on.
-fn ended_by_rows(t: &[u8], signals: u8, states: u16, state: u16, events: &[u8]) -> Ran
+// The same by copied rows, which are made where there are none. This function calls itself, and so the compiler does not lay its frame, with
+// the rows, into that of a run that has no use for them.
+fn ended_by_rows(
+    t: &[u8],
+    rows: &[u16],
+    signals: u8,
+    states: u16,
+    state: u16,
+    events: &[u8],
+) -> Ran
     requires { ⌜ signals ≤ 4 ⌝ }
+    requires { ⌜ Copied (now t) signals (now rows) ⌝ }
     requires { ⌜ NoneAbove (length (now events)) (now events) 15 ⌝ }
     ensures { λ r. ⌜ r ≡ endIn (now (t .entry)) signals states state (now (events .entry)) ⌝ }
 {
-    let rows = rows_of(t, signals);
-    ended(t, &rows, signals, states, state, events)
+    if rows.len() < 1 {
+        let mut made: [u16; 4096] = [0; 4096];
+        fill_rows(t, signals, &mut made);
+        return ended_by_rows(t, &made, signals, states, state, events);
+    }
+    ended(t, rows, signals, states, state, events)
 }
 
 // A run over the bytes of a table and its counts: 14, 13 and 12 before it starts, and 14 where its way leaves the table.
@@ -115,10 +128,10 @@ pub fn run_in(t: &[u8], signals: u8, states: u16, state: u16, events: &[u8]) -> 
     if bad < events.len() {
         return Ran::Refused(Refusal::WrongEvent(bad));
     }
-    if 4096 <= events.len() {
-        return ended_by_rows(t, signals, states, state, events);
-    }
     let none: [u16; 0] = [];
+    if 4096 <= events.len() {
+        return ended_by_rows(t, &none, signals, states, state, events);
+    }
     ended(t, &none, signals, states, state, events)
 }
 

@@ -1,8 +1,8 @@
--- `table_file::first_shown` meets its contract.
+-- `table_run::first_shown` meets its contract.
 use borrow.Author.Needs.{needs}
 use mathlib.Core.Path.{sym, _∙_}
-use Rattle.table_file.proofs.first_shown.Statement.{statement}
-use Rattle.table_file.proofs.first_shown.Tie as tie
+use Rattle.table_run.proofs.first_shown.Statement.{statement}
+use Rattle.table_run.proofs.first_shown.Tie as tie
 
 decides-at-requires : tie.Need-decides-at-requires
 decides-at-requires c κs = search needs

@@ -1,0 +1,1 @@
+-- What runs and rows answer.
