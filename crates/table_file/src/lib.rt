@@ -6,6 +6,7 @@ ghost use Rattle.sequences.specs.Tabulate.{every, allBelow};
 ghost use Rattle.meaning.specs.Bytes.{u16At};
 ghost use Rattle.meaning.specs.TableFiles.{rowAt, rowTests, headerTests, checkedOf, verdictOf, verdictByte, successor};
 ghost use Rattle.meaning.specs.Runs.{countsFit};
+ghost use Rattle.table_file.specs.Rows.{contentFits};
 use events::width;
 use meaning::Checked;
 use meaning::Refusal;
@@ -60,7 +61,7 @@ fn header_fits(t: &[u8]) -> bool
 }
 
 // Whether all the successors from a place on, so many, are below the number of states.
-pub fn successors_fit(t: &[u8], at: usize, events: usize, states: u16) -> bool
+fn successors_fit(t: &[u8], at: usize, events: usize, states: u16) -> bool
     requires { ⌜ (at < 4194400) × (events ≤ 16) ⌝ }
     ensures { λ r. ⌜ r ≡ allBelow events (λ e. ltb (u16At (now (t .entry)) (at + 2 * e)) states) ⌝ }
 {
@@ -75,6 +76,18 @@ pub fn successors_fit(t: &[u8], at: usize, events: usize, states: u16) -> bool
     true
 }
 
+// Whether a state's verdict byte is one of the four, and all its successors are states.
+pub fn content_fits(t: &[u8], signals: u8, states: u16, state: u16) -> bool
+    requires { ⌜ signals ≤ 4 ⌝ }
+    ensures { λ r. ⌜ r ≡ contentFits (now (t .entry)) signals states state ⌝ }
+{
+    let at = row_at(signals, state);
+    if 3 < byte_at(t, at + 4) {
+        return false;
+    }
+    successors_fit(t, at + 5, width(signals), states)
+}
+
 fn row_fits(t: &[u8], signals: u8, states: u16, state: u16) -> bool
     requires { ⌜ signals ≤ 4 ⌝ }
     ensures { λ r. ⌜ r ≡ every (rowTests (now (t .entry)) signals states state) ⌝ }
@@ -86,10 +99,7 @@ fn row_fits(t: &[u8], signals: u8, states: u16, state: u16) -> bool
     if u16_at(t, at + 2) != 513 {
         return false;
     }
-    if 3 < byte_at(t, at + 4) {
-        return false;
-    }
-    successors_fit(t, at + 5, width(signals), states)
+    content_fits(t, signals, states, state)
 }
 
 fn rows_fit(t: &[u8], signals: u8, states: u16) -> bool

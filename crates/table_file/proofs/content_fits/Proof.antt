@@ -1,0 +1,67 @@
+-- `table_file::content_fits` meets its contract.
+use native.Mathlib.Omega.{arith}
+use mathlib.Core.Path.{_≡_, _∙_, ap, ap₂}
+use mathlib.Core.Bool.{true, false}
+use Prim.Native.Nat.{ℕ, _+_, _*_}
+use borrow.Author.Tests.{lt-leb, le-leb}
+use borrow.Author.Needs.{needs}
+use denote.Ref.{now}
+use lib.Dec.{leb, ltb}
+use lib.ListN.{getD}
+use Rattle.sequences.specs.Tabulate.{allBelow}
+use Rattle.meaning.specs.Bytes.{u16At}
+use Rattle.meaning.specs.TableFiles.{rowAt, verdictByte}
+use Rattle.table_file.proofs.content_fits.Statement.{statement}
+use Rattle.table_file.proofs.content_fits.Tie as tie
+
+row-at-requires : tie.Need-row-at-requires
+row-at-requires c κs = search needs
+
+add-byte-at : tie.Need-add-byte-at
+add-byte-at c = search needs
+
+byte-at-requires : tie.Need-byte-at-requires
+byte-at-requires c κs = search needs
+
+returns : tie.Need-returns
+returns c =
+    let placed = c .before .before in
+    let a = placed .before .before .args in
+    let byte : c .before .byte-at .result ≡ verdictByte (now (a .t)) (a .signals) (a .state)
+        = c .before .byte-at .ensures ∙ ap (λ (n : ℕ). getD (now (a .t)) (n + 4) 0) (placed .row-at .ensures .0) in
+    let h : leb (verdictByte (now (a .t)) (a .signals) (a .state)) 3 ≡ false = lt-leb (verdictByte (now (a .t)) (a .signals) (a .state)) 3 (omega (arith, c .if1 .taken, byte)) in
+    rw h
+
+add-successors-fit : tie.Need-add-successors-fit
+add-successors-fit c = search needs
+
+width-requires : tie.Need-width-requires
+width-requires c κs = search needs
+
+successors-fit-requires : tie.Need-successors-fit-requires
+successors-fit-requires c κs = search needs
+
+returns-2 : tie.Need-returns-2
+returns-2 c =
+    let tested = c .before .before in
+    let placed = tested .before .before in
+    let a = placed .before .before .args in
+    let l = now (a .t) in
+    let place : placed .row-at .result ≡ rowAt (a .signals) (a .state) = placed .row-at .ensures .0 in
+    let byte : tested .before .byte-at .result ≡ verdictByte l (a .signals) (a .state)
+        = tested .before .byte-at .ensures ∙ ap (λ (n : ℕ). getD l (n + 4) 0) place in
+    let h : leb (verdictByte l (a .signals) (a .state)) 3 ≡ true = le-leb (verdictByte l (a .signals) (a .state)) 3 (omega (arith, tested .if1 .left, byte)) in
+    rw h (c .successors-fit .ensures ∙ ap₂ (λ (k n : ℕ). allBelow n (λ e. ltb (u16At l (k + 5 + 2 * e)) (a .states))) place (c .before .width .ensures .0))
+
+pub content-fits-spec : {M : Type 1} → statement M
+content-fits-spec =
+    tie.close
+    (tie.spec
+    row-at-requires
+    add-byte-at
+    byte-at-requires
+    returns
+    add-successors-fit
+    width-requires
+    successors-fit-requires
+    returns-2)
