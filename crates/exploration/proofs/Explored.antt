@@ -2,34 +2,45 @@
 use mathlib.Core.Path.{_≡_, refl, sym, ap, _∙_, subst}
 use mathlib.Core.Bool.{Bool, cond}
 use mathlib.Core.List.{List, [], _++_}
-use Prim.Native.Nat.{ℕ, _^_, _<_}
+use Prim.Native.Nat.{ℕ, _+_, _^_, _<_}
 use native.Mathlib.Omega.{arith}
 use lib.ListN.{length, getD, drop, length-append, length-drop, List·getD-append}
 use lib.Dec.{eqb}
 use Rattle.sequences.specs.Tabulate.{tabulate}
 use Rattle.sequences.proofs.Loops.{length-tab, getD-tab}
-use Rattle.meaning.specs.Traces.{over}
+use Rattle.meaning.specs.Traces.{over, firstEvents}
+use Rattle.ltl.specs.Sets.{on}
 use Rattle.ltl.specs.Keys.{Tables, startKey, stepKey, emptyKey}
 use Rattle.walk.specs.Explore.{Explored, within, beyond, explore}
 use Rattle.labelling.specs.Arrays.{TablesIn}
-use Rattle.exploration.specs.declared.Walked.{Walked}
-use Rattle.exploration.specs.declared.Walked.the-variants as Walked
-use Rattle.exploration.specs.Arrays.{tablesIn, keyOf, keysIn, KeysFit}
-use Rattle.exploration.specs.Answers.{exploreBelow, exploreKeys, classOf, classBy, Beyond, Ended, WalkedAs, ClosedAs, ExploredAs, Explores}
-use Rattle.exploration.proofs.Tables.{whole-is, start-same, step-same}
-use Rattle.exploration.proofs.SameSteps.{explore-same}
+use Rattle.profile_sets.specs.Arrays.{setIn, Marked, tablesBy, tablesIn, Tabled, Steppable, keyOf}
+use Rattle.profile_sets.proofs.Tables.{step-held, whole-is, start-same, step-same}
+use Rattle.exploration.specs.Arrays.{keysIn, KeysFit}
+use Rattle.exploration.specs.Answers.{expandKey, exploreBelow, exploreKeys, classOf, classBy, Beyond, Ended, WalkedAs, ClosedAs, ExploredAs, Explores}
+use Rattle.exploration.proofs.SameSteps.{row-same, explore-same}
+
+-- ---- the row of a key, from its array of bools
+
+pub held-row : {w n : ℕ} {profiles : List (List ℕ)} {W : ℕ} (A : ℕ) {held : List Bool} → Steppable w n profiles W → Marked (n + n) (on A) held
+    → (keys : List ℕ) → expandKey (tablesBy n profiles W) w (setIn held) keys ≡ expandKey (tablesBy n profiles W) w A keys
+held-row {w} {n} {profiles} {W} A {held} h m keys =
+    let t = tablesBy n profiles W in
+    row-same eqb (stepKey t) (stepKey t) (startKey t) (firstEvents w) 256 (setIn held) A (λ e l. step-held h A e m l) keys
 
 -- ---- the rows and keys of the walk
 
-module _ (P : ℕ) (t : Tables) (w : ℕ) (wide : w ≡ 2 ^ P) (keys rows₀ rows : List (List ℕ)) (answer : Walked) (h : WalkedAs (exploreBelow t w) w keys rows₀ rows answer) where
-  over-signals : WalkedAs (exploreKeys t P) (2 ^ P) keys rows₀ rows answer
-  over-signals = subst (λ (v : ℕ). WalkedAs (exploreBelow t v) v keys rows₀ rows answer) wide h
+-- the arrays at other names of the width and of the labels
+pub tabled-at : {w w′ n n′ : ℕ} {profiles : List (List ℕ)} {whole : List Bool} → w ≡ w′ → n ≡ n′ → Tabled w′ n′ profiles whole → Tabled w n profiles whole
+tabled-at {w} {w′} {n} {n′} {profiles} {whole} p q h =
+    subst (λ (v : ℕ). Tabled v n profiles whole) (sym p) (subst (λ (k : ℕ). Tabled w′ k profiles whole) (sym q) h)
 
-  pub walked-closed : {count : ℕ} → answer ≡ Walked.Closed count → Ended (exploreKeys t P) (2 ^ P) count keys rows
-  walked-closed e = subst (WalkedAs (exploreKeys t P) (2 ^ P) keys rows₀ rows) e over-signals
-
-  pub walked-over : answer ≡ Walked.TooMany → Beyond (exploreKeys t P) × (rows ≡ rows₀)
-  walked-over e = subst (WalkedAs (exploreKeys t P) (2 ^ P) keys rows₀ rows) e over-signals
+-- the walk at other names of these and of the set of all profiles
+pub walked-at : {n n′ W W′ w w′ : ℕ} (profiles : List (List ℕ)) {keys : List (List ℕ)} {count : ℕ} {rows : List (List ℕ)} → w ≡ w′ → n ≡ n′ → W ≡ W′
+    → WalkedAs (exploreBelow (tablesBy n profiles W) w) w keys count rows → WalkedAs (exploreBelow (tablesBy n′ profiles W′) w′) w′ keys count rows
+walked-at {n} {n′} {W} {W′} {w} {w′} profiles {keys} {count} {rows} p q r h =
+    subst (λ (v : ℕ). WalkedAs (exploreBelow (tablesBy n′ profiles W′) v) v keys count rows) p
+    (subst (λ (k : ℕ). WalkedAs (exploreBelow (tablesBy k profiles W′) w) w keys count rows) q
+    (subst (λ (A : ℕ). WalkedAs (exploreBelow (tablesBy n profiles A) w) w keys count rows) r h))
 
 -- ---- the classes of the keys
 
@@ -50,27 +61,25 @@ module _ (t : Tables) (full : ℕ) (whole : full ≡ t .whole) {count : ℕ} {ke
 
 -- ---- the answer
 
-module _ (P : ℕ) (t : Tables) (m : Explored ℕ (List (List ℕ))) (rows₀ rows : List (List ℕ)) (classes₀ classes : List ℕ) where
+module _ (P : ℕ) (t : Tables) (m : Explored ℕ (List (List ℕ))) (rows : List (List ℕ)) (classes : List ℕ) where
   pub explored-closed : {count : ℕ} {keys : List (List ℕ)} → Ended m (2 ^ P) count keys rows
-      → ((s : ℕ) → s < count → getD classes s 0 ≡ classOf t (keyOf (getD keys s []))) → length classes ≡ 256 → ExploredAs P t m (Walked.Closed count) rows₀ rows classes₀ classes
-  explored-closed {count} {keys} h f l =
-      subst (λ (x : Explored ℕ (List (List ℕ))). ExploredAs P t x (Walked.Closed count) rows₀ rows classes₀ classes) (sym (h .is)) closed
+      → ((s : ℕ) → s < count → getD classes s 0 ≡ classOf t (keyOf (getD keys s []))) → length classes ≡ 256 → ExploredAs P t m count rows classes
+  explored-closed {count} {keys} h f l = subst (λ (x : Explored ℕ (List (List ℕ))). ExploredAs P t x count rows classes) (sym (h .is)) closed
     where
       all : length (keysIn count keys) ≡ count
       all = length-tab count (λ i. keyOf (getD keys i []))
 
-      closed : ClosedAs P t (keysIn count keys) (h .states) (Walked.Closed count) rows classes
+      closed : ClosedAs P t (keysIn count keys) (h .states) count rows classes
       closed = record {
-        count = ap Walked.Closed (sym all);
+        count = sym all;
         successors = λ s e a k. h .successors s e (subst (λ (n : ℕ). s < n) all a) k;
         class = λ s a. let k : s < count = subst (λ (n : ℕ). s < n) all a in f s k ∙ ap (classOf t) (sym (getD-tab count (λ i. keyOf (getD keys i [])) s (startKey t) k));
         rows-long = h .long;
         classes-long = l;
       }
 
-  pub explored-over : Beyond m → rows ≡ rows₀ → classes ≡ classes₀ → ExploredAs P t m Walked.TooMany rows₀ rows classes₀ classes
-  explored-over h p q =
-      subst (λ (x : Explored ℕ (List (List ℕ))). ExploredAs P t x Walked.TooMany rows₀ rows classes₀ classes) (sym (h .is)) (record { over = refl; rows-kept = p; classes-kept = q })
+  pub explored-over : {n : ℕ} → (n ≡ 257) × Beyond m → ExploredAs P t m n rows classes
+  explored-over {n} h = subst (λ (x : Explored ℕ (List (List ℕ))). ExploredAs P t x n rows classes) (sym (h .1 .is)) (h .0)
 
 module _ (P : ℕ) {n : ℕ} {t : Tables} {profiles : List (List ℕ)} {whole : List Bool} (h : TablesIn (2 ^ P) n t profiles whole) where
   pub walk-same : exploreKeys (tablesIn n profiles whole) P ≡ exploreKeys t P
@@ -82,12 +91,11 @@ module _ (P : ℕ) {n : ℕ} {t : Tables} {profiles : List (List ℕ)} {whole : 
   class-same k = ap (λ (A : ℕ). cond (emptyKey k) 2 (cond (eqb k A) 1 0)) (whole-is h)
 
   -- the answer holds at the tables themselves
-  pub explored-same : (r : Walked) (rows₀ rows : List (List ℕ)) (classes₀ classes : List ℕ)
-      → Explores P (tablesIn n profiles whole) r rows₀ rows classes₀ classes → Explores P t r rows₀ rows classes₀ classes
-  explored-same r rows₀ rows classes₀ classes a =
-      subst (λ (x : Explored ℕ (List (List ℕ))). ExploredAs P t x r rows₀ rows classes₀ classes) walk-same (go (exploreKeys (tablesIn n profiles whole) P) a)
+  pub explored-same : (r : ℕ) (rows : List (List ℕ)) (classes : List ℕ) → Explores P (tablesIn n profiles whole) r rows classes → Explores P t r rows classes
+  explored-same r rows classes a =
+      subst (λ (x : Explored ℕ (List (List ℕ))). ExploredAs P t x r rows classes) walk-same (go (exploreKeys (tablesIn n profiles whole) P) a)
     where
-      go : (m : Explored ℕ (List (List ℕ))) → ExploredAs P (tablesIn n profiles whole) m r rows₀ rows classes₀ classes → ExploredAs P t m r rows₀ rows classes₀ classes
+      go : (m : Explored ℕ (List (List ℕ))) → ExploredAs P (tablesIn n profiles whole) m r rows classes → ExploredAs P t m r rows classes
       go (within keys states) c = record {
         count = c .count;
         successors = c .successors;

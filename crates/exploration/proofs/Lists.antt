@@ -14,8 +14,9 @@ use Rattle.sequences.specs.Tabulate.{tabulate, leastBelow}
 use Rattle.sequences.proofs.Loops.{length-tab, getD-tab, least-is}
 use Rattle.sequences.proofs.Pigeonhole.{least-below}
 use Rattle.walk.specs.Explore.{locate}
-use Rattle.exploration.specs.Arrays.{keyOf, WordsFit, keysIn, KeysFit, metAt, slotOf, Slotted, MetThere}
-use Rattle.exploration.proofs.Words.{key-differ}
+use Rattle.profile_sets.specs.Arrays.{keyOf, WordsFit}
+use Rattle.profile_sets.proofs.Words.{key-differ}
+use Rattle.exploration.specs.Arrays.{keysIn, KeysFit, metAt, slotOf, Slotted, MetThere}
 
 module _ {A : Type 0} where
   tab-last : (n : ℕ) (f : ℕ → A) → tabulate (suc n) f ≡ tabulate n f ++ (f n ∷ [])

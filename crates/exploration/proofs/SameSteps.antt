@@ -1,4 +1,4 @@
--- Two step functions that agree on the events below the width lead to the same walk.
+-- Two keys that step alike have the same row, and two step functions that agree on the events below the width lead to the same walk.
 use mathlib.Core.Path.{_≡_, refl, ap, _∙_}
 use mathlib.Core.Bool.{Bool, true, false}
 use mathlib.Core.List.{List, [], _∷_, _++_}
@@ -20,26 +20,29 @@ after-same {Key} {A} f g h {v} {v′} e = ap (after f) e ∙ go v′
     go (within keys a) = h keys a
     go (beyond keys k) = refl
 
+-- the rows of two keys that step alike
+module _ {Key : Type 0} (same : Key → Key → Bool) (step step′ : Key → ℕ → Key) (start : Key) (Σ : Alphabet) (limit : ℕ) (from from′ : Key)
+    (agree : (e : ℕ) → e < Σ .width → step from e ≡ step′ from′ e) where
+  visit-same : (e : ℕ) (keys : List Key) → e < Σ .width → visit same step start Σ limit from e keys ≡ visit same step′ start Σ limit from′ e keys
+  unfolding visit
+  visit-same e keys l = ap (λ (k : Key). elim (Σ .possible e) [ true ↦ enter same start limit keys k | false ↦ within keys 0 ]) (agree e l)
+
+  entries-same : (j e : ℕ) (keys : List Key) (row : List ℕ) → e + j ≤ Σ .width
+      → expandFrom same step start Σ limit j e from keys row ≡ expandFrom same step′ start Σ limit j e from′ keys row
+  unfolding expandFrom
+  entries-same zero e keys row l = refl
+  entries-same (suc j) e keys row l =
+      after-same (λ keys′ i. expandFrom same step start Σ limit j (suc e) from keys′ (row ++ (i ∷ [])))
+      (λ keys′ i. expandFrom same step′ start Σ limit j (suc e) from′ keys′ (row ++ (i ∷ [])))
+      (λ keys′ i. entries-same j (suc e) keys′ (row ++ (i ∷ [])) (omega arith))
+      (visit-same e keys (omega arith))
+
+  pub row-same : (keys : List Key) → expand same step start Σ limit from keys ≡ expand same step′ start Σ limit from′ keys
+  unfolding expand
+  row-same keys = entries-same (Σ .width) 0 keys [] (omega arith)
+
 module _ {Key : Type 0} (same : Key → Key → Bool) (step step′ : Key → ℕ → Key) (start : Key) (Σ : Alphabet) (limit : ℕ)
     (agree : (k : Key) (e : ℕ) → e < Σ .width → step k e ≡ step′ k e) where
-  visit-same : (from : Key) (e : ℕ) (keys : List Key) → e < Σ .width → visit same step start Σ limit from e keys ≡ visit same step′ start Σ limit from e keys
-  unfolding visit
-  visit-same from e keys l = ap (λ (k : Key). elim (Σ .possible e) [ true ↦ enter same start limit keys k | false ↦ within keys 0 ]) (agree from e l)
-
-  entries-same : (j e : ℕ) (from : Key) (keys : List Key) (row : List ℕ) → e + j ≤ Σ .width
-      → expandFrom same step start Σ limit j e from keys row ≡ expandFrom same step′ start Σ limit j e from keys row
-  unfolding expandFrom
-  entries-same zero e from keys row l = refl
-  entries-same (suc j) e from keys row l =
-      after-same (λ keys′ i. expandFrom same step start Σ limit j (suc e) from keys′ (row ++ (i ∷ [])))
-      (λ keys′ i. expandFrom same step′ start Σ limit j (suc e) from keys′ (row ++ (i ∷ [])))
-      (λ keys′ i. entries-same j (suc e) from keys′ (row ++ (i ∷ [])) (omega arith))
-      (visit-same from e keys (omega arith))
-
-  row-same : (from : Key) (keys : List Key) → expand same step start Σ limit from keys ≡ expand same step′ start Σ limit from keys
-  unfolding expand
-  row-same from keys = entries-same (Σ .width) 0 from keys [] (omega arith)
-
   rows-same : (turns i : ℕ) (keys : List Key) (rows : List (List ℕ)) → exploreFrom same step start Σ limit turns i keys rows ≡ exploreFrom same step′ start Σ limit turns i keys rows
   unfolding exploreFrom
   rows-same zero i keys rows = refl
@@ -48,7 +51,7 @@ module _ {Key : Type 0} (same : Key → Key → Bool) (step step′ : Key → �
       (after-same (λ keys′ row. exploreFrom same step start Σ limit turns (suc i) keys′ (rows ++ (row ∷ [])))
       (λ keys′ row. exploreFrom same step′ start Σ limit turns (suc i) keys′ (rows ++ (row ∷ [])))
       (λ keys′ row. rows-same turns (suc i) keys′ (rows ++ (row ∷ [])))
-      (row-same (getD keys i start) keys))
+      (row-same same step step′ start Σ limit (getD keys i start) (getD keys i start) (agree (getD keys i start)) keys))
 
   pub explore-same : explore same step start Σ limit ≡ explore same step′ start Σ limit
   unfolding explore

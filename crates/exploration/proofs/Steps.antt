@@ -11,8 +11,9 @@ use Rattle.sequences.proofs.Loops.{length-tab, getD-tab}
 use Rattle.ltl.specs.Keys.{Tables, startKey, stepKey}
 use Rattle.walk.specs.Explore.{Explored, within, locate, enter, visit, expandFrom, expand, exploreFrom, explore}
 use Rattle.walk.proofs.Steps.{enter-met, enter-new, enter-over, visit-possible, expand-next, expand-over, expand-end, explore-next, explore-over, explore-end}
-use Rattle.exploration.specs.Arrays.{keyOf, WordsFit, keysIn, KeysFit, slotOf, Slotted, rowIn, rowsIn}
-use Rattle.exploration.specs.Answers.{expandKey, exploreBelow, Beyond, Within, EnteredAs, Enters, GrownAs, Ended}
+use Rattle.profile_sets.specs.Arrays.{keyOf, WordsFit}
+use Rattle.exploration.specs.Arrays.{keysIn, KeysFit, slotOf, Slotted, rowIn, rowsIn}
+use Rattle.exploration.specs.Answers.{expandKey, exploreBelow, Beyond, Within, EnteredAs, Enters, GrownAs, Ended, WalkedAs}
 use Rattle.exploration.specs.declared.Entered.{Entered}
 use Rattle.exploration.specs.declared.Entered.the-variants as Entered
 use Rattle.exploration.specs.declared.Grown.{Grown}
@@ -149,19 +150,25 @@ module _ (t : Tables) (w : ℕ) where
       }
 
       pub walking-over : (keys′ : List (List ℕ)) (slots′ row : List ℕ) (answer : Grown) → GrownAs (expandKey t w (keyOf (getD keys i [])) (keysIn count keys)) w keys′ slots′ row answer
-          → answer ≡ Grown.Full → Beyond m
-      walking-over keys′ slots′ row answer a q = let r = subst (GrownAs (expandKey t w (keyOf (getD keys i [])) (keysIn count keys)) w keys′ slots′ row) q a in record {
-        keys = r .keys;
-        key = r .key;
-        is = sym unrolled-walk ∙ explore-over eqb (stepKey t) (startKey t) (firstEvents w) 256 (256 - (i + 1)) i (keysIn count keys) (rowsIn w i rows) (omega (arith, length-all))
-            (ap (λ (k : ℕ). expandKey t w k (keysIn count keys)) this-key ∙ r .is);
-      }
+          → answer ≡ Grown.Full → WalkedAs m w keys′ 257 rows
+      walking-over keys′ slots′ row answer a q = record { closed = λ l. absurd (omega arith); over = λ l. (refl, beyond) }
+        where
+          beyond : Beyond m
+          beyond = let r = subst (GrownAs (expandKey t w (keyOf (getD keys i [])) (keysIn count keys)) w keys′ slots′ row) q a in record {
+            keys = r .keys;
+            key = r .key;
+            is = sym unrolled-walk ∙ explore-over eqb (stepKey t) (startKey t) (firstEvents w) 256 (256 - (i + 1)) i (keysIn count keys) (rowsIn w i rows) (omega (arith, length-all))
+                (ap (λ (k : ℕ). expandKey t w k (keysIn count keys)) this-key ∙ r .is);
+          }
 
-    pub walking-all : count ≤ i → Ended m w count keys rows
-    walking-all l = record {
-      states = rowsIn w i rows;
-      is = sym (h .is) ∙ explore-end eqb (stepKey t) (startKey t) (firstEvents w) 256 (256 - i) i (keysIn count keys) (rowsIn w i rows) (omega (arith, length-all));
-      fit = h .fit;
-      long = h .long;
-      successors = λ s e a b. sym (ap (λ (x : List ℕ). getD x e 0) (getD-tab i (λ s. rowIn w (getD rows s [])) s [] (omega arith)) ∙ getD-tab w (λ e. getD (getD rows s []) e 0) e 0 b);
-    }
+    pub walking-all : count ≤ i → WalkedAs m w keys count rows
+    walking-all l = record { closed = λ _. ended; over = λ k. absurd (omega (arith, h .fit .few)) }
+      where
+        ended : Ended m w count keys rows
+        ended = record {
+          states = rowsIn w i rows;
+          is = sym (h .is) ∙ explore-end eqb (stepKey t) (startKey t) (firstEvents w) 256 (256 - i) i (keysIn count keys) (rowsIn w i rows) (omega (arith, length-all));
+          fit = h .fit;
+          long = h .long;
+          successors = λ s e a b. sym (ap (λ (x : List ℕ). getD x e 0) (getD-tab i (λ s. rowIn w (getD rows s [])) s [] (omega arith)) ∙ getD-tab w (λ e. getD (getD rows s []) e 0) e 0 b);
+        }

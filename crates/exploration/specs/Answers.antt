@@ -2,7 +2,7 @@
 use mathlib.Core.Path.{_≡_}
 use mathlib.Core.Bool.{cond}
 use mathlib.Core.List.{List, []}
-use Prim.Native.Nat.{ℕ, _^_, _<_}
+use Prim.Native.Nat.{ℕ, _^_, _≤_, _<_}
 use lib.ListN.{length, getD}
 use lib.Dec.{eqb}
 use Rattle.meaning.specs.Traces.{over, firstEvents}
@@ -13,8 +13,6 @@ use Rattle.exploration.specs.declared.Entered.{Entered}
 use Rattle.exploration.specs.declared.Entered.the-variants as Entered
 use Rattle.exploration.specs.declared.Grown.{Grown}
 use Rattle.exploration.specs.declared.Grown.the-variants as Grown
-use Rattle.exploration.specs.declared.Walked.{Walked}
-use Rattle.exploration.specs.declared.Walked.the-variants as Walked
 
 -- the walk over the keys of the tables, with the events below `width` and at most 256 keys
 abbrev pub expandKey : Tables → ℕ → ℕ → List ℕ → Explored ℕ (List ℕ)
@@ -69,31 +67,26 @@ pub record Ended (m : Explored ℕ (List (List ℕ))) (width count : ℕ) (keys 
   pub long : length rows ≡ 256
   pub successors : (s e : ℕ) → s < count → e < width → getD (getD rows s []) e 0 ≡ getD (getD states s []) e 0
 
-abbrev pub WalkedAs : Explored ℕ (List (List ℕ)) → ℕ → List (List ℕ) → List (List ℕ) → List (List ℕ) → Walked → Type 0
-WalkedAs m width keys rows₀ rows (Walked.Closed count) = Ended m width count keys rows
-WalkedAs m width keys rows₀ rows Walked.TooMany = Beyond m × (rows ≡ rows₀)
+-- the walk met n keys, or with n = 257 more than 256
+pub record WalkedAs (m : Explored ℕ (List (List ℕ))) (width : ℕ) (keys : List (List ℕ)) (n : ℕ) (rows : List (List ℕ)) : Type 0 where
+  pub closed : n ≤ 256 → Ended m width n keys rows
+  pub over : 256 < n → (n ≡ 257) × Beyond m
 
 -- ---- the answer of `explore`
 
 -- the model's walk closed with these keys and rows
-pub record ClosedAs (P : ℕ) (t : Tables) (keys : List ℕ) (states : List (List ℕ)) (r : Walked) (rows : List (List ℕ)) (classes : List ℕ) : Type 0 where
-  pub count : r ≡ Walked.Closed (length keys)
+pub record ClosedAs (P : ℕ) (t : Tables) (keys : List ℕ) (states : List (List ℕ)) (n : ℕ) (rows : List (List ℕ)) (classes : List ℕ) : Type 0 where
+  pub count : n ≡ length keys
   pub successors : (s e : ℕ) → s < length keys → e < 2 ^ P → getD (getD rows s []) e 0 ≡ getD (getD states s []) e 0
   pub class : (s : ℕ) → s < length keys → getD classes s 0 ≡ classOf t (getD keys s (startKey t))
   pub rows-long : length rows ≡ 256
   pub classes-long : length classes ≡ 256
 
--- a 257th key: the arrays are as they were
-pub record StoppedAs (r : Walked) (rows₀ rows : List (List ℕ)) (classes₀ classes : List ℕ) : Type 0 where
-  pub over : r ≡ Walked.TooMany
-  pub rows-kept : rows ≡ rows₀
-  pub classes-kept : classes ≡ classes₀
-
--- by cases of the model's walk; the arrays before and after
-abbrev pub ExploredAs : ℕ → Tables → Explored ℕ (List (List ℕ)) → Walked → List (List ℕ) → List (List ℕ) → List ℕ → List ℕ → Type 0
-ExploredAs P t (within keys states) r rows₀ rows classes₀ classes = ClosedAs P t keys states r rows classes
-ExploredAs P t (beyond keys k) r rows₀ rows classes₀ classes = StoppedAs r rows₀ rows classes₀ classes
+-- by cases of the model's walk
+abbrev pub ExploredAs : ℕ → Tables → Explored ℕ (List (List ℕ)) → ℕ → List (List ℕ) → List ℕ → Type 0
+ExploredAs P t (within keys states) n rows classes = ClosedAs P t keys states n rows classes
+ExploredAs P t (beyond keys k) n rows classes = n ≡ 257
 
 -- the walk over the keys of the tables, at P signals
-abbrev pub Explores : ℕ → Tables → Walked → List (List ℕ) → List (List ℕ) → List ℕ → List ℕ → Type 0
-Explores P t r rows₀ rows classes₀ classes = ExploredAs P t (exploreKeys t P) r rows₀ rows classes₀ classes
+abbrev pub Explores : ℕ → Tables → ℕ → List (List ℕ) → List ℕ → Type 0
+Explores P t n rows classes = ExploredAs P t (exploreKeys t P) n rows classes

@@ -2,8 +2,8 @@
 use borrow.Author.Needs.{needs}
 use mathlib.Core.Path.{sym, _∙_, ap}
 use lib.Dec.{eqb}
-use Rattle.exploration.specs.Arrays.{keyOf}
-use Rattle.exploration.proofs.Words.{key-empty, empty-words}
+use Rattle.profile_sets.specs.Arrays.{keyOf}
+use Rattle.profile_sets.proofs.Words.{key-empty, empty-words}
 use Rattle.exploration.proofs.class_of.Statement.{statement}
 use Rattle.exploration.proofs.class_of.Tie as tie
 

@@ -5,7 +5,7 @@ use mathlib.Core.List.{[]}
 use Prim.Native.Nat.{_-_, _≤_}
 use lib.ListN.{getD}
 use Rattle.sequences.proofs.Loops.{Filled, filled-none, filled-more, filled-to}
-use Rattle.exploration.specs.Arrays.{keyOf}
+use Rattle.profile_sets.specs.Arrays.{keyOf}
 use Rattle.exploration.specs.Answers.{classBy}
 use Rattle.exploration.proofs.classify.Statement.{statement}
 use Rattle.exploration.proofs.classify.Tie as tie

@@ -3,7 +3,7 @@ use native.Mathlib.Omega.{arith}
 use borrow.Author.Needs.{needs}
 use mathlib.Core.Path.{sym, _∙_}
 use denote.Ref.{now}
-use Rattle.exploration.specs.Arrays.{keyOf}
+use Rattle.profile_sets.specs.Arrays.{keyOf}
 use Rattle.exploration.proofs.Lists.{locate-is}
 use Rattle.exploration.proofs.Steps.{entered-met, entered-new, entered-full}
 use Rattle.exploration.proofs.enter.Statement.{statement}

@@ -1,40 +1,46 @@
 -- `expand` meets its contract. What the model makes of the arrays at event e is what it made of them at the start.
 use native.Mathlib.Omega.{arith}
 use borrow.Author.Needs.{needs}
-use Prim.Native.Nat.{_+_, _-_}
+use mathlib.Core.Path.{subst}
+use mathlib.Core.List.{List}
+use Prim.Native.Nat.{ℕ, _+_, _-_}
 use denote.Ref.{now}
-use Rattle.exploration.specs.Arrays.{tablesIn, keyOf, keysIn}
-use Rattle.exploration.specs.Answers.{expandKey}
-use Rattle.exploration.proofs.Tables.{tabled-fewer}
+use Rattle.profile_sets.specs.Arrays.{setIn, tablesBy, keyOf}
+use Rattle.profile_sets.proofs.Tables.{labels-few, fewer-events}
+use Rattle.walk.specs.Explore.{Explored}
+use Rattle.exploration.specs.Arrays.{keysIn, rowIn}
+use Rattle.exploration.specs.Answers.{expandKey, Beyond, Within}
+use Rattle.exploration.proofs.Explored.{held-row}
 use Rattle.exploration.proofs.Steps.{entered-at, Expanding, expanding-none, expanding-more, expanding-over, expanding-all}
 use Rattle.exploration.proofs.expand.Statement.{statement}
 use Rattle.exploration.proofs.expand.Tie as tie
 
 abbrev Inv-loop : tie.InvT-loop
-Inv-loop profiles whole full n events keys₀ slots₀ count row₀ source held met₀ e₀ keys slots row met e = Expanding (tablesIn n profiles whole) events (expandKey (tablesIn n profiles whole) events (keyOf source) (keysIn count keys₀)) (keyOf source) e met keys slots row
+Inv-loop profiles full n events keys₀ slots₀ count row₀ held met₀ e₀ keys slots row met e = Expanding (tablesBy n profiles (keyOf full)) events (expandKey (tablesBy n profiles (keyOf full)) events (setIn held) (keysIn count keys₀)) (setIn held) e met keys slots row
 
 abbrev μ-loop : tie.MeasureT-loop
-μ-loop profiles whole full n events keys₀ slots₀ count row₀ source held met₀ e₀ keys slots row met e = events - e
+μ-loop profiles full n events keys₀ slots₀ count row₀ held met₀ e₀ keys slots row met e = events - e
 
 add-spread : tie.Need-add-spread Inv-loop μ-loop
-add-spread c = search needs
+add-spread c = omega (arith, labels-few (c .before .pre .0 .labels))
 
 spread-requires : tie.Need-spread-requires Inv-loop μ-loop
-spread-requires c κs = omega (arith, c .before .pre .0 .few)
+spread-requires c κs = omega (arith, labels-few (c .before .pre .0 .labels))
 
 loop-holds : tie.Need-loop-holds Inv-loop μ-loop
 loop-holds c =
-    let c₀ = c .before .before in
-    expanding-none (tablesIn (c₀ .args .n) (now (c₀ .args .profiles)) (now (c₀ .args .whole))) (c₀ .args .events) (keyOf (c₀ .args .t9)) (c₀ .pre .1 .1 .1) (c₀ .pre .1 .1 .2) (c₀ .pre .1 .1 .3)
+    let start = c .before .before in
+    let a = start .args in
+    expanding-none (tablesBy (a .n) (now (a .profiles)) (keyOf (now (a .full)))) (a .events) (setIn (c .spread .result)) (start .pre .1 .1) (start .pre .1 .2) (start .pre .1 .3)
 
 step-key-requires : tie.Need-step-key-requires Inv-loop μ-loop
 step-key-requires c κs =
-    let c₀ = c .before .before .before .before .before .before in
-    (tabled-fewer (c .before .before .before .loop .e + 1) (c₀ .pre .0) (omega arith), (c₀ .pre .1 .0, omega (arith, c₀ .pre .1 .1 .0), c .before .before .before .before .spread .ensures))
+    let start = c .before .before .before .before .before in
+    (fewer-events (start .pre .0) (c .before .before .loop .e + 1) (omega arith), omega (arith, start .pre .1 .0))
 
 enter-requires : tie.Need-enter-requires Inv-loop μ-loop
 enter-requires c κs =
-    let loop = c .before .before .before .before .before .before .loop in
+    let loop = c .before .before .before .before .before .loop in
     (loop .inv .fit, c .before .before .step-key .ensures .0, loop .inv .slotted)
 
 enum-known-entered : tie.Need-enum-known-entered Inv-loop μ-loop
@@ -45,16 +51,23 @@ enum-told c = search needs
 
 returns : tie.Need-returns Inv-loop μ-loop
 returns c =
-    let c₀ = c .before .before .before .before .before .before .before .before .before .before .before .before in
-    let step-key = c .before .before .before .before .before .step-key in
+    let in-loop = c .before .before .before .before .before .before .before in
+    let at-loop = in-loop .before in
+    let start = at-loop .before .before .before in
+    let a = start .args in
+    let step = c .before .before .before .before .before .step-key in
     let enter = c .before .before .enter in
-    expanding-over (tablesIn (c₀ .args .n) (now (c₀ .args .profiles)) (now (c₀ .args .whole))) (c₀ .args .events) (c .before .before .before .before .before .before .before .before .before .loop .inv) (c .before .before .before .before .before .before .before .before .loop-test .taken) (keyOf (step-key .result)) (step-key .ensures .1) (enter .last .0) (enter .last .1 .0) (enter .result) (enter .ensures) (c .enum-told .given .1)
+    let row = held-row (keyOf (a .t8)) (start .pre .0) (at-loop .before .spread .ensures) (keysIn (a .count) (now (a .keys))) in
+    subst (λ (m : Explored ℕ (List ℕ)). Beyond m) row
+    (expanding-over (tablesBy (a .n) (now (a .profiles)) (keyOf (now (a .full)))) (a .events) (at-loop .loop .inv) (in-loop .loop-test .taken) (keyOf (step .result)) (step .ensures .1)
+    (enter .last .0) (enter .last .1 .0) (enter .result) (enter .ensures) (c .enum-told .given .1))
 
 cast-row : tie.Need-cast-row Inv-loop μ-loop
 cast-row c =
-    let loop = c .before .before .before .before .before .before .before .before .before .before .loop in
+    let loop = c .before .before .before .before .before .before .before .before .before .loop in
+    let step = c .before .before .before .before .before .before .step-key in
     let enter = c .before .before .before .enter in
-    omega (arith, entered-at (keysIn (loop .met) (loop .keys)) (keyOf (c .before .before .before .before .before .before .step-key .result)) (enter .last .0) (enter .last .1 .0) (enter .result) (enter .ensures) (c .before .entered .given .1) 0 .1)
+    omega (arith, entered-at (keysIn (loop .met) (loop .keys)) (keyOf (step .result)) (enter .last .0) (enter .last .1 .0) (enter .result) (enter .ensures) (c .before .entered .given .1) 0 .1)
 
 mul-row : tie.Need-mul-row Inv-loop μ-loop
 mul-row c = search needs
@@ -70,15 +83,24 @@ loop-less c = search needs
 
 loop-again : tie.Need-loop-again Inv-loop μ-loop
 loop-again c =
-    let c₀ = c .before .before .before .before .before .before .before .before .before .before .before .before .before in
-    let step-key = c .before .before .before .before .before .before .step-key in
+    let in-loop = c .before .before .before .before .before .before .before .before in
+    let at-loop = in-loop .before in
+    let start = at-loop .before .before .before in
+    let a = start .args in
+    let step = c .before .before .before .before .before .before .step-key in
     let enter = c .before .before .before .enter in
-    expanding-more (tablesIn (c₀ .args .n) (now (c₀ .args .profiles)) (now (c₀ .args .whole))) (c₀ .args .events) (c .before .before .before .before .before .before .before .before .before .before .loop .inv) (c .before .before .before .before .before .before .before .before .before .loop-test .taken) (keyOf (step-key .result)) (step-key .ensures .1) (c₀ .pre .1 .1 .0) (enter .last .0) (enter .last .1 .0) (enter .result) (enter .ensures) (c .before .entered .given .1)
+    expanding-more (tablesBy (a .n) (now (a .profiles)) (keyOf (now (a .full)))) (a .events) (at-loop .loop .inv) (in-loop .loop-test .taken) (keyOf (step .result)) (step .ensures .1)
+    (start .pre .1 .0) (enter .last .0) (enter .last .1 .0) (enter .result) (enter .ensures) (c .before .entered .given .1)
 
 returns-2 : tie.Need-returns-2 Inv-loop μ-loop
 returns-2 c =
-    let c₀ = c .before .before .before .before in
-    expanding-all (tablesIn (c₀ .args .n) (now (c₀ .args .profiles)) (now (c₀ .args .whole))) (c₀ .args .events) (c .before .loop .inv) (c .loop-test .left)
+    let at-loop = c .before in
+    let start = at-loop .before .before .before in
+    let a = start .args in
+    let row = held-row (keyOf (a .t8)) (start .pre .0) (at-loop .before .spread .ensures) (keysIn (a .count) (now (a .keys))) in
+    let loop = at-loop .loop in
+    subst (λ (m : Explored ℕ (List ℕ)). Within m (loop .met) (loop .keys) (loop .slots) (rowIn (a .events) (loop .row))) row
+    (expanding-all (tablesBy (a .n) (now (a .profiles)) (keyOf (now (a .full)))) (a .events) (loop .inv) (c .loop-test .left))
 
 pub expand-spec : {M : Type 1} → statement M
 expand-spec =

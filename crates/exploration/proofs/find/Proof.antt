@@ -1,6 +1,6 @@
 -- `find` meets its contract.
 use borrow.Author.Needs.{needs}
-use Rattle.exploration.specs.Arrays.{keyOf}
+use Rattle.profile_sets.specs.Arrays.{keyOf}
 use Rattle.exploration.proofs.Lists.{found-none, found-met}
 use Rattle.exploration.proofs.find.Statement.{statement}
 use Rattle.exploration.proofs.find.Tie as tie

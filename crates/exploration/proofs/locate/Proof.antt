@@ -4,7 +4,8 @@ use borrow.Author.Needs.{needs}
 use mathlib.Core.Path.{sym, _∙_}
 use Prim.Native.Nat.{_-_, _≤_}
 use Rattle.sequences.proofs.Loops.{Missed, missed-none, missed-more, missed-found, missed-end}
-use Rattle.exploration.specs.Arrays.{keyOf, metAt}
+use Rattle.profile_sets.specs.Arrays.{keyOf}
+use Rattle.exploration.specs.Arrays.{metAt}
 use Rattle.exploration.proofs.locate.Statement.{statement}
 use Rattle.exploration.proofs.locate.Tie as tie
 

@@ -4,7 +4,7 @@ use borrow.Author.Needs.{needs}
 use mathlib.Core.Path.{refl}
 use Prim.Native.Nat.{_-_}
 use denote.Ref.{now}
-use Rattle.exploration.specs.Arrays.{tablesIn}
+use Rattle.profile_sets.specs.Arrays.{tablesBy, keyOf}
 use Rattle.exploration.specs.Answers.{exploreBelow}
 use Rattle.exploration.proofs.Steps.{Walking, walking-none, walking-more, walking-over, walking-all}
 use Rattle.exploration.proofs.Lists.{slotted-first}
@@ -12,10 +12,13 @@ use Rattle.exploration.proofs.walk.Statement.{statement}
 use Rattle.exploration.proofs.walk.Tie as tie
 
 abbrev Inv-loop : tie.InvT-loop
-Inv-loop profiles whole full n events keys₀ rows table₀ slots₀ count₀ i₀ keys table slots count i = Walking (tablesIn n profiles whole) events (exploreBelow (tablesIn n profiles whole) events) i count keys table slots
+Inv-loop profiles full n events keys₀ met₀ rows₀ slots₀ count₀ i₀ keys met rows slots count i = Walking (tablesBy n profiles (keyOf full)) events (exploreBelow (tablesBy n profiles (keyOf full)) events) i count keys rows slots
 
 abbrev μ-loop : tie.MeasureT-loop
-μ-loop profiles whole full n events keys₀ rows table₀ slots₀ count₀ i₀ keys table slots count i = 256 - i
+μ-loop profiles full n events keys₀ met₀ rows₀ slots₀ count₀ i₀ keys met rows slots count i = 256 - i
+
+no-rows-requires : tie.Need-no-rows-requires Inv-loop μ-loop
+no-rows-requires c κs = search needs
 
 element-copy-out-first : tie.Need-element-copy-out-first Inv-loop μ-loop
 element-copy-out-first c = search needs
@@ -25,8 +28,10 @@ first-slots-requires c κs = search needs
 
 loop-holds : tie.Need-loop-holds Inv-loop μ-loop
 loop-holds c =
-    let c₀ = c .before .before in
-    walking-none (tablesIn (c₀ .args .n) (now (c₀ .args .profiles)) (now (c₀ .args .whole))) (c₀ .args .events) (c₀ .pre .1 .1 .0 .1) (slotted-first (c .first-slots .ensures .0) (c .first-slots .ensures .1)) (c₀ .pre .1 .1 .0 .2) (c₀ .pre .1 .1 .1)
+    let start = c .before .before .before in
+    let a = start .args in
+    walking-none (tablesBy (a .n) (now (a .profiles)) (keyOf (now (a .full)))) (a .events)
+    (start .pre .1 .1) (slotted-first (c .first-slots .ensures .0) (c .first-slots .ensures .1)) (c .before .before .no-rows .ensures) (start .pre .1 .2)
 
 mul-key : tie.Need-mul-key Inv-loop μ-loop
 mul-key c = omega (arith, c .before .loop .inv .fit .few)
@@ -36,9 +41,9 @@ element-copy-out-key c = omega (arith, c .before .loop .inv .fit .few)
 
 expand-requires : tie.Need-expand-requires Inv-loop μ-loop
 expand-requires c κs =
-    let c₀ = c .before .before .before .before .before .before .before .before in
     let loop = c .before .before .before .before .before .loop in
-    (c₀ .pre .0, (c₀ .pre .1 .0, (c₀ .pre .1 .1 .0 .0, loop .inv .fit, loop .inv .slotted, refl)))
+    let start = c .before .before .before .before .before .before .before .before .before in
+    (start .pre .0, (start .pre .1 .0, loop .inv .fit, loop .inv .slotted, refl))
 
 enum-known-grown : tie.Need-enum-known-grown Inv-loop μ-loop
 enum-known-grown c = search needs
@@ -48,15 +53,17 @@ enum-told c = search needs
 
 returns : tie.Need-returns Inv-loop μ-loop
 returns c =
-    let c₀ = c .before .before .before .before .before .before .before .before .before .before .before in
     let expand = c .before .before .expand in
-    (walking-over (tablesIn (c₀ .args .n) (now (c₀ .args .profiles)) (now (c₀ .args .whole))) (c₀ .args .events) (c .before .before .before .before .before .before .before .before .loop .inv) (c .before .before .before .before .before .before .before .loop-test .taken) (expand .last .1 .1 .1 .1 .1 .0) (expand .last .1 .1 .1 .1 .1 .1 .0) (expand .last .1 .1 .1 .1 .1 .1 .1 .1 .1 .0) (expand .result) (expand .ensures) (c .enum-told .given .1), refl)
+    let in-loop = c .before .before .before .before .before .before .before in
+    let a = in-loop .before .before .before .before .before .args in
+    walking-over (tablesBy (a .n) (now (a .profiles)) (keyOf (now (a .full)))) (a .events) (in-loop .before .loop .inv) (in-loop .loop-test .taken)
+    (expand .last .1 .1 .1 .1 .0) (expand .last .1 .1 .1 .1 .1 .0) (expand .last .1 .1 .1 .1 .1 .1 .1 .1 .0) (expand .result) (expand .ensures) (c .enum-told .given .1)
 
-mul-table : tie.Need-mul-table Inv-loop μ-loop
-mul-table c = omega (arith, c .before .before .before .before .before .before .before .before .before .loop .inv .fit .few)
+mul-rows : tie.Need-mul-rows Inv-loop μ-loop
+mul-rows c = omega (arith, c .before .before .before .before .before .before .before .before .before .loop .inv .fit .few)
 
-array-set-from-table : tie.Need-array-set-from-table Inv-loop μ-loop
-array-set-from-table c = omega (arith, c .before .before .before .before .before .before .before .before .before .loop .inv .fit .few)
+array-set-from-rows : tie.Need-array-set-from-rows Inv-loop μ-loop
+array-set-from-rows c = omega (arith, c .before .before .before .before .before .before .before .before .before .loop .inv .fit .few)
 
 add-i : tie.Need-add-i Inv-loop μ-loop
 add-i c = omega (arith, c .before .before .before .before .before .before .before .before .before .loop .inv .fit .few)
@@ -66,17 +73,19 @@ loop-less c = omega (arith, c .before .before .before .before .before .before .b
 
 loop-again : tie.Need-loop-again Inv-loop μ-loop
 loop-again c =
-    let c₀ = c .before .before .before .before .before .before .before .before .before .before .before .before in
     let expand = c .before .before .before .expand in
-    walking-more (tablesIn (c₀ .args .n) (now (c₀ .args .profiles)) (now (c₀ .args .whole))) (c₀ .args .events) (c .before .before .before .before .before .before .before .before .before .loop .inv) (c .before .before .before .before .before .before .before .before .loop-test .taken) (expand .last .1 .1 .1 .1 .1 .0) (expand .last .1 .1 .1 .1 .1 .1 .0) (expand .last .1 .1 .1 .1 .1 .1 .1 .1 .1 .0) (expand .result) (expand .ensures) (c .before .grown .given .1)
+    let in-loop = c .before .before .before .before .before .before .before .before in
+    let a = in-loop .before .before .before .before .before .args in
+    walking-more (tablesBy (a .n) (now (a .profiles)) (keyOf (now (a .full)))) (a .events) (in-loop .before .loop .inv) (in-loop .loop-test .taken)
+    (expand .last .1 .1 .1 .1 .0) (expand .last .1 .1 .1 .1 .1 .0) (expand .last .1 .1 .1 .1 .1 .1 .1 .1 .0) (expand .result) (expand .ensures) (c .before .grown .given .1)
 
-cast-t34 : tie.Need-cast-t34 Inv-loop μ-loop
-cast-t34 c = omega (arith, c .before .loop .inv .fit .few)
+cast-met : tie.Need-cast-met Inv-loop μ-loop
+cast-met c = omega (arith, c .before .loop .inv .fit .few)
 
 returns-2 : tie.Need-returns-2 Inv-loop μ-loop
 returns-2 c =
-    let c₀ = c .before .before .before .before in
-    walking-all (tablesIn (c₀ .args .n) (now (c₀ .args .profiles)) (now (c₀ .args .whole))) (c₀ .args .events) (c .before .loop .inv) (c .loop-test .left)
+    let a = c .before .before .before .before .before .args in
+    walking-all (tablesBy (a .n) (now (a .profiles)) (keyOf (now (a .full)))) (a .events) (c .before .loop .inv) (c .loop-test .left)
 
 pub walk-spec : {M : Type 1} → statement M
 walk-spec =
@@ -84,6 +93,7 @@ walk-spec =
     (tie.spec
     Inv-loop
     μ-loop
+    no-rows-requires
     element-copy-out-first
     first-slots-requires
     loop-holds
@@ -93,10 +103,10 @@ walk-spec =
     enum-known-grown
     enum-told
     returns
-    mul-table
-    array-set-from-table
+    mul-rows
+    array-set-from-rows
     add-i
     loop-less
     loop-again
-    cast-t34
+    cast-met
     returns-2)
