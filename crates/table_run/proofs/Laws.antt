@@ -12,7 +12,7 @@ use lib.Seq.{drop-cons}
 use Rattle.sequences.proofs.Tests.{holds}
 use Rattle.meaning.specs.Monitors.{Monitor, follow}
 use Rattle.meaning.specs.TableFiles.{verdictOf, verdictByte, successor, monitorIn}
-use Rattle.meaning.specs.Runs.{decides, decidedFrom, endOf, firstBad, countsFit, inTable, onTable, tested, ranIn}
+use Rattle.meaning.specs.Runs.{decides, decidedFrom, endOf, firstBad, countsFit, inTable, onTable, tested, ranIn, noRow, rowOf, rowIn}
 use Rattle.meaning.specs.declared.Verdict.{Verdict}
 use Rattle.meaning.specs.declared.Decided.{Decided}
 use Rattle.meaning.specs.declared.Decided.the-variants.{After, Never}
@@ -22,8 +22,10 @@ use Rattle.meaning.specs.declared.Ran.the-variants.{Ended}
 use Rattle.meaning.specs.declared.Refusal.{Refusal}
 use Rattle.meaning.specs.declared.Refusal.the-variants.{WrongEvent, WrongState, WrongTable}
 use Rattle.table_file.proofs.Form.{countsTests}
+use Rattle.table_file.specs.Rows.{contentFits}
 use Rattle.run_parts.specs.Parts.{decidesAt}
 use Rattle.table_run.specs.Tables.{admission, notedOf, shownBy, endIn}
+use Rattle.table_run.specs.declared.Admission.{Admission}
 use Rattle.table_run.specs.declared.Admission.the-variants as Adm
 use Rattle.table_run.specs.declared.Admission.the-variants.{Granted}
 
@@ -103,22 +105,38 @@ module _ (t : List ℕ) (P S s : ℕ) where
     pub few : P ≤ 4
     pub inside : s < S
 
-  pub granted : admission t P S s ≡ Granted → Start
-  granted h = go (countsFit t P S) (ltb s S) refl refl h
+  pub granted : {r : Admission} → r ≡ admission t P S s → r ≡ Granted → Start
+  granted k l = go (countsFit t P S) (ltb s S) refl refl (sym k ∙ l)
     where
       go : (a b : Bool) → countsFit t P S ≡ a → ltb s S ≡ b → cond a (cond b Granted (Adm.Refused WrongState)) (Adm.Refused WrongTable) ≡ Granted → Start
       go true true p q e = record { fits = p; few = leb-true P 4 (holds (countsTests t P S) p 1); inside = ltb-true s S q }
       go true false p q e = let z : _≡_ {A = ℕ} 0 1 = cc in absurd (omega arith)
       go false b p q e = let z : _≡_ {A = ℕ} 0 1 = cc in absurd (omega arith)
 
-  pub refused : (es : List ℕ) (x : Refusal) → admission t P S s ≡ Adm.Refused x → Ran.Refused x ≡ ranIn t P S s es
-  refused es x h = go (countsFit t P S) (ltb s S) refl refl h
+  pub refused : {r : Admission} {x : Refusal} (es : List ℕ) → r ≡ admission t P S s → r ≡ Adm.Refused x → Ran.Refused x ≡ ranIn t P S s es
+  refused {r} {x} es k l = go (countsFit t P S) (ltb s S) refl refl (sym k ∙ l)
     where
       go : (a b : Bool) → countsFit t P S ≡ a → ltb s S ≡ b → cond a (cond b Granted (Adm.Refused WrongState)) (Adm.Refused WrongTable) ≡ Adm.Refused x
           → Ran.Refused x ≡ ranIn t P S s es
       go true true p q e = let z : _≡_ {A = ℕ} 0 1 = cc in absurd (omega arith)
       go true false p q e = let y : x ≡ WrongState = cc in rw (p, q, y)
       go false b p q e = let y : x ≡ WrongTable = cc in rw (p, y)
+
+  -- the row of a state
+  pub row-refused : {r : Admission} {x : Refusal} → r ≡ admission t P S s → r ≡ Adm.Refused x → noRow x ≡ rowIn t P S s
+  row-refused {r} {x} k l = go (countsFit t P S) (ltb s S) refl refl (sym k ∙ l)
+    where
+      go : (a b : Bool) → countsFit t P S ≡ a → ltb s S ≡ b → cond a (cond b Granted (Adm.Refused WrongState)) (Adm.Refused WrongTable) ≡ Adm.Refused x
+          → noRow x ≡ rowIn t P S s
+      go true true p q e = let z : _≡_ {A = ℕ} 0 1 = cc in absurd (omega arith)
+      go true false p q e = let y : x ≡ WrongState = cc in rw (p, q, y)
+      go false b p q e = let y : x ≡ WrongTable = cc in rw (p, y)
+
+  pub row-stands : Start → contentFits t P S s ≡ true → rowOf t P s ≡ rowIn t P S s
+  row-stands a h = rw (a .fits, lt-ltb s S (a .inside), h)
+
+  pub row-off : Start → contentFits t P S s ≡ false → noRow WrongTable ≡ rowIn t P S s
+  row-off a h = rw (a .fits, lt-ltb s S (a .inside), h)
 
   -- the answer of a run that starts
   module _ (es : List ℕ) (a : Start) where
@@ -139,14 +157,14 @@ module _ (t : List ℕ) (P S s : ℕ) where
       unfolding decidedFrom onTable
       step-ended v d i j q u =
           let k : inTable t P S (successor t P s e) ≡ true = rw p at j in
-          rw (a .fits, lt-ltb s S (a .inside), lt-leb (2 ^ P) e h, i, k, q, u, p)
+          rw (a .fits, i, k, lt-ltb s S (a .inside), lt-leb (2 ^ P) e h, q, u, p)
 
       pub step-off : inTable t P S s ≡ false → Ran.Refused WrongTable ≡ ranIn t P S s (e ∷ [])
       unfolding onTable
-      step-off i = rw (a .fits, lt-ltb s S (a .inside), lt-leb (2 ^ P) e h, i)
+      step-off i = rw (a .fits, i, lt-ltb s S (a .inside), lt-leb (2 ^ P) e h)
 
       pub step-away : inTable t P S s ≡ true → inTable t P S r ≡ false → Ran.Refused WrongTable ≡ ranIn t P S s (e ∷ [])
       unfolding onTable
       step-away i j =
           let k : inTable t P S (successor t P s e) ≡ false = rw p at j in
-          rw (a .fits, lt-ltb s S (a .inside), lt-leb (2 ^ P) e h, i, k)
+          rw (a .fits, i, k, lt-ltb s S (a .inside), lt-leb (2 ^ P) e h)

@@ -18,10 +18,9 @@ use run_parts::first_bad;
 use run_parts::in_table;
 use run_parts::successor_in;
 use run_parts::successors_of;
+use table_file::content_fits;
 use table_file::counts_fit;
-use table_file::row_at;
 use table_file::successor_at;
-use table_file::successors_fit;
 use table_file::verdict_at;
 use wire::wide;
 
@@ -64,9 +63,8 @@ fn noted(first: Decided, shows: bool, count: usize) -> Decided
 
 // Where a run ends; 14 where its way leaves the table.
 fn ended(t: &[u8], rows: &[u16], signals: u8, states: u16, state: u16, events: &[u8]) -> Ran
-    requires { ⌜ signals ≤ 4 ⌝ }
+    requires { ⌜ (signals ≤ 4) × NoneAbove (length (now events)) (now events) 15 ⌝ }
     requires { ⌜ Copied (now t) signals (now rows) ⌝ }
-    requires { ⌜ NoneAbove (length (now events)) (now events) 15 ⌝ }
     ensures { λ r. ⌜ r ≡ endIn (now (t .entry)) signals states state (now (events .entry)) ⌝ }
 {
     let mut first = Decided::Never;
@@ -103,9 +101,8 @@ fn ended_by_rows(
     state: u16,
     events: &[u8],
 ) -> Ran
-    requires { ⌜ signals ≤ 4 ⌝ }
+    requires { ⌜ (signals ≤ 4) × NoneAbove (length (now events)) (now events) 15 ⌝ }
     requires { ⌜ Copied (now t) signals (now rows) ⌝ }
-    requires { ⌜ NoneAbove (length (now events)) (now events) 15 ⌝ }
     ensures { λ r. ⌜ r ≡ endIn (now (t .entry)) signals states state (now (events .entry)) ⌝ }
 {
     if rows.len() < 1 {
@@ -196,15 +193,13 @@ pub fn row_in(t: &[u8], signals: u8, states: u16, state: u16) -> StateRow
     if let Admission::Refused(why) = admitted {
         return no_row(why);
     }
-    if in_table(t, signals, states, state) {
-        if successors_fit(t, row_at(signals, state) + 5, width(signals), states) {
-            let verdict = verdict_at(t, signals, state);
-            let successors = successors_of(t, signals, state);
-            return StateRow {
-                shown: Shown::Verdict(verdict),
-                successors,
-            };
-        }
+    if content_fits(t, signals, states, state) {
+        let verdict = verdict_at(t, signals, state);
+        let successors = successors_of(t, signals, state);
+        return StateRow {
+            shown: Shown::Verdict(verdict),
+            successors,
+        };
     }
     no_row(Refusal::WrongTable)
 }
