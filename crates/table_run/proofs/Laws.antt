@@ -123,8 +123,8 @@ module _ (t : List ℕ) (P S s : ℕ) where
       go false b p q e = let y : x ≡ WrongTable = cc in rw (p, y)
 
   -- the row of a state
-  pub row-refused : {r : Admission} {x : Refusal} → r ≡ admission t P S s → r ≡ Adm.Refused x → noRow x ≡ rowIn t P S s
-  row-refused {r} {x} k l = go (countsFit t P S) (ltb s S) refl refl (sym k ∙ l)
+  pub row-denied : {r : Admission} {x : Refusal} → r ≡ admission t P S s → r ≡ Adm.Refused x → noRow x ≡ rowIn t P S s
+  row-denied {r} {x} k l = go (countsFit t P S) (ltb s S) refl refl (sym k ∙ l)
     where
       go : (a b : Bool) → countsFit t P S ≡ a → ltb s S ≡ b → cond a (cond b Granted (Adm.Refused WrongState)) (Adm.Refused WrongTable) ≡ Adm.Refused x
           → noRow x ≡ rowIn t P S s

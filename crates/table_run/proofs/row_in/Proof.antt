@@ -2,7 +2,7 @@
 use mathlib.Core.Path.{sym, _∙_}
 use borrow.Author.Needs.{needs}
 use denote.Ref.{now}
-use Rattle.table_run.proofs.Laws.{granted, row-refused, row-stands, row-off}
+use Rattle.table_run.proofs.Laws.{granted, row-denied, row-stands, row-off}
 use Rattle.table_run.proofs.row_in.Statement.{statement}
 use Rattle.table_run.proofs.row_in.Tie as tie
 
@@ -19,7 +19,7 @@ returns : tie.Need-returns
 returns c =
     let asked = c .before .before .before .before in
     let a = asked .before .before .args in
-    c .no-row .ensures ∙ row-refused (now (a .t)) (a .signals) (a .states) (a .state) (asked .admit .ensures) (c .before .before .admitted .given .1)
+    c .no-row .ensures ∙ row-denied (now (a .t)) (a .signals) (a .states) (a .state) (asked .admit .ensures) (c .before .before .admitted .given .1)
 
 enum-told : tie.Need-enum-told
 enum-told c = search needs

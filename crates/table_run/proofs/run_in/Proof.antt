@@ -1,59 +1,81 @@
+-- `table_run::run_in` meets its contract.
+use native.Mathlib.Omega.{arith}
+use Prim.Native.Nat.{_≤_}
 use borrow.Author.Needs.{needs}
+use denote.Ref.{now}
+use lib.ListN.{length}
+use Rattle.meaning.specs.Runs.{firstBad}
+use Rattle.run_parts.proofs.Laws.{none-above, copied-none}
+use Rattle.table_run.proofs.Laws.{granted, refused, run-bad, run-ends}
 use Rattle.table_run.proofs.run_in.Statement.{statement}
 use Rattle.table_run.proofs.run_in.Tie as tie
-use Rattle.table_run.proofs.run_in.Reads as reads
-use Rattle.table_run.proofs.run_in.Lts as lts
-use Rattle.run_parts.proofs.first_bad.Reads as first-bad-reads
-use Rattle.table_run.proofs.admit.Reads as admit-reads
-use Rattle.table_run.proofs.ended.Reads as ended-reads
-use Rattle.table_run.proofs.ended_by_rows.Reads as ended-by-rows-reads
 
--- src/lib.rt:120:9
 admit-requires : tie.Need-admit-requires
 admit-requires c κs = search needs
 
--- src/lib.rt:121:31
 enum-known-admitted : tie.Need-enum-known-admitted
 enum-known-admitted c = search needs
 
--- src/lib.rt:122:9
 returns : tie.Need-returns
-returns c = ?
+returns c =
+    let asked = c .before .before .before in
+    let a = asked .before .before .before .args in
+    refused (now (a .t)) (a .signals) (a .states) (a .state) (now (a .events)) (asked .admit .ensures) (c .before .admitted .given .1)
 
 enum-told : tie.Need-enum-told
 enum-told c = search needs
 
--- src/lib.rt:124:9
 first-bad-requires : tie.Need-first-bad-requires
-first-bad-requires c κs = ?
+first-bad-requires c κs =
+    let a = c .before .before .before .before .before .args in
+    granted (now (a .t)) (a .signals) (a .states) (a .state) (c .before .before .admit .ensures) (c .enum-told .given .1) .few
 
--- src/lib.rt:126:9
 returns-2 : tie.Need-returns-2
-returns-2 c = ?
+returns-2 c =
+    let told = c .before .before in
+    let a = told .before .before .before .before .before .args in
+    let start = granted (now (a .t)) (a .signals) (a .states) (a .state) (told .before .before .admit .ensures) (told .enum-told .given .1) in
+    run-bad (now (a .t)) (a .signals) (a .states) (a .state) (now (a .events)) start (c .before .first-bad .result) (c .before .first-bad .ensures .0) (c .if1 .taken)
 
--- src/lib.rt:130:33
+ended-by-rows-requires : tie.Need-ended-by-rows-requires
+ended-by-rows-requires c κs =
+    let none = c .before .before in
+    let told = none .before .before in
+    let a = told .before .before .before .before .before .args in
+    let start = granted (now (a .t)) (a .signals) (a .states) (a .state) (told .before .before .admit .ensures) (told .enum-told .given .1) in
+    let good : length (now (a .events)) ≤ firstBad (a .signals) (now (a .events)) = omega (arith, none .if1 .left, none .before .first-bad .ensures .0) in
+    ((start .few, none-above (a .signals) (now (a .events)) (start .few) good), copied-none)
+
+returns-3 : tie.Need-returns-3
+returns-3 c =
+    let none = c .before .before .before in
+    let told = none .before .before in
+    let a = told .before .before .before .before .before .args in
+    let start = granted (now (a .t)) (a .signals) (a .states) (a .state) (told .before .before .admit .ensures) (told .enum-told .given .1) in
+    run-ends (now (a .t)) (a .signals) (a .states) (a .state) (now (a .events)) start _ (c .ended-by-rows .ensures) (omega (arith, none .if1 .left, none .before .first-bad .ensures .0))
+
+ended-requires : tie.Need-ended-requires
+ended-requires c κs =
+    let none = c .before .before in
+    let told = none .before .before in
+    let a = told .before .before .before .before .before .args in
+    let start = granted (now (a .t)) (a .signals) (a .states) (a .state) (told .before .before .admit .ensures) (told .enum-told .given .1) in
+    let good : length (now (a .events)) ≤ firstBad (a .signals) (now (a .events)) = omega (arith, none .if1 .left, none .before .first-bad .ensures .0) in
+    ((start .few, none-above (a .signals) (now (a .events)) (start .few) good), copied-none)
+
+returns-4 : tie.Need-returns-4
+returns-4 c =
+    let none = c .before .before .before in
+    let told = none .before .before in
+    let a = told .before .before .before .before .before .args in
+    let start = granted (now (a .t)) (a .signals) (a .states) (a .state) (told .before .before .admit .ensures) (told .enum-told .given .1) in
+    run-ends (now (a .t)) (a .signals) (a .states) (a .state) (now (a .events)) start _ (c .ended .ensures) (omega (arith, none .if1 .left, none .before .first-bad .ensures .0))
+
 slice-aggregate-ended-by-rows : tie.Need-slice-aggregate-ended-by-rows
 slice-aggregate-ended-by-rows c = search needs
 
--- src/lib.rt:130:9
-ended-by-rows-requires : tie.Need-ended-by-rows-requires
-ended-by-rows-requires c κs = ?
-
--- src/lib.rt:130:9
-returns-3 : tie.Need-returns-3
-returns-3 c = ?
-
--- src/lib.rt:132:14
 slice-aggregate-ended : tie.Need-slice-aggregate-ended
 slice-aggregate-ended c = search needs
-
--- src/lib.rt:132:5
-ended-requires : tie.Need-ended-requires
-ended-requires c κs = ?
-
--- src/lib.rt:117:1
-returns-4 : tie.Need-returns-4
-returns-4 c = ?
 
 pub run-in-spec : {M : Type 1} → statement M
 run-in-spec =
