@@ -2,7 +2,7 @@
 use mathlib.Core.Path.{_≡_, refl, sym, ap, _∙_, subst}
 use mathlib.Core.List.{List}
 use mathlib.Core.Bool.{Bool}
-use Prim.Native.Nat.{ℕ, _^_, _≤_}
+use Prim.Native.Nat.{ℕ, _^_, _≤_, _<_}
 use native.Mathlib.Omega.{arith}
 use lib.ListN.{length, take, length-take}
 use Rattle.meaning.specs.Traces.{over}
@@ -20,13 +20,9 @@ use Rattle.smallest.proofs.Accepted.{Signals, Formed}
 use Rattle.ltl.proofs.Nodes.{split-temporals}
 use Rattle.valuation.specs.Valued.{Valuable}
 use Rattle.labelling.specs.Arrays.{TablesIn}
-use Rattle.exploration.specs.Arrays.{tablesIn, Tabled}
-use Rattle.exploration.proofs.Tables.{tabled}
-use Rattle.ltl.specs.Keys.{Tables}
+use Rattle.profile_sets.specs.Arrays.{tablesIn}
 use Rattle.exploration.proofs.Explored.{explored-same}
 use Rattle.exploration.specs.Answers.{exploreKeys, ExploredAs, Explores}
-use Rattle.exploration.specs.declared.Walked.{Walked}
-use Rattle.exploration.specs.declared.Walked.the-variants as Walked
 use Rattle.monitor.specs.Build.{outcomeOf, answerTo, outputOf, answerOf, outputAfter}
 use Rattle.monitor.specs.Parts.{Finished, ruleIn}
 use Rattle.monitor.proofs.Walking.{tablesFor, classList, closes, goes-beyond, machine-in, agrees}
@@ -37,78 +33,62 @@ pub record Answers (r : Rule) (before : List ℕ) (b : Built) (after : List ℕ)
   pub answer : b ≡ answerOf (Judgement.Accepted r) before
   pub output : after ≡ outputAfter (Judgement.Accepted r) before
 
--- the answer of the walk over a rule's keys
-pub record Walks (r : Rule) (w : Walked) (rows₀ rows : List (List ℕ)) (classes₀ classes : List ℕ) : Type 0 where
-  pub is : Explores (r .signals) (tablesFor r) w rows₀ rows classes₀ classes
+-- the walk over a rule's keys met n of them
+pub record Walks (r : Rule) (n : ℕ) (rows : List (List ℕ)) (classes : List ℕ) : Type 0 where
+  pub is : Explores (r .signals) (tablesFor r) n rows classes
 
 -- the walk closed with n states
 record Found (r : Rule) (n : ℕ) (rows : List (List ℕ)) (classes : List ℕ) : Type 0 where
-  few : n ≤ 256
   machine : Machine (over (r .signals)) n rows classes
   states : List (List ℕ)
   model : List ℕ
   agree : Agree (over (r .signals)) n rows states classes model
   outcome : outcomeOf r ≡ Table (reducedBytes (over (r .signals)) (r .signals) n states model)
 
-module _ (r : Rule) (s : Signals (r .signals)) {rows₀ rows : List (List ℕ)} {classes₀ classes : List ℕ} where
-  found : (n : ℕ) → Walks r (Walked.Closed n) rows₀ rows classes₀ classes → Found r n rows classes
-  found n a = go (exploreKeys (tablesFor r) (r .signals)) refl (a .is)
+module _ {r : Rule} (s : Signals (r .signals)) {n : ℕ} {rows : List (List ℕ)} {classes : List ℕ} (a : Walks r n rows classes) where
+  found : n ≤ 256 → Found r n rows classes
+  found l = go (exploreKeys (tablesFor r) (r .signals)) refl (a .is)
     where
-      go : (m : Explored ℕ (List (List ℕ))) → exploreKeys (tablesFor r) (r .signals) ≡ m → ExploredAs (r .signals) (tablesFor r) m (Walked.Closed n) rows₀ rows classes₀ classes → Found r n rows classes
+      go : (m : Explored ℕ (List (List ℕ))) → exploreKeys (tablesFor r) (r .signals) ≡ m → ExploredAs (r .signals) (tablesFor r) m n rows classes → Found r n rows classes
       go (within keys states) q A =
           let C = closes r s keys states q in
-          let e : length keys ≡ n = cc (A .count) in
-          subst (λ (k : ℕ). Found r k rows classes) e
+          subst (λ (k : ℕ). Found r k rows classes) (sym (A .count))
           (record {
-            few = C .few;
             machine = machine-in r C A;
             states = states;
             model = classList r keys;
             agree = agrees r C A;
             outcome = C .outcome ∙ ap (λ (k : ℕ). Table (reducedBytes (over (r .signals)) (r .signals) k states (classList r keys))) (C .count);
           })
-      go (beyond keys k) q A = let z : _≡_ {A = ℕ} 0 1 = cc (A .over) in absurd (omega arith)
+      go (beyond keys k) q A = absurd (omega arith)
 
-  pub closed-few : (n : ℕ) → Walks r (Walked.Closed n) rows₀ rows classes₀ classes → n ≤ 256
-  closed-few n a = found n a .few
+  pub closed-machine : n ≤ 256 → Machine (over (r .signals)) n rows classes
+  closed-machine l = found l .machine
 
-  pub closed-machine : (n : ℕ) → Walks r (Walked.Closed n) rows₀ rows classes₀ classes → Machine (over (r .signals)) n rows classes
-  closed-machine n a = found n a .machine
-
-  pub closed-answers : (n : ℕ) → Walks r (Walked.Closed n) rows₀ rows classes₀ classes → (before after : List ℕ) (b : Built)
-      → Finished (r .signals) n rows classes before b after → Answers r before b after
-  closed-answers n a before after b F =
-      let f = found n a in
+  pub closed-answers : n ≤ 256 → (before after : List ℕ) (b : Built) → Finished (r .signals) n rows classes before b after → Answers r before b after
+  closed-answers l before after b F =
+      let f = found l in
       let is : outcomeOf r ≡ Table (tableBytes (r .signals) (F .groups) (F .bytes) (F .to)) = f .outcome ∙ ap Table (sym (bytes-are (r .signals) n (f .agree) (F .reduction))) in
       record {
         answer = F .answer ∙ answer-is r (F .groups) (F .bytes) (F .to) is before;
         output = F .output ∙ output-is r (F .groups) (F .bytes) (F .to) is before;
       }
 
-  pub over-answers : Walks r Walked.TooMany rows₀ rows classes₀ classes → (before : List ℕ) → Answers r before (Built.Refused TooManyResiduals) before
-  over-answers a before = go (exploreKeys (tablesFor r) (r .signals)) refl (a .is)
+  pub over-answers : 256 < n → (before : List ℕ) → Answers r before (Built.Refused TooManyResiduals) before
+  over-answers l before = go (exploreKeys (tablesFor r) (r .signals)) refl (a .is)
     where
-      go : (m : Explored ℕ (List (List ℕ))) → exploreKeys (tablesFor r) (r .signals) ≡ m → ExploredAs (r .signals) (tablesFor r) m Walked.TooMany rows₀ rows classes₀ classes → Answers r before (Built.Refused TooManyResiduals) before
-      go (within keys states) q A = let z : _≡_ {A = ℕ} 0 1 = cc (A .count) in absurd (omega arith)
+      go : (m : Explored ℕ (List (List ℕ))) → exploreKeys (tablesFor r) (r .signals) ≡ m → ExploredAs (r .signals) (tablesFor r) m n rows classes → Answers r before (Built.Refused TooManyResiduals) before
+      go (within keys states) q A = absurd (omega (arith, closes r s keys states q .few, A .count))
       go (beyond keys k) q A =
           let e = goes-beyond r s keys k q in
           record { answer = ap (λ (x : Outcome). answerTo x before) (sym e); output = ap (λ (x : Outcome). outputOf x before) (sym e) }
 
 -- the answer of the walk over the arrays, as one over the rule's keys
-pub walks : (r : Rule) (labels m : ℕ) (profiles : List (List ℕ)) (whole : List Bool) (w w′ : Walked) (rows₀ rows : List (List ℕ)) (classes₀ classes : List ℕ)
-    → TablesIn (2 ^ r .signals) (2 ^ m) (tablesFor r) profiles whole → labels ≡ 2 ^ m → w ≡ w′
-    → Explores (r .signals) (tablesIn labels profiles whole) w rows₀ rows classes₀ classes → Walks r w′ rows₀ rows classes₀ classes
-walks r labels m profiles whole w w′ rows₀ rows classes₀ classes T l e E =
-    subst (λ (x : Walked). Walks r x rows₀ rows classes₀ classes) e
-    (record {
-      is = explored-same (r .signals) T w rows₀ rows classes₀ classes
-          (subst (λ (n : ℕ). Explores (r .signals) (tablesIn n profiles whole) w rows₀ rows classes₀ classes) l E);
-    })
+pub walks : (r : Rule) {k : ℕ} {profiles : List (List ℕ)} {whole : List Bool} (n : ℕ) (rows : List (List ℕ)) (classes : List ℕ) → TablesIn (2 ^ r .signals) k (tablesFor r) profiles whole
+    → Explores (r .signals) (tablesIn k profiles whole) n rows classes → Walks r n rows classes
+walks r n rows classes T E = record { is = explored-same (r .signals) T n rows classes E }
 
 -- what the tables ask of the nodes
 pub valuable : (P count : ℕ) (nodes : List Node) → Formed (ruleIn P count nodes) → count ≤ 64 → Valuable count nodes
 valuable P count nodes f l =
     record { some = omega (arith, f .some, length-take count nodes); few = l; temporal = omega (arith, split-temporals (take count nodes), f .temporal) }
-
-pub tabled-at : {P m labels : ℕ} {t : Tables} {profiles : List (List ℕ)} {whole : List Bool} → TablesIn P m t profiles whole → labels ≡ m → Tabled P labels profiles whole
-tabled-at {P} {m} {labels} {t} {profiles} {whole} T e = subst (λ (n : ℕ). Tabled P n profiles whole) (sym e) (tabled T)

@@ -23,7 +23,6 @@ use Rattle.smallest.proofs.Tables.{over-signals}
 use Rattle.smallest.proofs.Smallest.{table-within, table-beyond}
 use Rattle.exploration.specs.Answers.{exploreKeys, ClosedAs}
 use Rattle.exploration.specs.Answers as Walk
-use Rattle.exploration.specs.declared.Walked.{Walked}
 use Rattle.monitor.specs.Build.{outcomeOf}
 
 -- the tables of a rule
@@ -57,7 +56,7 @@ class-few true c = omega arith
 class-few false true = omega arith
 class-few false false = omega arith
 
-module _ (r : Rule) {keys : List ℕ} {states rows : List (List ℕ)} {answer : Walked} {classes : List ℕ}
+module _ (r : Rule) {keys : List ℕ} {states rows : List (List ℕ)} {answer : ℕ} {classes : List ℕ}
     (C : Closes r keys states) (A : ClosedAs (r .signals) (tablesFor r) keys states answer rows classes) where
   -- the arrays are a machine
   pub machine-in : Machine (over (r .signals)) (length keys) rows classes

@@ -10,18 +10,11 @@ ghost use Rattle.meaning.specs.RuleFiles.{Accepted, judge};
 ghost use Rattle.smallest.proofs.Accepted.{Formed};
 ghost use Rattle.monitor.specs.Build.{answerOf, outputAfter, Right};
 ghost use Rattle.monitor.specs.Parts.{Finished, ruleIn};
-use exploration::Walked;
+use exploration::no_rows;
 use meaning::Built;
 use meaning::Node;
 use meaning::Refusal;
 use rule_file::Outcome;
-
-// 256 rows of zeros.
-fn no_rows() -> [[u16; 16]; 256]
-    ensures { λ r. ⌜ length {A = List ℕ} r ≡ 256 ⌝ }
-{
-    [[0; 16]; 256]
-}
 
 fn zeros() -> [u8; 256]
     ensures { λ r. ⌜ length r ≡ 256 ⌝ }
@@ -68,13 +61,12 @@ fn construct(signals: u8, count: u8, nodes: [Node; 64], table: &mut [u8]) -> Bui
     let mut profiles = no_profiles();
     let mut whole = nowhere();
     let m = labelling::tables(signals, count, nodes, &mut profiles, &mut whole);
-    let labels = events::power(m);
-    let mut rows = no_rows();
+    let mut states: u16 = 0;
     let mut classes = zeros();
-    let walked = exploration::explore(signals, labels, &profiles, &whole, &mut rows, &mut classes);
-    let Walked::Closed(states) = walked else {
+    let rows = exploration::explore(signals, m, &profiles, &whole, &mut states, &mut classes);
+    if 256 < states {
         return Built::Refused(Refusal::TooManyResiduals);
-    };
+    }
     finish(signals, states, &classes, rows, table)
 }
 

@@ -15,13 +15,20 @@ reduce-requires : tie.Need-reduce-requires
 reduce-requires c κs = search needs
 
 write-requires : tie.Need-write-requires
-write-requires c κs = ((search needs, omega (arith, c .before .before .before .reduce .ensures .fewer)), (verdicts-kept (c .before .before .before .reduce .ensures) 256 (search needs) (c .before .before .before .before .before .before .before .zeros .ensures), rows-kept (c .before .before .before .reduce .ensures) 256 (search needs) (c .before .before .before .before .before .before .no-rows .ensures)))
+write-requires c κs =
+    let reduce = c .before .before .before .reduce in
+    let to = c .before .before .before .before .before .before .no-rows in
+    let verdicts = c .before .before .before .before .before .before .before .zeros in
+    ((search needs, omega (arith, reduce .ensures .fewer)), (verdicts-kept (reduce .ensures) 256 (search needs) (verdicts .ensures), rows-kept (reduce .ensures) 256 (search needs) (to .ensures)))
 
 same-length : tie.Need-same-length
 same-length c = search needs
 
 returns : tie.Need-returns
-returns c = record { groups = c .before .before .before .before .before .before .reduce .result; bytes₀ = _; to₀ = _; bytes = _; to = _; reduction = c .before .before .before .before .before .before .reduce .ensures; answer = c .before .before .write .ensures .0; output = c .before .before .write .ensures .1 }
+returns c =
+    let reduce = c .before .before .before .before .before .before .reduce in
+    let write = c .before .before .write in
+    record { groups = reduce .result; bytes₀ = _; to₀ = _; bytes = _; to = _; reduction = reduce .ensures; answer = write .ensures .0; output = write .ensures .1 }
 
 pub finish-spec : {M : Type 1} → statement M
 finish-spec =
