@@ -1,38 +1,29 @@
-// Prints the table of a rule file: the first 4,096 bytes of standard input, or all if there are fewer. A refusal prints as one line.
+// Prints the table of a rule file as text; a refusal prints as one line.
+ghost use mathlib.Core.Path.{_≡_};
+ghost use lib.ListN.{length};
 use console::front;
-use console::room;
-use console::say;
-use meaning::Built;
-use meaning::Refusal;
 use table_text::Text;
 
-fn say_refusal(why: Refusal) {
-    let mut line = [0u8; 64];
-    let n = table_text::refusal_text(why, &mut line);
-    say(front(&line, n));
+// What is taken: the first 4,096 bytes of standard input, or all if there are fewer.
+fn input() -> [u8; 4096]
+    ensures { λ r. ⌜ 4096 ≡ length r ⌝ }
+{
+    [0; 4096]
 }
 
-// Room for the text of any table.
-fn page() -> [u8; 32768] {
+// Room for every text.
+fn page() -> [u8; 32768]
+    ensures { λ r. ⌜ 32768 ≡ length r ⌝ }
+{
     [0; 32768]
 }
 
-fn say_table(table: &[u8]) {
-    let mut text = page();
-    let written = table_text::table_text(table, &mut text);
-    match written {
-        Text::Written(n) => say(front(&text, n)),
-        Text::Refused(why) => say_refusal(why),
-    }
-}
-
 fn main() {
-    let mut rule = io::buffer();
+    let mut rule = input();
     let n = io::read_full(0, &mut rule);
-    let mut table = room();
-    let built = monitor::build(front(&rule, n), &mut table);
-    match built {
-        Built::Table(length) => say_table(front(&table, length)),
-        Built::Refused(why) => say_refusal(why),
+    let mut text = page();
+    let written = table_printer::print_rule(front(&rule, n), &mut text);
+    if let Text::Written(length) = written {
+        io::write_all(1, front(&text, length));
     }
 }
