@@ -6,6 +6,6 @@ use Rattle.meaning.specs.RuleFiles.{judge}
 use Rattle.meaning.specs.declared.Built.{Built}
 use Rattle.monitor.specs.Build.{answerOf, outputAfter, Right}
 
-pub right-by : (file out : List ℕ) {after : List ℕ} {r : Built} → r ≡ answerOf (judge file) out → after ≡ outputAfter (judge file) out → Right file after r
-    → Right file after (answerOf (judge file) out)
-right-by file out {after} e _ h = subst (λ (b : Built). Right file after b) e h
+pub right-by : (file out : List ℕ) {after : List ℕ} {r : Built} → r ≡ answerOf (judge file) out → after ≡ outputAfter (judge file) out → Right file out after r
+    → Right file out after (answerOf (judge file) out)
+right-by file out {after} e _ h = subst (λ (b : Built). Right file out after b) e h

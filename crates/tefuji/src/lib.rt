@@ -88,7 +88,7 @@ fn count_after(ran: Ran, was: u64) -> u64
 pub extern "C" fn tefuji_build(rule: &[u8], table: &mut [u8]) -> u64
     ensures answer { λ r. ⌜ r ≡ builtCode (answerOf (judge (now (rule .entry))) (now (table .entry))) ⌝ }
     ensures output { λ _. ⌜ now (table .exit) ≡ outputAfter (judge (now (rule .entry))) (now (table .entry)) ⌝ }
-    ensures demands { λ _. ⌜ Right (now (rule .entry)) (now (table .exit)) (answerOf (judge (now (rule .entry))) (now (table .entry))) ⌝ }
+    ensures demands { λ _. ⌜ Right (now (rule .entry)) (now (table .entry)) (now (table .exit)) (answerOf (judge (now (rule .entry))) (now (table .entry))) ⌝ }
 {
     let built = monitor::build(rule, table);
     match built {

@@ -23,13 +23,20 @@ same-length : tie.Need-same-length
 same-length c = search needs
 
 returns : tie.Need-returns
-returns c = (sym (ap builtCode (sym (c .before .before .before .before .before .build .ensures .0) ∙ c .before .built .given .1)), (c .before .before .before .before .before .build .ensures .1 .0, right-by (now (c .before .before .before .before .before .before .before .before .before .args .rule)) (now (c .before .before .before .before .before .before .before .before .before .args .table)) (c .before .before .before .before .before .build .ensures .0) (c .before .before .before .before .before .build .ensures .1 .0) (c .before .before .before .before .before .build .ensures .1 .1)))
+returns c =
+    let at-build = c .before .before .before .before .before in
+    let start = at-build .before .before .before .before in
+    (sym (ap builtCode (sym (at-build .build .ensures .0) ∙ c .before .built .given .1)), (at-build .build .ensures .1 .0, right-by (now (start .args .rule)) (now (start .args .table)) (at-build .build .ensures .0) (at-build .build .ensures .1 .0) (at-build .build .ensures .1 .1)))
 
 same-length-2 : tie.Need-same-length-2
 same-length-2 c = search needs
 
 returns-2 : tie.Need-returns-2
-returns-2 c = (c .refusal-code .ensures ∙ sym (ap builtCode (sym (c .before .before .before .before .before .before .build .ensures .0) ∙ c .before .before .built2 .given .1)), (c .before .before .before .before .before .before .build .ensures .1 .0, right-by (now (c .before .before .before .before .before .before .before .before .before .before .args .rule)) (now (c .before .before .before .before .before .before .before .before .before .before .args .table)) (c .before .before .before .before .before .before .build .ensures .0) (c .before .before .before .before .before .before .build .ensures .1 .0) (c .before .before .before .before .before .before .build .ensures .1 .1)))
+returns-2 c =
+    let at-built2 = c .before .before in
+    let at-build = at-built2 .before .before .before .before in
+    let start = at-build .before .before .before .before in
+    (c .refusal-code .ensures ∙ sym (ap builtCode (sym (at-build .build .ensures .0) ∙ at-built2 .built2 .given .1)), (at-build .build .ensures .1 .0, right-by (now (start .args .rule)) (now (start .args .table)) (at-build .build .ensures .0) (at-build .build .ensures .1 .0) (at-build .build .ensures .1 .1)))
 
 pub tefuji-build-spec : {M : Type 1} → statement M
 tefuji-build-spec =
