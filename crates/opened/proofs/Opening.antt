@@ -1,18 +1,22 @@
 -- An opened table tells what checking its bytes finds, and runs, steps and shows its rows as its bytes do; a refused opening does nothing else than refuse.
-use mathlib.Core.Path.{_≡_, refl}
-use mathlib.Core.List.{List}
+-- Stepping through a list of events follows the table's monitor.
+use mathlib.Core.Path.{_≡_, refl, ap, _∙_}
+use mathlib.Core.List.{List, [], _∷_}
 use mathlib.Core.Bool.{Bool, true, false}
-use Prim.Native.Nat.{ℕ}
-use borrow.Author.Tests.{le-leb, ltb-true}
+use Prim.Native.Nat.{ℕ, _<_, _^_}
+use borrow.Author.Tests.{le-leb, lt-ltb, lt-leb, ltb-true}
 use denote.Ref.{RefT, now}
 use lib.Dec.{ltb}
-use Rattle.meaning.specs.TableFiles.{isTable, statesIn, checkedOf}
+use Rattle.meaning.specs.Traces.{over, Word}
+use Rattle.meaning.specs.Monitors.{follow}
+use Rattle.meaning.specs.TableFiles.{isTable, signalsIn, statesIn, successor, checkedOf, monitorOf}
 use Rattle.meaning.specs.Runs.{runOf, ranIn, rowRead, rowIn}
+use Rattle.meaning.specs.declared.Ran.{Ran}
 use Rattle.meaning.specs.declared.Checked.{Checked}
 use Rattle.meaning.specs.declared.Checked.the-variants as Checked
-use Rattle.table_file.proofs.Form.{states-some, table-header, table-counts, table-verdict, table-successors}
-use Rattle.table_run.proofs.Checked.{run-table, run-refused}
-use Rattle.opened.specs.OpenedTables.{countsOf, openedOf, outcomeBy, ranBy, rowBy}
+use Rattle.table_file.proofs.Form.{states-some, table-header, table-counts, table-verdict, table-successors, table-inside}
+use Rattle.table_run.proofs.Answers.{run-table, run-refused}
+use Rattle.opened.specs.OpenedTables.{countsOf, openedOf, outcomeBy, ranBy, rowBy, steppedBy, stateAfter, steppedAll}
 
 module _ (x : RefT (List ℕ)) where
   -- "Opening checks the bytes and refuses by 14"
@@ -41,3 +45,17 @@ module _ (x : RefT (List ℕ)) where
           rw (e, table-counts (now x) e, f, table-verdict (now x) e s l, table-successors (now x) e s l)
       go true e false f = rw (e, table-counts (now x) e, f)
       go false e c f = rw e
+
+-- ---- many steps
+
+module _ (x : RefT (List ℕ)) (h : isTable (now x) ≡ true) where
+  -- a step of an event ends at the successor
+  step-to : (s e : ℕ) → s < statesIn (now x) → e < 2 ^ signalsIn (now x) → stateAfter (steppedBy (openedOf x) s e) s ≡ successor (now x) (signalsIn (now x)) s e
+  step-to s e l b = ap (λ (r : Ran). stateAfter r s) (opened-runs x s (e ∷ [])) ∙ rw (h, lt-ltb s (statesIn (now x)) l, lt-leb (2 ^ signalsIn (now x)) e b)
+
+  -- "A checked table is opened once and stepped many times": event by event, the steps follow the table's monitor
+  pub stepped-all : (s : ℕ) (es : List ℕ) → s < statesIn (now x) → Word (over (signalsIn (now x))) es → steppedAll (openedOf x) s es ≡ follow (monitorOf (now x)) s es
+  stepped-all s [] l w = refl
+  stepped-all s (e ∷ es) l w =
+      ap (λ (r : ℕ). steppedAll (openedOf x) r es) (step-to s e l (w .0 .0))
+      ∙ stepped-all (successor (now x) (signalsIn (now x)) s e) es (table-inside (now x) h s e l (w .0 .0)) (w .1)

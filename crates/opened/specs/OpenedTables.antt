@@ -10,6 +10,7 @@ use Rattle.meaning.specs.declared.Refusal.the-variants.{WrongTable}
 use Rattle.meaning.specs.declared.Checked.{Checked}
 use Rattle.meaning.specs.declared.Checked.the-variants as Checked
 use Rattle.meaning.specs.declared.Ran.{Ran}
+use Rattle.meaning.specs.declared.Ran.the-variants as Ran
 use Rattle.meaning.specs.declared.StateRow.{StateRow}
 use Rattle.opened.specs.declared.Counts.{Counts}
 use Rattle.opened.specs.declared.Opened.{Opened}
@@ -41,3 +42,13 @@ steppedBy t s e = ranBy t s (e ∷ [])
 -- a state's row: "thin functions read a row and step from it"
 abbrev pub rowBy : Opened → ℕ → StateRow
 rowBy t s = rowIn (now (t .bytes)) (t .signals) (t .states) s
+
+-- where an answer leaves the state: at its end, or as it was where it was refused
+abbrev pub stateAfter : Ran → ℕ → ℕ
+stateAfter (Ran.Ended r v d) s = r
+stateAfter (Ran.Refused x) s = s
+
+-- "A checked table is opened once and stepped many times": one step for each event
+abbrev pub steppedAll : Opened → ℕ → List ℕ → ℕ
+steppedAll t s [] = s
+steppedAll t s (e ∷ es) = steppedAll t (stateAfter (steppedBy t s e) s) es

@@ -3,7 +3,7 @@ ghost use mathlib.Core.Path.{_≡_};
 ghost use mathlib.Core.List.{_∷_, []};
 ghost use Rattle.meaning.specs.TableFiles.{checkedOf};
 ghost use Rattle.meaning.specs.Runs.{runOf, rowRead};
-ghost use Rattle.opened.specs.OpenedTables.{countsOf, openedOf, outcomeIn, outcomeBy, steppedBy, ranBy, rowBy};
+ghost use Rattle.opened.specs.OpenedTables.{countsOf, openedOf, outcomeIn, outcomeBy, steppedBy, ranBy, rowBy, stateAfter, steppedAll};
 use meaning::Checked;
 use meaning::Ran;
 use meaning::Refusal;
@@ -38,6 +38,20 @@ fn outcome_in(signals: u8, states: u16) -> Checked
         return Checked::Refused(Refusal::WrongTable);
     }
     Checked::Table { signals, states }
+}
+
+// The state after an answer: where it ended, or the state before it where it was refused.
+fn state_after(ran: Ran, state: u16) -> u16
+    ensures { λ r. ⌜ r ≡ stateAfter ran state ⌝ }
+{
+    match ran {
+        Ran::Ended {
+            state: end,
+            verdict: _,
+            decided: _,
+        } => end,
+        Ran::Refused(_) => state,
+    }
 }
 
 // ---- over an opened table
@@ -89,6 +103,20 @@ pub fn run<'a, 'e>(t: Opened<'a>, state: u16, events: &'e [u8]) -> Ran
     table_run::run_in(t.bytes, t.signals, t.states, state, events)
 }
 
+// Steps through a list of events, one by one; a refused step leaves the state as it is.
+pub fn step_all<'a, 'e>(t: Opened<'a>, state: u16, events: &'e [u8]) -> u16
+    ensures { λ r. ⌜ r ≡ steppedAll (t .entry) state (now (events .entry)) ⌝ }
+{
+    let mut s = state;
+    let mut i: usize = 0;
+    while i < events.len() {
+        let e = wire::byte_at(events, i);
+        s = state_after(step(t, s, e), s);
+        i += 1;
+    }
+    s
+}
+
 // ---- with plain parameters
 
 // Opens and runs, for callers that hold no opened table.
@@ -110,4 +138,11 @@ pub fn open_and_row(bytes: &[u8], state: u16) -> StateRow
     ensures { λ r. ⌜ r ≡ rowRead (now (bytes .entry)) state ⌝ }
 {
     row(open(bytes), state)
+}
+
+// Opens once and steps through a list of events, for callers that hold no opened table.
+pub fn open_and_step_all(bytes: &[u8], state: u16, events: &[u8]) -> u16
+    ensures { λ r. ⌜ r ≡ steppedAll (openedOf (bytes .entry)) state (now (events .entry)) ⌝ }
+{
+    step_all(open(bytes), state, events)
 }

@@ -1,5 +1,5 @@
-// Checks, runs and rewrites the tables of a stream of cases on standard input: a two-byte length and the table, a two-byte state, a two-byte
-// count and the events. Writes a line for each case.
+// Checks, runs, steps and rewrites the tables of a stream of cases on standard input: a two-byte length and the table, a two-byte state, a
+// two-byte count and the events. Writes a line for each case.
 ghost use Prim.Native.Nat.{_≤_};
 use console::fill;
 use console::front;
@@ -11,6 +11,7 @@ use console::say_refusal;
 use console::say_run;
 use meaning::Built;
 use meaning::Checked;
+use meaning::Ran;
 
 // A state's row, read from the table.
 fn row_of(t: &[u8], signals: u8, state: u16) -> [u16; 16]
@@ -59,6 +60,18 @@ fn rewritten(t: &[u8], signals: u8, states: u16) -> bool
     }
 }
 
+// Whether the table, opened once and stepped event by event, comes to the state where the run ended; a refused run ends nowhere.
+fn stepped(t: &[u8], state: u16, events: &[u8], ran: Ran) -> bool {
+    match ran {
+        Ran::Ended {
+            state: end,
+            verdict: _,
+            decided: _,
+        } => opened::open_and_step_all(t, state, events) == end,
+        Ran::Refused(_) => true,
+    }
+}
+
 fn say_case(t: &[u8], state: u16, events: &[u8]) {
     let checked = table_file::check(t);
     match checked {
@@ -69,7 +82,11 @@ fn say_case(t: &[u8], state: u16, events: &[u8]) {
             say(b" ");
             say_number(wire::wide16(states));
             say(b": ");
-            say_run(opened::open_and_run(t, state, events));
+            let ran = opened::open_and_run(t, state, events);
+            say_run(ran);
+            if !stepped(t, state, events, ran) {
+                say(b" stepped elsewhere");
+            }
             if signals <= 4 {
                 if states <= 256 {
                     if rewritten(t, signals, states) {
