@@ -1,6 +1,6 @@
 -- Laws of loops over specs/Tabulate.antt.
 --     Filled                  the invariant of a loop that fills a list of any element type from the front, with f i at turn i
---     filled-none, -more, -to, -all      where it begins, after a turn, at the end
+--     filled-none, -more, -to, -all, -length      where it begins, after a turn, at the end, and that the length is kept
 --     all-more, all-not       a loop that tests every index below n
 --     least-is, least-none    a loop that looks for the first index
 use mathlib.Core.Path.{_≡_, refl, ap, _∙_, subst}
@@ -11,7 +11,7 @@ use native.Mathlib.Nat.{not-suc-le-zero, le-of-suc-le-suc}
 use native.Mathlib.Numerals.{add-one}
 use native.Mathlib.Omega.{arith}
 use borrow.Author.Count.{below-none, below-more}
-use lib.ListN.{length, set, getD, drop, drop-of-length-le}
+use lib.ListN.{length, set, getD, drop, drop-of-length-le, length-append, length-drop}
 use Rattle.sequences.specs.Tabulate.{tabulate, allBelow, leastBelow}
 
 module _ {A : Type 0} where
@@ -52,6 +52,9 @@ module _ {A : Type 0} where
   getD-tab zero f i z l = absurd (not-suc-le-zero l)
   getD-tab (suc n) f zero z l = refl
   getD-tab (suc n) f (suc i) z l = getD-tab n (λ k. f (suc k)) i z (le-of-suc-le-suc l)
+
+  pub filled-length : {n : ℕ} {f : ℕ → A} {d s : List A} → Filled n f d s → length s ≡ length d
+  filled-length {n} {f} {d} h = rw (h .is, length-append, length-tab, length-drop) (omega (arith, h .room))
 
 all-suc : (n : ℕ) (p : ℕ → Bool) → allBelow n p ≡ true → p n ≡ true → allBelow (suc n) p ≡ true
 all-suc zero p h q = rw q
