@@ -1,14 +1,12 @@
--- What running over a slice and its counts finds.
+-- Where a run over bytes and counts may start, and what one event shows.
 use mathlib.Core.List.{List}
-use mathlib.Core.Bool.{Bool, cond}
+use mathlib.Core.Bool.{cond}
 use Prim.Native.Nat.{ℕ}
 use lib.Dec.{ltb}
-use Rattle.meaning.specs.TableFiles.{monitorIn}
-use Rattle.meaning.specs.Runs.{countsFit, onTable, tested, endOf}
+use Rattle.meaning.specs.Runs.{countsFit}
 use Rattle.meaning.specs.declared.Refusal.the-variants.{WrongState, WrongTable}
 use Rattle.meaning.specs.declared.Decided.{Decided}
 use Rattle.meaning.specs.declared.Decided.the-variants.{After, Never}
-use Rattle.meaning.specs.declared.Ran.{Ran}
 use Rattle.run_parts.specs.Parts.{decidesAt}
 use Rattle.table_run.specs.declared.Admission.{Admission}
 use Rattle.table_run.specs.declared.Admission.the-variants as Adm
@@ -18,15 +16,6 @@ use Rattle.table_run.specs.declared.Admission.the-variants.{Granted}
 abbrev pub admission : List ℕ → ℕ → ℕ → ℕ → Admission
 admission t P S s = cond (countsFit t P S) (cond (ltb s S) Granted (Adm.Refused WrongState)) (Adm.Refused WrongTable)
 
--- the count so far, and whether the state after n events shows a verdict other than undecided
-abbrev pub notedOf : Decided → Bool → ℕ → Decided
-notedOf (After k) b n = After k
-notedOf Never b n = cond b (After n) Never
-
 -- the count on the way from s to r by one event
 abbrev pub shownBy : List ℕ → ℕ → ℕ → ℕ → Decided
 shownBy t P s r = cond (decidesAt t P s) (After 0) (cond (decidesAt t P r) (After 1) Never)
-
--- the answer of a run that starts
-abbrev pub endIn : List ℕ → ℕ → ℕ → ℕ → List ℕ → Ran
-endIn t P S s es = tested (onTable t P S s es) (endOf (monitorIn t P S) s es)

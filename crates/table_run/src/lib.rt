@@ -2,21 +2,19 @@
 ghost use mathlib.Core.Path.{_≡_};
 ghost use mathlib.Core.List.{[], _∷_};
 ghost use Prim.Native.Nat.{_≤_};
-ghost use lib.ListN.{length};
 ghost use Rattle.meaning.specs.Runs.{ranIn, noRow, rowIn};
-ghost use Rattle.run_parts.specs.Parts.{NoneAbove, Copied};
-ghost use Rattle.table_run.specs.Tables.{admission, notedOf, shownBy, endIn};
+ghost use Rattle.table_run.specs.Tables.{admission, shownBy};
 use events::width;
 use meaning::Decided;
 use meaning::Ran;
 use meaning::Refusal;
 use meaning::Shown;
 use meaning::StateRow;
+use run_loop::ended;
+use run_loop::ended_by_rows;
 use run_parts::decides_at;
-use run_parts::fill_rows;
 use run_parts::first_bad;
 use run_parts::in_table;
-use run_parts::successor_in;
 use run_parts::successors_of;
 use table_file::content_fits;
 use table_file::counts_fit;
@@ -45,73 +43,6 @@ fn admit(t: &[u8], signals: u8, states: u16, state: u16) -> Admission
 }
 
 // ---- a list of events
-
-// When the first verdict other than undecided was shown, once the state after so many events is seen too.
-fn noted(first: Decided, shows: bool, count: usize) -> Decided
-    ensures { λ r. ⌜ r ≡ notedOf first shows count ⌝ }
-{
-    match first {
-        Decided::After(n) => Decided::After(n),
-        Decided::Never => {
-            if shows {
-                return Decided::After(count);
-            }
-            Decided::Never
-        }
-    }
-}
-
-// Where a run ends; 14 where its way leaves the table.
-fn ended(t: &[u8], rows: &[u16], signals: u8, states: u16, state: u16, events: &[u8]) -> Ran
-    requires { ⌜ (signals ≤ 4) × NoneAbove (length (now events)) (now events) 15 ⌝ }
-    requires { ⌜ Copied (now t) signals (now rows) ⌝ }
-    ensures { λ r. ⌜ r ≡ endIn (now (t .entry)) signals states state (now (events .entry)) ⌝ }
-{
-    let mut first = Decided::Never;
-    let mut s = state;
-    let mut i: usize = 0;
-    while i < events.len() {
-        if in_table(t, signals, states, s) {
-            first = noted(first, decides_at(t, signals, s), i);
-            s = successor_in(t, rows, signals, s, events[i]);
-            i += 1;
-        } else {
-            return Ran::Refused(Refusal::WrongTable);
-        }
-    }
-    if in_table(t, signals, states, s) {
-        let verdict = verdict_at(t, signals, s);
-        let decided = noted(first, decides_at(t, signals, s), i);
-        return Ran::Ended {
-            state: s,
-            verdict,
-            decided,
-        };
-    }
-    Ran::Refused(Refusal::WrongTable)
-}
-
-// The same by copied rows, which are made where there are none. This function calls itself, and so the compiler does not lay its frame, with
-// the rows, into that of a run that has no use for them.
-fn ended_by_rows(
-    t: &[u8],
-    rows: &[u16],
-    signals: u8,
-    states: u16,
-    state: u16,
-    events: &[u8],
-) -> Ran
-    requires { ⌜ (signals ≤ 4) × NoneAbove (length (now events)) (now events) 15 ⌝ }
-    requires { ⌜ Copied (now t) signals (now rows) ⌝ }
-    ensures { λ r. ⌜ r ≡ endIn (now (t .entry)) signals states state (now (events .entry)) ⌝ }
-{
-    if rows.len() < 1 {
-        let mut made: [u16; 4096] = [0; 4096];
-        fill_rows(t, signals, &mut made);
-        return ended_by_rows(t, &made, signals, states, state, events);
-    }
-    ended(t, rows, signals, states, state, events)
-}
 
 // A run over the bytes of a table and its counts: 14, 13 and 12 before it starts, and 14 where its way leaves the table.
 pub fn run_in(t: &[u8], signals: u8, states: u16, state: u16, events: &[u8]) -> Ran

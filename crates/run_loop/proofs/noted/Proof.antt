@@ -1,7 +1,7 @@
--- `table_run::noted` meets its contract.
+-- `run_loop::noted` meets its contract.
 use borrow.Author.Needs.{needs}
-use Rattle.table_run.proofs.noted.Statement.{statement}
-use Rattle.table_run.proofs.noted.Tie as tie
+use Rattle.run_loop.proofs.noted.Statement.{statement}
+use Rattle.run_loop.proofs.noted.Tie as tie
 
 enum-known-first : tie.Need-enum-known-first
 enum-known-first c = search needs

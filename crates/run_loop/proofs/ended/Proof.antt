@@ -1,4 +1,4 @@
--- `table_run::ended` meets its contract.
+-- `run_loop::ended` meets its contract.
 use native.Mathlib.Omega.{arith}
 use mathlib.Core.Path.{_≡_, refl, sym, _∙_, ap}
 use mathlib.Core.Bool.{Bool}
@@ -7,10 +7,10 @@ use borrow.Author.Needs.{needs}
 use denote.Ref.{now}
 use lib.ListN.{length, drop}
 use Rattle.meaning.specs.declared.Decided.the-variants.{Never}
-use Rattle.table_run.specs.Tables.{notedOf}
-use Rattle.table_run.proofs.Laws.{going, going-ends, going-more, going-off, going-end}
-use Rattle.table_run.proofs.ended.Statement.{statement}
-use Rattle.table_run.proofs.ended.Tie as tie
+use Rattle.run_loop.specs.Ends.{notedOf}
+use Rattle.run_loop.proofs.Laws.{going, going-ends, going-more, going-off, going-end}
+use Rattle.run_loop.proofs.ended.Statement.{statement}
+use Rattle.run_loop.proofs.ended.Tie as tie
 
 abbrev Inv-loop : tie.InvT-loop
 Inv-loop t rows signals states state events first₀ s₀ i₀ first s i =
