@@ -3,7 +3,7 @@ use native.Mathlib.Omega.{arith}
 use borrow.Author.Needs.{needs}
 use mathlib.Core.Path.{_≡_, refl, sym, _∙_}
 use borrow.Author.Tests.{lt-leb, le-leb}
-use Prim.Native.Nat.{_-_, _^_, _≤_}
+use Prim.Native.Nat.{_-_, _^_, _≤_, _<_}
 use denote.Ref.{now}
 use Rattle.sequences.proofs.Loops.{Missed, missed-none, missed-more, missed-found, missed-end}
 use lib.Dec.{leb}
@@ -29,9 +29,10 @@ wide-requires c κs = search needs
 
 returns : tie.Need-returns Inv-loop μ-loop
 returns c =
-    let es = now (c .before .before .before .before .before .args .events) in
-    let n = length es in
-    (sym (missed-end (above-missed (c .before .before .before .before .before .args .signals) (c .before .before .most .ensures) (omega (arith, c .if1 .taken, c .before .before .before .width .ensures .0, c .before .wide .ensures .0))) n refl), omega arith)
+    let a = c .before .before .before .before .before .args in
+    let n = length (now (a .events)) in
+    let below : c .before .before .most .result < 2 ^ a .signals = omega (arith, c .if1 .taken, c .before .before .before .width .ensures .0, c .before .wide .ensures .0) in
+    (sym (missed-end (above-missed (a .signals) (c .before .before .most .ensures) below) n refl), omega arith)
 
 loop-holds : tie.Need-loop-holds Inv-loop μ-loop
 loop-holds c = (omega arith, missed-none)
@@ -44,9 +45,12 @@ wide-requires-2 c κs = search needs
 
 returns-2 : tie.Need-returns-2 Inv-loop μ-loop
 returns-2 c =
-    let es = now (c .before .before .before .before .before .before .before .before .before .before .args .events) in
-    let n = length es in
-    (sym (missed-found (c .before .before .before .before .loop .inv .1) n (c .before .before .before .loop-test .taken) (le-leb (2 ^ c .before .before .before .before .before .before .before .before .before .before .args .signals) (getD es (c .before .before .before .before .loop .i) 0) (omega (arith, c .if2 .taken, c .before .before .before .before .before .before .before .before .width .ensures .0, c .before .wide2 .ensures .0)))), omega arith)
+    let loop = c .before .before .before .before in
+    let counted = loop .before .before .before .before in
+    let a = counted .before .before .args in
+    let i = loop .loop .i in
+    let bad = le-leb (2 ^ a .signals) (getD (now (a .events)) i 0) (omega (arith, c .if2 .taken, counted .width .ensures .0, c .before .wide2 .ensures .0)) in
+    (sym (missed-found (loop .loop .inv .1) (length (now (a .events))) (c .before .before .before .loop-test .taken) bad), omega arith)
 
 add-i : tie.Need-add-i Inv-loop μ-loop
 add-i c = search needs
@@ -55,7 +59,12 @@ loop-less : tie.Need-loop-less Inv-loop μ-loop
 loop-less c = search needs
 
 loop-again : tie.Need-loop-again Inv-loop μ-loop
-loop-again c = (omega arith, missed-more (c .before .before .before .before .loop .inv .1) (lt-leb (2 ^ c .before .before .before .before .before .before .before .before .before .before .args .signals) (getD (now (c .before .before .before .before .before .before .before .before .before .before .args .events)) (c .before .before .before .before .loop .i) 0) (omega (arith, c .if2 .left, c .before .before .before .before .before .before .before .before .width .ensures .0, c .before .wide2 .ensures .0))))
+loop-again c =
+    let loop = c .before .before .before .before in
+    let counted = loop .before .before .before .before in
+    let a = counted .before .before .args in
+    let event = getD (now (a .events)) (loop .loop .i) 0 in
+    (omega arith, missed-more (loop .loop .inv .1) (lt-leb (2 ^ a .signals) event (omega (arith, c .if2 .left, counted .width .ensures .0, c .before .wide2 .ensures .0))))
 
 returns-3 : tie.Need-returns-3 Inv-loop μ-loop
 returns-3 c =

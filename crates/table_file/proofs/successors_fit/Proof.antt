@@ -35,7 +35,12 @@ u16-at-requires : tie.Need-u16-at-requires Inv-loop μ-loop
 u16-at-requires c κs = search needs
 
 returns : tie.Need-returns Inv-loop μ-loop
-returns c = sym (all-not (c .before .before .before .before .before .args .events) (test (now (c .before .before .before .before .before .args .t)) (c .before .before .before .before .before .args .at) (c .before .before .before .before .before .args .states)) (c .before .before .before .loop .e) (c .before .before .loop-test .taken) (le-ltb (u16At (now (c .before .before .before .before .before .args .t)) (c .before .before .before .before .before .args .at + 2 * c .before .before .before .loop .e)) (c .before .before .before .before .before .args .states) (omega (arith, c .if1 .taken, c .before .u16-at .ensures))))
+returns c =
+    let loop = c .before .before .before in
+    let a = loop .before .before .args in
+    let e = loop .loop .e in
+    let fails = le-ltb (u16At (now (a .t)) (a .at + 2 * e)) (a .states) (omega (arith, c .if1 .taken, c .before .u16-at .ensures)) in
+    sym (all-not (a .events) (test (now (a .t)) (a .at) (a .states)) e (c .before .before .loop-test .taken) fails)
 
 add-e : tie.Need-add-e Inv-loop μ-loop
 add-e c = search needs
@@ -44,7 +49,12 @@ loop-less : tie.Need-loop-less Inv-loop μ-loop
 loop-less c = search needs
 
 loop-again : tie.Need-loop-again Inv-loop μ-loop
-loop-again c = (omega arith, passed-more (c .before .before .before .loop .inv .1) (lt-ltb (u16At (now (c .before .before .before .before .before .args .t)) (c .before .before .before .before .before .args .at + 2 * c .before .before .before .loop .e)) (c .before .before .before .before .before .args .states) (omega (arith, c .if1 .left, c .before .u16-at .ensures))))
+loop-again c =
+    let loop = c .before .before .before in
+    let a = loop .before .before .args in
+    let e = loop .loop .e in
+    (omega arith,
+    passed-more (loop .loop .inv .1) (lt-ltb (u16At (now (a .t)) (a .at + 2 * e)) (a .states) (omega (arith, c .if1 .left, c .before .u16-at .ensures))))
 
 returns-2 : tie.Need-returns-2 Inv-loop μ-loop
 returns-2 c = sym (passed-all (c .before .loop .inv .1) (c .before .before .before .args .events) (omega arith))

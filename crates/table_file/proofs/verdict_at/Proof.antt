@@ -19,16 +19,37 @@ byte-at-requires : tie.Need-byte-at-requires
 byte-at-requires c κs = search needs
 
 returns : tie.Need-returns
-returns c = let l = now (c .before .before .before .before .args .t) in let P = c .before .before .before .before .args .signals in let s = c .before .before .before .before .args .state in let e : verdictByte l P s ≡ c .before .byte-at .result = ap (λ (n : ℕ). getD l (n + 4) 0) (sym (c .before .before .row-at .ensures .0)) ∙ sym (c .before .byte-at .ensures) in ap verdictOf (sym (e ∙ c .match .keys1))
+returns c =
+    let a = c .before .before .before .before .args in
+    let l = now (a .t) in
+    let place = ap (λ (n : ℕ). getD l (n + 4) 0) (sym (c .before .before .row-at .ensures .0)) in
+    let e : verdictByte l (a .signals) (a .state) ≡ c .before .byte-at .result = place ∙ sym (c .before .byte-at .ensures) in
+    ap verdictOf (sym (e ∙ c .match .keys1))
 
 returns-2 : tie.Need-returns-2
-returns-2 c = let l = now (c .before .before .before .before .args .t) in let P = c .before .before .before .before .args .signals in let s = c .before .before .before .before .args .state in let e : verdictByte l P s ≡ c .before .byte-at .result = ap (λ (n : ℕ). getD l (n + 4) 0) (sym (c .before .before .row-at .ensures .0)) ∙ sym (c .before .byte-at .ensures) in ap verdictOf (sym (e ∙ c .match .keys2))
+returns-2 c =
+    let a = c .before .before .before .before .args in
+    let l = now (a .t) in
+    let place = ap (λ (n : ℕ). getD l (n + 4) 0) (sym (c .before .before .row-at .ensures .0)) in
+    let e : verdictByte l (a .signals) (a .state) ≡ c .before .byte-at .result = place ∙ sym (c .before .byte-at .ensures) in
+    ap verdictOf (sym (e ∙ c .match .keys2))
 
 returns-3 : tie.Need-returns-3
-returns-3 c = let l = now (c .before .before .before .before .args .t) in let P = c .before .before .before .before .args .signals in let s = c .before .before .before .before .args .state in let e : verdictByte l P s ≡ c .before .byte-at .result = ap (λ (n : ℕ). getD l (n + 4) 0) (sym (c .before .before .row-at .ensures .0)) ∙ sym (c .before .byte-at .ensures) in ap verdictOf (sym (e ∙ c .match .keys3))
+returns-3 c =
+    let a = c .before .before .before .before .args in
+    let l = now (a .t) in
+    let place = ap (λ (n : ℕ). getD l (n + 4) 0) (sym (c .before .before .row-at .ensures .0)) in
+    let e : verdictByte l (a .signals) (a .state) ≡ c .before .byte-at .result = place ∙ sym (c .before .byte-at .ensures) in
+    ap verdictOf (sym (e ∙ c .match .keys3))
 
 returns-4 : tie.Need-returns-4
-returns-4 c = let l = now (c .before .before .before .before .args .t) in let P = c .before .before .before .before .args .signals in let s = c .before .before .before .before .args .state in let e : verdictByte l P s ≡ c .before .byte-at .result = ap (λ (n : ℕ). getD l (n + 4) 0) (sym (c .before .before .row-at .ensures .0)) ∙ sym (c .before .byte-at .ensures) in verdict-else (verdictByte l P s) (λ h. c .match .rest .0 .0 .1 (sym e ∙ h)) (λ h. c .match .rest .0 .1 (sym e ∙ h)) (λ h. c .match .rest .1 (sym e ∙ h))
+returns-4 c =
+    let a = c .before .before .before .before .args in
+    let l = now (a .t) in
+    let place = ap (λ (n : ℕ). getD l (n + 4) 0) (sym (c .before .before .row-at .ensures .0)) in
+    let e : verdictByte l (a .signals) (a .state) ≡ c .before .byte-at .result = place ∙ sym (c .before .byte-at .ensures) in
+    verdict-else (verdictByte l (a .signals) (a .state)) (λ h. c .match .rest .0 .0 .1 (sym e ∙ h)) (λ h. c .match .rest .0 .1 (sym e ∙ h))
+    (λ h. c .match .rest .1 (sym e ∙ h))
 
 pub verdict-at-spec : {M : Type 1} → statement M
 verdict-at-spec =
