@@ -52,7 +52,15 @@ slice-reshare-prefix-answer : tie.Need-slice-reshare-prefix-answer
 slice-reshare-prefix-answer c = search needs
 
 slice-aggregate-answer : tie.Need-slice-aggregate-answer
-slice-aggregate-answer c = let n = c .before .before .before .before .before .before .before .wide16 .result in let d = now (c .before .before .before .before .before .before .before .before .before .before .before .before .before .before .before .before .before .args .space) in let e = c .before .before .before .before .read-full2 .last .1 .0 in sym (length-take-le n (e ++ drop n d) (omega (arith, length-front d e n (c .before .before .before .before .read-full2 .kept .1 .0), c .before .before .before .before .before .before .if2 .left)))
+slice-aggregate-answer c =
+    let at-read-full2 = c .before .before .before .before in
+    let at-if2 = at-read-full2 .before .before in
+    let at-wide16 = at-if2 .before in
+    let start = at-wide16 .before .before .before .before .before .before .before .before .before .before in
+    let n = at-wide16 .wide16 .result in
+    let d = now (start .args .space) in
+    let e = at-read-full2 .read-full2 .last .1 .0 in
+    sym (length-take-le n (e ++ drop n d) (omega (arith, length-front d e n (at-read-full2 .read-full2 .kept .1 .0), at-if2 .if2 .left)))
 
 answer-requires : tie.Need-answer-requires
 answer-requires c κs = search needs
