@@ -4,9 +4,8 @@ use mathlib.Core.Path.{_≡_, refl, ap, _∙_}
 use mathlib.Core.List.{List, [], _∷_}
 use mathlib.Core.Bool.{Bool, true, false}
 use Prim.Native.Nat.{ℕ, _<_, _^_}
-use borrow.Author.Tests.{le-leb, lt-ltb, lt-leb, ltb-true}
+use borrow.Author.Tests.{le-leb, lt-ltb, lt-leb}
 use denote.Ref.{RefT, now}
-use lib.Dec.{ltb}
 use Rattle.meaning.specs.Traces.{over, Word}
 use Rattle.meaning.specs.Monitors.{follow}
 use Rattle.meaning.specs.TableFiles.{isTable, signalsIn, statesIn, successor, checkedOf, monitorOf}
@@ -14,8 +13,8 @@ use Rattle.meaning.specs.Runs.{runOf, ranIn, rowRead, rowIn}
 use Rattle.meaning.specs.declared.Ran.{Ran}
 use Rattle.meaning.specs.declared.Checked.{Checked}
 use Rattle.meaning.specs.declared.Checked.the-variants as Checked
-use Rattle.table_file.proofs.Form.{states-some, table-header, table-counts, table-verdict, table-successors, table-inside}
-use Rattle.table_run.proofs.Answers.{run-table, run-refused}
+use Rattle.table_file.proofs.Form.{states-some, table-header, table-inside}
+use Rattle.table_run.proofs.Answers.{run-table, run-refused, row-table, row-refused}
 use Rattle.opened.specs.OpenedTables.{countsOf, openedOf, outcomeBy, ranBy, rowBy, steppedBy, stateAfter, steppedAll}
 
 module _ (x : RefT (List ℕ)) where
@@ -37,14 +36,11 @@ module _ (x : RefT (List ℕ)) where
 
   -- "thin functions read a row"
   pub opened-row : (s : ℕ) → rowBy (openedOf x) s ≡ rowRead (now x) s
-  opened-row s = go (isTable (now x)) refl (ltb s (statesIn (now x))) refl
+  opened-row s = go (checkedOf (now x)) refl
     where
-      go : (b : Bool) → isTable (now x) ≡ b → (c : Bool) → ltb s (statesIn (now x)) ≡ c → rowBy (openedOf x) s ≡ rowRead (now x) s
-      go true e true f =
-          let l = ltb-true s (statesIn (now x)) f in
-          rw (e, table-counts (now x) e, f, table-verdict (now x) e s l, table-successors (now x) e s l)
-      go true e false f = rw (e, table-counts (now x) e, f)
-      go false e c f = rw e
+      go : (c : Checked) → checkedOf (now x) ≡ c → rowIn (now x) (countsOf c .signals) (countsOf c .states) s ≡ rowRead (now x) s
+      go (Checked.Table P S) h = row-table (now x) s P S h
+      go (Checked.Refused r) h = row-refused (now x) s r h
 
 -- ---- many steps
 

@@ -7,13 +7,12 @@ use mathlib.Core.List.{List, [], _∷_}
 use mathlib.Core.Bool.{Bool, true, false, cond, _&&_}
 use Prim.Native.Nat.{ℕ, suc, _^_, _≤_, _<_}
 use native.Mathlib.Omega.{arith}
-use borrow.Author.Tests.{lt-ltb, le-ltb, leb-true, ltb-true, ltb-false}
+use borrow.Author.Tests.{lt-ltb, leb-true, ltb-true, ltb-false}
 use lib.Dec.{leb, ltb}
 use lib.ListN.{length, getD}
-use Rattle.sequences.proofs.Tests.{fails}
 use Rattle.meaning.specs.Monitors.{Monitor, follow}
 use Rattle.meaning.specs.TableFiles.{isTable, signalsIn, statesIn, checkedOf, verdictOf, verdictByte, successor, monitorIn}
-use Rattle.meaning.specs.Runs.{endOf, firstBad, ranOf, runOf, countsFit, inTable, onTable, tested, ranIn, noRow, rowOf, rowIn}
+use Rattle.meaning.specs.Runs.{endOf, firstBad, ranOf, runOf, countsFit, inTable, onTable, tested, ranIn, noRow, rowOf, rowRead, rowIn}
 use Rattle.meaning.specs.declared.Verdict.{Verdict}
 use Rattle.meaning.specs.declared.Decided.{Decided}
 use Rattle.meaning.specs.declared.Refusal.{Refusal}
@@ -21,7 +20,8 @@ use Rattle.meaning.specs.declared.Refusal.the-variants.{WrongEvent, WrongState,
 use Rattle.meaning.specs.declared.Checked.the-variants as Checked
 use Rattle.meaning.specs.declared.Ran.{Ran}
 use Rattle.meaning.specs.declared.Ran.the-variants as Ran
-use Rattle.table_file.proofs.Form.{countsTests, table-counts, table-verdict, table-inside, table-content}
+use Rattle.table_file.specs.Rows.{contentFits}
+use Rattle.table_file.proofs.Form.{table-counts, table-verdict, table-inside, table-content}
 use Rattle.run_parts.proofs.Laws.{all-events}
 
 both : (a b : Bool) → (a && b) ≡ true → (a ≡ true) × (b ≡ true)
@@ -57,20 +57,6 @@ module _ (t : List ℕ) (P S : ℕ) where
       go true true true o p e = let z : _≡_ {A = ℕ} 0 1 = cc in absurd (omega arith)
       go true false c o p e = let z : _≡_ {A = ℕ} 0 1 = cc in absurd (omega arith)
       go false b c o p e = let z : _≡_ {A = ℕ} 0 1 = cc in absurd (omega arith)
-
--- ---- counts that are no table's
-module _ (t : List ℕ) (s : ℕ) where
-  pub no-signals-run : (S : ℕ) (es : List ℕ) → ranIn t 0 S s es ≡ Ran.Refused WrongTable
-  no-signals-run S es = refl
-
-  pub no-states-run : (P : ℕ) (es : List ℕ) → ranIn t P 0 s es ≡ Ran.Refused WrongTable
-  no-states-run P es = rw (fails (countsTests t P 0) 2 refl)
-
-  pub no-signals-row : (S : ℕ) → rowIn t 0 S s ≡ noRow WrongTable
-  no-signals-row S = refl
-
-  pub no-states-row : (P : ℕ) → rowIn t P 0 s ≡ noRow WrongTable
-  no-states-row P = rw (fails (countsTests t P 0) 2 refl)
 
 -- ---- checked bytes
 module _ (t : List ℕ) where
@@ -125,16 +111,23 @@ module _ (t : List ℕ) where
       pub run-table : (Q R : ℕ) → checkedOf t ≡ Checked.Table Q R → ranIn t Q R s es ≡ runOf t s es
       run-table Q R e = let f = found Q R e in rw (f .signals, f .states, f .table, table-counts t (f .table)) (kept (f .table) s es)
 
-    pub row-table : (Q R : ℕ) → checkedOf t ≡ Checked.Table Q R → s < R → rowIn t Q R s ≡ rowOf t Q s
-    row-table Q R e l =
-        let f = found Q R e in
-        let b : s < statesIn t = omega (arith, f .states) in
-        rw (f .signals, f .states, table-counts t (f .table), lt-ltb s (statesIn t) b, table-content t (f .table) s b)
+    -- a row of checked bytes is the table's, and a refused opening, whose counts are 0, has none
+    pub row-table : (Q R : ℕ) → checkedOf t ≡ Checked.Table Q R → rowIn t Q R s ≡ rowRead t s
+    row-table Q R e = let f = found Q R e in rw (f .signals, f .states, f .table, table-counts t (f .table)) (row-kept (f .table))
+      where
+        row-kept : (h : isTable t ≡ true)
+            → cond (ltb s (statesIn t)) (cond (contentFits t (signalsIn t) (statesIn t) s) (rowOf t (signalsIn t) s) (noRow WrongTable)) (noRow WrongState)
+            ≡ cond (ltb s (statesIn t)) (rowOf t (signalsIn t) s) (noRow WrongState)
+        row-kept h = go (ltb s (statesIn t)) refl
+          where
+            go : (b : Bool) → ltb s (statesIn t) ≡ b
+                → cond b (cond (contentFits t (signalsIn t) (statesIn t) s) (rowOf t (signalsIn t) s) (noRow WrongTable)) (noRow WrongState) ≡ cond b (rowOf t (signalsIn t) s) (noRow WrongState)
+            go true e = rw (table-content t h s (ltb-true s (statesIn t) e))
+            go false e = refl
 
-    pub row-outside : (Q R : ℕ) → checkedOf t ≡ Checked.Table Q R → R ≤ s → rowIn t Q R s ≡ noRow WrongState
-    row-outside Q R e l =
-        let f = found Q R e in
-        rw (f .signals, f .states, table-counts t (f .table), le-ltb s (statesIn t) (omega (arith, f .states)))
-
-    pub row-refused : rowIn t 0 0 s ≡ noRow WrongTable
-    row-refused = refl
+    pub row-refused : (x : Refusal) → checkedOf t ≡ Checked.Refused x → rowIn t 0 0 s ≡ rowRead t s
+    row-refused x e = go (isTable t) refl e
+      where
+        go : (b : Bool) → isTable t ≡ b → cond b (Checked.Table (signalsIn t) (statesIn t)) (Checked.Refused WrongTable) ≡ Checked.Refused x → rowIn t 0 0 s ≡ rowRead t s
+        go true p q = let z : _≡_ {A = ℕ} 0 1 = cc in absurd (omega arith)
+        go false p q = rw p

@@ -8,7 +8,7 @@ use borrow.Author.Tests.{lt-leb, le-leb, lt-ltb, le-ltb, leb-true, ltb-true}
 use lib.Dec.{leb, ltb}
 use lib.ListN.{length}
 use Rattle.sequences.proofs.Tests.{holds}
-use Rattle.meaning.specs.TableFiles.{verdictOf, verdictByte, successor}
+use Rattle.meaning.specs.TableFiles.{countsTests, verdictOf, verdictByte, successor}
 use Rattle.meaning.specs.Runs.{decidedFrom, firstBad, countsFit, inTable, onTable, ranIn, noRow, rowOf, rowIn}
 use Rattle.meaning.specs.declared.Verdict.{Verdict}
 use Rattle.meaning.specs.declared.Decided.{Decided}
@@ -17,7 +17,6 @@ use Rattle.meaning.specs.declared.Ran.the-variants as Ran
 use Rattle.meaning.specs.declared.Ran.the-variants.{Ended}
 use Rattle.meaning.specs.declared.Refusal.{Refusal}
 use Rattle.meaning.specs.declared.Refusal.the-variants.{WrongEvent, WrongState, WrongTable}
-use Rattle.table_file.proofs.Form.{countsTests}
 use Rattle.table_file.specs.Rows.{contentFits}
 use Rattle.run_loop.specs.Ends.{endIn}
 use Rattle.table_run.specs.Tables.{admission, shownBy}
