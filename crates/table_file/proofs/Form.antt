@@ -118,4 +118,3 @@ module _ (t : List ℕ) where
   pub checked-header : every (headerTests t) ≡ false → Checked.Refused WrongTable ≡ checkedOf t
   unfolding isTable
   checked-header h = rw h
-

@@ -54,10 +54,11 @@ loop-again c =
     let a = loop .before .before .before .before .args in
     let i = loop .loop .i in
     let stands = sym (inside .before .in-table .ensures) ∙ inside .if1 .taken in
-    let count = seen .noted .ensures ∙ ap (λ (b : Bool). notedOf (loop .loop .first) b i) (seen .before .decides-at .ensures) in
-    (search needs,
-    going-more (now (a .t)) (a .signals) (a .states) (now (a .events)) (loop .loop .first) (seen .noted .result) (loop .loop .s) i (c .successor-in .result) (omega arith) stands count
-    (c .successor-in .ensures) ∙ loop .loop .inv .1)
+    let count = seen .noted .ensures ∙ ap (λ (b : Bool). notedOf (loop .loop .first) b i) (seen .before .decides-at .ensures) in (
+      search needs,
+      going-more (now (a .t)) (a .signals) (a .states) (now (a .events)) (loop .loop .first) (seen .noted .result) (loop .loop .s) i (c .successor-in .result) (omega arith) stands count
+          (c .successor-in .ensures) ∙ loop .loop .inv .1,
+    )
 
 returns : tie.Need-returns Inv-loop μ-loop
 returns c =

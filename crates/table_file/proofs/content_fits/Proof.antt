@@ -28,7 +28,7 @@ returns c =
     let placed = c .before .before in
     let a = placed .before .before .args in
     let byte : c .before .byte-at .result ≡ verdictByte (now (a .t)) (a .signals) (a .state)
-        = c .before .byte-at .ensures ∙ ap (λ (n : ℕ). getD (now (a .t)) (n + 4) 0) (placed .row-at .ensures .0) in
+    = c .before .byte-at .ensures ∙ ap (λ (n : ℕ). getD (now (a .t)) (n + 4) 0) (placed .row-at .ensures .0) in
     let h : leb (verdictByte (now (a .t)) (a .signals) (a .state)) 3 ≡ false = lt-leb (verdictByte (now (a .t)) (a .signals) (a .state)) 3 (omega (arith, c .if1 .taken, byte)) in
     rw h
 
@@ -49,7 +49,7 @@ returns-2 c =
     let l = now (a .t) in
     let place : placed .row-at .result ≡ rowAt (a .signals) (a .state) = placed .row-at .ensures .0 in
     let byte : tested .before .byte-at .result ≡ verdictByte l (a .signals) (a .state)
-        = tested .before .byte-at .ensures ∙ ap (λ (n : ℕ). getD l (n + 4) 0) place in
+    = tested .before .byte-at .ensures ∙ ap (λ (n : ℕ). getD l (n + 4) 0) place in
     let h : leb (verdictByte l (a .signals) (a .state)) 3 ≡ true = le-leb (verdictByte l (a .signals) (a .state)) 3 (omega (arith, tested .if1 .left, byte)) in
     rw h (c .successors-fit .ensures ∙ ap₂ (λ (k n : ℕ). allBelow n (λ e. ltb (u16At l (k + 5 + 2 * e)) (a .states))) place (c .before .width .ensures .0))
 

@@ -72,9 +72,9 @@ returns-3 c =
     let place : placed .row-at .result ≡ rowAt P s = placed .row-at .ensures .0 in
     let read = ap (u16At l) (sym place) ∙ sym (first .before .before .before .u16-at .ensures) ∙ sym (first .before .before .wide16 .ensures .0) in
     let h₀ : eqb (u16At l (rowAt P s)) (3 + 2 * 2 ^ P) ≡ true
-        = eq-eqb _ _ (read ∙ first .if1 .left ∙ ap (λ (w : ℕ). 3 + 2 * w) (first .before .width .ensures .0)) in
+    = eq-eqb _ _ (read ∙ first .if1 .left ∙ ap (λ (w : ℕ). 3 + 2 * w) (first .before .width .ensures .0)) in
     let h₁ : eqb (u16At l (rowAt P s + 2)) 513 ≡ true
-        = eq-eqb _ _ (ap (λ (n : ℕ). u16At l (n + 2)) (sym place) ∙ sym (second .before .u16-at2 .ensures) ∙ second .if2 .left) in
+    = eq-eqb _ _ (ap (λ (n : ℕ). u16At l (n + 2)) (sym place) ∙ sym (second .before .u16-at2 .ensures) ∙ second .if2 .left) in
     rw (h₀, h₁) (c .content-fits .ensures ∙ last-two (leb (verdictByte l P s) 3) (allBelow (2 ^ P) (λ e. ltb (successor l P s e) (a .states))))
 
 pub row-fits-spec : {M : Type 1} → statement M

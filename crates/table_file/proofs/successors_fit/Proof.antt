@@ -52,9 +52,10 @@ loop-again : tie.Need-loop-again Inv-loop μ-loop
 loop-again c =
     let loop = c .before .before .before in
     let a = loop .before .before .args in
-    let e = loop .loop .e in
-    (omega arith,
-    passed-more (loop .loop .inv .1) (lt-ltb (u16At (now (a .t)) (a .at + 2 * e)) (a .states) (omega (arith, c .if1 .left, c .before .u16-at .ensures))))
+    let e = loop .loop .e in (
+      omega arith,
+      passed-more (loop .loop .inv .1) (lt-ltb (u16At (now (a .t)) (a .at + 2 * e)) (a .states) (omega (arith, c .if1 .left, c .before .u16-at .ensures))),
+    )
 
 returns-2 : tie.Need-returns-2 Inv-loop μ-loop
 returns-2 c = sym (passed-all (c .before .loop .inv .1) (c .before .before .before .args .events) (omega arith))
