@@ -1,6 +1,5 @@
--- What a caller reads in the arrays that a reduction leaves: each verdict byte and each successor, those of the model's reduced monitor, and that
--- the arrays keep their lengths.
-use mathlib.Core.Path.{_≡_, refl, sym, ap, _∙_, subst}
+-- What a caller reads in the arrays that a reduction leaves: each verdict byte and each successor, and that the arrays keep their lengths.
+use mathlib.Core.Path.{_≡_, sym, ap, _∙_, subst}
 use mathlib.Core.List.{List, [], _++_, map}
 use mathlib.Core.Bool.{cond}
 use Prim.Native.Nat.{ℕ, _≤_, _<_}
@@ -9,10 +8,8 @@ use lib.ListN.{length, getD, drop, replicate, length-append, length-drop, List·
 use Rattle.sequences.specs.Tabulate.{tabulate}
 use Rattle.sequences.proofs.Loops.{length-tab, getD-tab}
 use Rattle.meaning.specs.Traces.{Alphabet}
-use Rattle.meaning.specs.TableFiles.{verdictOf}
-use Rattle.moore.specs.Reduced.{SameRows}
-use Rattle.moore.specs.Grouping.{entry, machine, grouping}
-use Rattle.moore.specs.Quotient.{leaders, size, number, closed, verdictByte, verdicts, quotientRows, reduced}
+use Rattle.moore.specs.Grouping.{entry, grouping}
+use Rattle.moore.specs.Quotient.{leaders, size, number, closed, verdictByte, verdicts, quotientRows}
 use Rattle.grouping.specs.Reduction.{padded, Reduction}
 use Rattle.grouping.proofs.Front.{map-tabulate}
 
@@ -66,12 +63,3 @@ module _ {Σ : Alphabet} {n : ℕ} {rows : List (List ℕ)} {classes bytes : Lis
 
   pub rows-kept : (k : ℕ) → n ≤ k → length to ≡ k → length to′ ≡ k
   rows-kept k l = front-length (map padded (quotientRows Σ n rows (grouping Σ n rows classes))) to to′ r (h .rows-are) some-rows k (omega (arith, h .fewer))
-
-  pub arrays-reduced : SameRows Σ (machine r to′ bytes′) (reduced Σ n rows classes)
-  unfolding reduced
-  arrays-reduced = record {
-    states = h .count;
-    start = refl;
-    verdict = λ s l. ap verdictOf (verdict-at s l);
-    next = λ s e l m. successor-at s e l (m .0);
-  }

@@ -1,65 +1,24 @@
--- Laws of the loops that group states: where each begins, after a turn, and at its end.
+-- Laws of the loops that make the machine of the groups: where each begins, after a turn, and at its end.
 use mathlib.Core.Path.{_≡_, sym, ap, _∙_, subst}
-use mathlib.Core.Bool.{Bool, true, false, cond}
+use mathlib.Core.Bool.{Bool, true, cond}
 use mathlib.Core.List.{List, _++_}
 use Prim.Native.Nat.{ℕ, suc, _+_, _≤_, _<_}
 use native.Mathlib.Numerals.{add-one}
 use native.Mathlib.Decide.{decLt}
 use native.Mathlib.Omega.{arith}
-use lib.ListN.{length, getD, set, take, drop, replicate}
-use lib.Seq.{take-at, getD-take, getD-set-same, getD-set-other}
+use lib.ListN.{length, getD, set, drop, replicate}
+use lib.Seq.{getD-set-same, getD-set-other}
 use borrow.Author.Tests.{ne-eqb}
-use Rattle.sequences.specs.Tabulate.{tabulate, upTo, leastBelow}
-use Rattle.sequences.proofs.Loops.{Filled, filled-to, length-tab, getD-tab, Missed}
-use Rattle.sequences.proofs.Pigeonhole.{least-below}
+use Rattle.sequences.specs.Tabulate.{tabulate, upTo}
+use Rattle.sequences.proofs.Loops.{Filled, filled-to, length-tab}
 use Rattle.meaning.specs.Traces.{Alphabet}
 use Rattle.meaning.specs.Monitors.{keep}
 use Rattle.moore.specs.Counting.{countBelow}
-use Rattle.moore.specs.Grouping.{entry, together, leads, allEvents, sameStep, firstGroups, nextGroups}
+use Rattle.moore.specs.Grouping.{leads}
 use Rattle.moore.specs.Quotient.{leaders, leader, size, closed}
 use Rattle.moore.proofs.Counting.{count-le, count-lt, standing}
-use Rattle.grouping.specs.Machines.{RowsBelow, Least, Leaders, verdictAt}
+use Rattle.grouping.specs.Machines.{Leaders, verdictAt}
 use Rattle.grouping.specs.Reduction.{padded}
-
--- ---- a list that a loop filled
-module _ {A : Type 0} where
-  pub filled-take : (n : ℕ) {i : ℕ} {f : ℕ → A} {d s : List A} → Filled i f d s → i ≡ n → take n s ≡ tabulate n f
-  filled-take n {f = f} {d} h e = ap (take n) (filled-to n h e) ∙ take-at (tabulate n f) (drop n d) n (length-tab n f)
-
-  pub taken-at : (n : ℕ) (s : List A) (f : ℕ → A) → take n s ≡ tabulate n f → (i : ℕ) (z : A) → i < n → getD s i z ≡ f i
-  taken-at n s f h i z l = sym (getD-take n s i z l) ∙ ap (λ (t : List A). getD t i z) h ∙ getD-tab n f i z l
-
--- ---- rows
-pub rows-fewer : {k w n : ℕ} {rows : List (List ℕ)} (j m : ℕ) → RowsBelow k w n rows → j ≤ k → n ≤ m → RowsBelow j w m rows
-rows-fewer j m h l g = record { row = λ s b. record { to = λ e c. let x = h .row s (omega arith) .to e c in omega arith } }
-
--- ---- a round
-module _ (Σ : Alphabet) (rows : List (List ℕ)) (group : List ℕ) where
-  pub step-not : (j i : ℕ) → together group j i ≡ false → sameStep Σ rows group j i ≡ false
-  step-not j i h = ap (λ (b : Bool). cond b (allEvents Σ (λ e. together group (entry rows j e) (entry rows i e))) false) h
-
-  pub step-is : (j i : ℕ) (b : Bool) → together group j i ≡ true → b ≡ allEvents Σ (λ e. together group (entry rows j e) (entry rows i e)) → b ≡ sameStep Σ rows group j i
-  step-is j i b h e = e ∙ sym (ap (λ (b : Bool). cond b (allEvents Σ (λ e. together group (entry rows j e) (entry rows i e))) false) h)
-
-  -- no state before the name of a group is in it
-  pub missed-before : (i j : ℕ) → Least (i + 1) group → j ≡ getD group i 0 → Missed j (λ k. sameStep Σ rows group k i)
-  missed-before i j h e = record {
-    none = λ k l. step-not k i (ne-eqb (getD group k 0) (getD group i 0) (λ q.
-        let a = h .least i (omega arith) in
-        let b = h .least k (omega arith) in
-        omega arith));
-  }
-
-least-le : (n : ℕ) (p : ℕ → Bool) → leastBelow n p ≤ n
-least-le n p = least-below n p .bound
-
-pub next-least : (Σ : Alphabet) (n : ℕ) (rows : List (List ℕ)) (group next : List ℕ) → take n next ≡ nextGroups Σ n rows group → Least n next
-unfolding nextGroups
-next-least Σ n rows group next h = record { least = λ i l. subst (λ (x : ℕ). x ≤ i) (sym (taken-at n next (λ i. leastBelow i (λ j. sameStep Σ rows group j i)) h i 0 l)) (least-le i (λ j. sameStep Σ rows group j i)) }
-
-pub first-least : (n : ℕ) (classes first : List ℕ) → take n first ≡ firstGroups n classes → Least n first
-unfolding firstGroups
-first-least n classes first h = record { least = λ i l. subst (λ (x : ℕ). x ≤ i) (sym (taken-at n first (λ i. leastBelow i (λ j. together classes j i)) h i 0 l)) (least-le i (λ j. together classes j i)) }
 
 -- ---- numbers
 pub count-step : (p : ℕ → Bool) (i q r : ℕ) → q ≡ countBelow i p → r ≡ cond (p i) (q + 1) q → r ≡ countBelow (i + 1) p

@@ -2,4 +2,3 @@ pub mod Laws
 pub mod Front
 pub mod Reductions
 pub mod Arrays
-pub mod Slots

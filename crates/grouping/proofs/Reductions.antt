@@ -13,10 +13,12 @@ use Rattle.moore.specs.Quotient.{leader, size, number, closed, verdictByte, ver
 use Rattle.moore.proofs.Counting.{count-le}
 use Rattle.moore.proofs.Grouping.{grouping-grouped, grouping-stable}
 use Rattle.moore.proofs.Quotient.{leader-in, number-in, number-start}
-use Rattle.grouping.specs.Machines.{RowsBelow, ListBelow, Least, Leaders, verdictAt, rowAt}
+use Rattle.refinement.specs.Groups.{RowsBelow, Least}
+use Rattle.refinement.proofs.Laws.{taken-at, rows-fewer}
+use Rattle.refinement.proofs.Front.{tabulate-same, front-at}
+use Rattle.grouping.specs.Machines.{ListBelow, Leaders, verdictAt, rowAt}
 use Rattle.grouping.specs.Reduction.{padded, Reduction}
-use Rattle.grouping.proofs.Laws.{taken-at, rows-fewer}
-use Rattle.grouping.proofs.Front.{tabulate-same, map-tabulate, front-at, size-front, leader-front, number-front, closed-front}
+use Rattle.grouping.proofs.Front.{map-tabulate, size-front, leader-front, number-front, closed-front}
 
 -- the counts as the code has them
 pub machine-at : (P : ℕ) {n : ℕ} {rows : List (List ℕ)} {classes : List ℕ} (w m : ℕ) → w ≡ 2 ^ P → m ≡ n → Machine (over P) n rows classes → Machine (firstEvents w) m rows classes

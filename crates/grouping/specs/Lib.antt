@@ -1,3 +1,2 @@
 pub mod Machines
 pub mod Reduction
-pub mod Slots

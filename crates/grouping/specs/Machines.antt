@@ -1,31 +1,19 @@
--- What the code that groups states asks of the arrays that it is given, and what it computes of one state.
+-- What making the machine of the groups asks of the arrays that it is given, and what it computes of one state.
 use mathlib.Core.Path.{_≡_}
 use mathlib.Core.List.{List, []}
-use mathlib.Core.Bool.{true}
-use Prim.Native.Nat.{ℕ, _≤_, _<_}
+use Prim.Native.Nat.{ℕ, _<_}
 use lib.ListN.{getD}
 use Rattle.sequences.specs.Tabulate.{tabulate}
 use Rattle.meaning.specs.Traces.{Alphabet}
 use Rattle.moore.specs.Grouping.{entry}
 use Rattle.moore.specs.Quotient.{leader, size, closed, verdictByte}
+use Rattle.refinement.specs.Groups.{RowBelow}
 use Rattle.grouping.specs.Reduction.{padded}
-
--- the first w successors of a row are below n
-pub record RowBelow (w n : ℕ) (row : List ℕ) : Type 0 where
-  pub to : (e : ℕ) → e < w → getD row e 0 < n
-
--- and those of the first k rows
-pub record RowsBelow (k w n : ℕ) (rows : List (List ℕ)) : Type 0 where
-  pub row : (s : ℕ) → s < k → RowBelow w n (getD rows s [])
 
 -- the first k states of a list are below n, and so are the first w successors of each
 pub record ListBelow (k w n : ℕ) (rows : List (List ℕ)) (list : List ℕ) : Type 0 where
   pub state : (q : ℕ) → q < k → getD list q 0 < n
   pub row : (q : ℕ) → q < k → RowBelow w n (getD rows (getD list q 0) [])
-
--- each of the first n states is in a group that is named by no later state
-pub record Least (n : ℕ) (group : List ℕ) : Type 0 where
-  pub least : (i : ℕ) → i < n → getD group i 0 ≤ i
 
 -- r groups, with the least state of each in ascending order
 pub record Leaders (n : ℕ) (group : List ℕ) (r : ℕ) (least : List ℕ) : Type 0 where

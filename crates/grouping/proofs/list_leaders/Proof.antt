@@ -39,7 +39,13 @@ loop-less : tie.Need-loop-less Inv-loop μ-loop
 loop-less c = search needs
 
 loop-again : tie.Need-loop-again Inv-loop μ-loop
-loop-again c = let s = c .before .before .before in let l = c .before .before in (omega arith, count-step-le (leads (now (s .args .group))) (l .loop .i) (l .loop .count) (c .counted .result) (l .loop .inv .3) (c .counted .ensures), simp length-set (l .loop .inv .2), count-step (leads (now (s .args .group))) (l .loop .i) (l .loop .count) (c .counted .result) (l .loop .inv .3) (c .counted .ensures), listed-more (l .loop .i) (l .loop .count) (leads (now (s .args .group))) (l .loop .least) (l .loop .inv .4) (l .loop .inv .3) (omega (arith, l .loop .inv .2)))
+loop-again c =
+    let loop = c .before .before .loop in
+    let p = leads (now (c .before .before .before .args .group)) in
+    let bound = count-step-le p (loop .i) (loop .count) (c .counted .result) (loop .inv .3) (c .counted .ensures) in
+    let counted = count-step p (loop .i) (loop .count) (c .counted .result) (loop .inv .3) (c .counted .ensures) in
+    let listed = listed-more (loop .i) (loop .count) p (loop .least) (loop .inv .4) (loop .inv .3) (omega (arith, loop .inv .2)) in
+    (omega arith, bound, simp length-set (loop .inv .2), counted, listed)
 
 returns : tie.Need-returns Inv-loop μ-loop
 returns c = let s = c .before .before in listed-end (s .args .states) (c .before .loop .i) (c .before .loop .count) (now (s .args .group)) (c .before .loop .least) (c .before .loop .inv .4) (omega arith) (c .before .loop .inv .3)

@@ -8,7 +8,7 @@ use Rattle.sequences.proofs.Loops.{Filled, filled-none, filled-more}
 use Rattle.moore.specs.Counting.{countBelow}
 use Rattle.moore.specs.Grouping.{leads}
 use Rattle.moore.specs.Quotient.{number}
-use Rattle.grouping.proofs.Laws.{filled-take, taken-at}
+use Rattle.refinement.proofs.Laws.{filled-take, taken-at}
 use Rattle.grouping.proofs.numbers.Statement.{statement}
 use Rattle.grouping.proofs.numbers.Tie as tie
 
@@ -53,7 +53,14 @@ loop-less c = search needs
 
 loop-again : tie.Need-loop-again Inv-loop μ-loop
 unfolding number
-loop-again c = let s = c .before .before .before .before .before in let l = c .before .before .before in (omega arith, filled-more (l .loop .inv .1) (taken-at (s .args .states) (c .before .before .before .before .ranks .result) (λ k. countBelow k (leads (now (s .args .group)))) (c .before .before .before .before .ranks .ensures) (c .wide16 .result) 0 (omega (arith, c .wide16 .ensures .0, s .pre .1 .least (l .loop .i) (omega arith))) ∙ ap (λ (x : ℕ). countBelow x (leads (now (s .args .group)))) (c .wide16 .ensures .0)) (let l : l .loop .i < 256 = omega arith in search needs))
+loop-again c =
+    let at = c .before .before .before in
+    let ranks = at .before .ranks in
+    let start = at .before .before in
+    let rank : ℕ → ℕ = λ x. countBelow x (leads (now (start .args .group))) in
+    let inside = start .pre .1 .least (at .loop .i) (omega arith) in
+    let taken = taken-at (start .args .states) (ranks .result) rank (ranks .ensures) (c .wide16 .result) 0 (omega (arith, c .wide16 .ensures .0, inside)) in
+    (omega arith, filled-more (at .loop .inv .1) (taken ∙ ap rank (c .wide16 .ensures .0)) (let l : at .loop .i < 256 = omega arith in search needs))
 
 returns : tie.Need-returns Inv-loop μ-loop
 returns c = filled-take (c .before .before .before .args .states) (c .before .loop .inv .1) (omega arith)

@@ -7,7 +7,8 @@ use mathlib.Core.List.{[]}
 use denote.Ref.{now}
 use lib.ListN.{getD}
 use Rattle.sequences.proofs.Loops.{Filled, filled-none, filled-more, filled-to}
-use Rattle.grouping.specs.Machines.{RowBelow, rowAt}
+use Rattle.refinement.specs.Groups.{RowBelow}
+use Rattle.grouping.specs.Machines.{rowAt}
 use Rattle.grouping.proofs.put_rows.Statement.{statement}
 use Rattle.grouping.proofs.put_rows.Tie as tie
 
@@ -30,7 +31,12 @@ wide16-requires : tie.Need-wide16-requires Inv-loop μ-loop
 wide16-requires c κs = search needs
 
 row-of-requires : tie.Need-row-of-requires Inv-loop μ-loop
-row-of-requires c κs = ((omega arith, omega (arith, c .wide16 .ensures .0, c .before .before .before .before .pre .1 .state (c .before .before .before .loop .q) (omega arith))), subst (λ (x : ℕ). RowBelow (c .before .before .before .before .args .events) 256 (getD (now (c .before .before .before .before .args .rows)) x [])) (sym (c .wide16 .ensures .0)) (c .before .before .before .before .pre .1 .row (c .before .before .before .loop .q) (omega arith)))
+row-of-requires c κs =
+    let at = c .before .before .before in
+    let start = at .before in
+    let inside = start .pre .1 .state (at .loop .q) (omega arith) in
+    let row = start .pre .1 .row (at .loop .q) (omega arith) in
+    ((omega arith, omega (arith, c .wide16 .ensures .0, inside)), subst (λ (x : ℕ). RowBelow (start .args .events) 256 (getD (now (start .args .rows)) x [])) (sym (c .wide16 .ensures .0)) row)
 
 mul-t10 : tie.Need-mul-t10 Inv-loop μ-loop
 mul-t10 c = search needs

@@ -8,7 +8,8 @@ use denote.Ref.{now}
 use lib.ListN.{getD}
 use Rattle.meaning.specs.Traces.{firstEvents}
 use Rattle.sequences.proofs.Loops.{Filled, filled-none, filled-more, filled-to}
-use Rattle.grouping.specs.Machines.{RowBelow, verdictAt}
+use Rattle.refinement.specs.Groups.{RowBelow}
+use Rattle.grouping.specs.Machines.{verdictAt}
 use Rattle.grouping.proofs.put_verdicts.Statement.{statement}
 use Rattle.grouping.proofs.put_verdicts.Tie as tie
 
@@ -31,7 +32,12 @@ wide16-requires : tie.Need-wide16-requires Inv-loop μ-loop
 wide16-requires c κs = search needs
 
 verdict-of-requires : tie.Need-verdict-of-requires Inv-loop μ-loop
-verdict-of-requires c κs = ((omega arith, omega (arith, c .wide16 .ensures .0, c .before .before .before .before .pre .1 .state (c .before .before .before .loop .q) (omega arith))), subst (λ (x : ℕ). RowBelow (c .before .before .before .before .args .events) 256 (getD (now (c .before .before .before .before .args .rows)) x [])) (sym (c .wide16 .ensures .0)) (c .before .before .before .before .pre .1 .row (c .before .before .before .loop .q) (omega arith)))
+verdict-of-requires c κs =
+    let at = c .before .before .before in
+    let start = at .before in
+    let inside = start .pre .1 .state (at .loop .q) (omega arith) in
+    let row = start .pre .1 .row (at .loop .q) (omega arith) in
+    ((omega arith, omega (arith, c .wide16 .ensures .0, inside)), subst (λ (x : ℕ). RowBelow (start .args .events) 256 (getD (now (start .args .rows)) x [])) (sym (c .wide16 .ensures .0)) row)
 
 element-write-verdicts : tie.Need-element-write-verdicts Inv-loop μ-loop
 element-write-verdicts c = search needs
@@ -43,7 +49,11 @@ loop-less : tie.Need-loop-less Inv-loop μ-loop
 loop-less c = search needs
 
 loop-again : tie.Need-loop-again Inv-loop μ-loop
-loop-again c = (omega arith, filled-more (c .before .before .before .before .loop .inv .1) (c .verdict-of .ensures ∙ ap (verdictAt (firstEvents (c .before .before .before .before .before .args .events)) (now (c .before .before .before .before .before .args .rows)) (now (c .before .before .before .before .before .args .classes)) (now (c .before .before .before .before .before .args .group))) (c .before .wide16 .ensures .0)) (omega arith))
+loop-again c =
+    let at = c .before .before .before .before in
+    let a = at .before .args in
+    let verdict = ap (verdictAt (firstEvents (a .events)) (now (a .rows)) (now (a .classes)) (now (a .group))) (c .before .wide16 .ensures .0) in
+    (omega arith, filled-more (at .loop .inv .1) (c .verdict-of .ensures ∙ verdict) (omega arith))
 
 returns : tie.Need-returns Inv-loop μ-loop
 returns c = filled-to (c .before .before .args .count) (c .before .loop .inv .1) (omega arith)

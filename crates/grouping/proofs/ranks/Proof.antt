@@ -7,7 +7,8 @@ use denote.Ref.{now}
 use Rattle.sequences.proofs.Loops.{Filled, filled-none, filled-more}
 use Rattle.moore.specs.Counting.{countBelow}
 use Rattle.moore.specs.Grouping.{leads}
-use Rattle.grouping.proofs.Laws.{filled-take, count-step, count-step-le}
+use Rattle.refinement.proofs.Laws.{filled-take}
+use Rattle.grouping.proofs.Laws.{count-step, count-step-le}
 use Rattle.grouping.proofs.ranks.Statement.{statement}
 use Rattle.grouping.proofs.ranks.Tie as tie
 
@@ -39,7 +40,12 @@ loop-less : tie.Need-loop-less Inv-loop μ-loop
 loop-less c = search needs
 
 loop-again : tie.Need-loop-again Inv-loop μ-loop
-loop-again c = let s = c .before .before .before in let l = c .before .before in (omega arith, count-step-le (leads (now (s .args .group))) (l .loop .i) (l .loop .below) (c .counted .result) (l .loop .inv .2) (c .counted .ensures), count-step (leads (now (s .args .group))) (l .loop .i) (l .loop .below) (c .counted .result) (l .loop .inv .2) (c .counted .ensures), filled-more (l .loop .inv .3) (l .loop .inv .2) (let l : l .loop .i < 256 = omega arith in search needs))
+loop-again c =
+    let loop = c .before .before .loop in
+    let p = leads (now (c .before .before .before .args .group)) in
+    let bound = count-step-le p (loop .i) (loop .below) (c .counted .result) (loop .inv .2) (c .counted .ensures) in
+    let counted = count-step p (loop .i) (loop .below) (c .counted .result) (loop .inv .2) (c .counted .ensures) in
+    (omega arith, bound, counted, filled-more (loop .inv .3) (loop .inv .2) (let l : loop .i < 256 = omega arith in search needs))
 
 returns : tie.Need-returns Inv-loop μ-loop
 returns c = filled-take (c .before .before .args .states) (c .before .loop .inv .3) (omega arith)

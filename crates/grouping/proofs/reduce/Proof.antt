@@ -41,10 +41,16 @@ list-leaders-requires : tie.Need-list-leaders-requires
 list-leaders-requires c κs = search needs
 
 put-verdicts-requires : tie.Need-put-verdicts-requires
-put-verdicts-requires c κs = let l = c .before .before .before .before in ((c .before .before .before .before .before .before .before .before .before .before .before .width .ensures .1, count-few l, c .before .before .before .before .before .before .before .before .before .before .before .before .pre .1 .1 .0), leaders-below l)
+put-verdicts-requires c κs =
+    let leaders = c .before .before .before .before in
+    let wide = leaders .before .before .before .before .before .before .before in
+    ((wide .width .ensures .1, count-few leaders, wide .before .pre .1 .1 .0), leaders-below leaders)
 
 put-rows-requires : tie.Need-put-rows-requires
-put-rows-requires c κs = let l = c .before .before .before .before .before .before .before .before .before in ((c .before .before .before .before .before .before .before .before .before .before .before .before .before .before .before .before .width .ensures .1, count-few l, c .before .before .before .before .before .before .before .before .before .before .before .before .before .before .before .before .before .pre .1 .1 .1), leaders-below l)
+put-rows-requires c κs =
+    let leaders = c .before .before .before .before .before .before .before .before .before in
+    let wide = leaders .before .before .before .before .before .before .before in
+    ((wide .width .ensures .1, count-few leaders, wide .before .pre .1 .1 .1), leaders-below leaders)
 
 cast-result : tie.Need-cast-result
 cast-result c = let h = count-few (c .before .before .before .before .before .before .before .before .before .before) in omega arith

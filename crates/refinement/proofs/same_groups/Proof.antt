@@ -7,8 +7,8 @@ use Prim.Native.Nat.{_-_, _≤_}
 use lib.ListN.{getD}
 use lib.Dec.{eqb}
 use Rattle.sequences.proofs.Loops.{Passed, passed-none, passed-more, passed-all, all-not}
-use Rattle.grouping.proofs.same_groups.Statement.{statement}
-use Rattle.grouping.proofs.same_groups.Tie as tie
+use Rattle.refinement.proofs.same_groups.Statement.{statement}
+use Rattle.refinement.proofs.same_groups.Tie as tie
 
 abbrev Inv-loop : tie.InvT-loop
 Inv-loop a b states i₀ i = (i ≤ states) × Passed i (λ k. eqb (getD a k 0) (getD b k 0))

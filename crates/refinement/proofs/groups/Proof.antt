@@ -5,9 +5,9 @@ use mathlib.Core.Path.{_∙_, ap}
 use denote.Ref.{now}
 use Rattle.meaning.specs.Traces.{firstEvents}
 use Rattle.moore.specs.Grouping.{rounds, grouping}
-use Rattle.grouping.proofs.Laws.{first-least}
-use Rattle.grouping.proofs.groups.Statement.{statement}
-use Rattle.grouping.proofs.groups.Tie as tie
+use Rattle.refinement.proofs.Laws.{first-least}
+use Rattle.refinement.proofs.groups.Statement.{statement}
+use Rattle.refinement.proofs.groups.Tie as tie
 
 first-groups-requires : tie.Need-first-groups-requires
 first-groups-requires c κs = search needs

@@ -3,15 +3,15 @@ use native.Mathlib.Omega.{arith}
 use borrow.Author.Needs.{needs}
 use mathlib.Core.Path.{sym, _∙_}
 use borrow.Author.Tests.{not-true, not-false}
-use Prim.Native.Nat.{_-_, _≤_}
-use mathlib.Core.Bool.{true, false}
+use Prim.Native.Nat.{ℕ, _-_, _≤_}
+use mathlib.Core.Bool.{Bool, true, false}
 use denote.Ref.{now}
 use Rattle.meaning.specs.Traces.{firstEvents}
 use Rattle.sequences.proofs.Loops.{Passed, passed-none, passed-more, passed-all, all-not}
 use Rattle.moore.specs.Grouping.{entry, together}
-use Rattle.grouping.proofs.Laws.{step-not, step-is}
-use Rattle.grouping.proofs.same_step.Statement.{statement}
-use Rattle.grouping.proofs.same_step.Tie as tie
+use Rattle.refinement.proofs.Laws.{step-not, step-is}
+use Rattle.refinement.proofs.same_step.Statement.{statement}
+use Rattle.refinement.proofs.same_step.Tie as tie
 
 abbrev Inv-loop : tie.InvT-loop
 Inv-loop rows group events j i e₀ e = (e ≤ events) × Passed e (λ k. together group (entry rows j k) (entry rows i k))
@@ -38,7 +38,15 @@ joined-requires-2 : tie.Need-joined-requires-2 Inv-loop μ-loop
 joined-requires-2 c κs = let s = c .before .before .before .before .before .before in let l = c .before .before .before in (omega (arith, c .before .successor .ensures, s .pre .1 .0 .to (l .loop .e) (omega arith)), omega (arith, c .successor2 .ensures, s .pre .1 .1 .to (l .loop .e) (omega arith)))
 
 returns-2 : tie.Need-returns-2 Inv-loop μ-loop
-returns-2 c = let s = c .before .before .before .before .before .before .before .before in step-is (firstEvents (s .args .events)) (now (s .args .rows)) (now (s .args .group)) (s .args .j) (s .args .i) false (sym (c .before .before .before .before .before .before .before .joined .ensures) ∙ not-false _ (c .before .before .before .before .before .before .if1 .left)) (sym (all-not (s .args .events) (λ k. together (now (s .args .group)) (entry (now (s .args .rows)) (s .args .j) k) (entry (now (s .args .rows)) (s .args .i) k)) (c .before .before .before .before .before .loop .e) (c .before .before .before .before .loop-test .taken) (rw (← c .before .before .before .successor .ensures, ← c .before .before .successor2 .ensures) (sym (c .before .joined2 .ensures) ∙ not-true _ (c .if2 .taken)))))
+returns-2 c =
+    let in-loop = c .before .before .before .before in
+    let joined = in-loop .before .before .before .joined in
+    let a = in-loop .before .before .before .before .args in
+    let both : ℕ → Bool = λ k. together (now (a .group)) (entry (now (a .rows)) (a .j) k) (entry (now (a .rows)) (a .i) k) in
+    let here = sym (joined .ensures) ∙ not-false _ (in-loop .before .before .if1 .left) in
+    step-is (firstEvents (a .events)) (now (a .rows)) (now (a .group)) (a .j) (a .i) false here
+    (sym (all-not (a .events) both (in-loop .before .loop .e) (in-loop .loop-test .taken)
+    (rw (← c .before .before .before .successor .ensures, ← c .before .before .successor2 .ensures) (sym (c .before .joined2 .ensures) ∙ not-true _ (c .if2 .taken)))))
 
 add-e : tie.Need-add-e Inv-loop μ-loop
 add-e c = search needs

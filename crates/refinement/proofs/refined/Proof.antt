@@ -6,11 +6,11 @@ use Prim.Native.Nat.{_-_, _≤_}
 use lib.ListN.{take}
 use Rattle.meaning.specs.Traces.{firstEvents}
 use Rattle.moore.specs.Grouping.{rounds}
-use Rattle.grouping.specs.Machines.{Least}
-use Rattle.grouping.proofs.Laws.{rows-fewer, next-least}
-use Rattle.grouping.proofs.Front.{rounds-stop, rounds-step}
-use Rattle.grouping.proofs.refined.Statement.{statement}
-use Rattle.grouping.proofs.refined.Tie as tie
+use Rattle.refinement.specs.Groups.{Least}
+use Rattle.refinement.proofs.Laws.{rows-fewer, next-least}
+use Rattle.refinement.proofs.Front.{rounds-stop, rounds-step}
+use Rattle.refinement.proofs.refined.Statement.{statement}
+use Rattle.refinement.proofs.refined.Tie as tie
 
 abbrev Inv-loop : tie.InvT-loop
 Inv-loop rows states events group₀ left₀ group left = (left ≤ states) × Least states group × (rounds left (firstEvents events) states rows (take states group) ≡ rounds states (firstEvents events) states rows (take states group₀))
@@ -28,7 +28,14 @@ same-groups-requires : tie.Need-same-groups-requires Inv-loop μ-loop
 same-groups-requires c κs = search needs
 
 returns : tie.Need-returns Inv-loop μ-loop
-returns c = let s = c .before .before .before .before .before .before .before .before in let l = c .before .before .before .before .before .before .before in sym (rounds-stop (s .args .states) (s .args .events) (s .args .rows) (s .pre .1 .0) (l .loop .group) (c .before .before .before .before .round .result) (c .before .before .before .before .round .ensures) (l .loop .left) (c .before .before .before .before .before .before .loop-test .taken) (sym (c .before .same-groups .ensures) ∙ c .if1 .taken)) ∙ l .loop .inv .2
+returns c =
+    let in-loop = c .before .before .before .before .before .before in
+    let loop = in-loop .before .loop in
+    let start = in-loop .before .before in
+    let a = start .args in
+    let round = c .before .before .before .before .round in
+    let same = sym (c .before .same-groups .ensures) ∙ c .if1 .taken in
+    sym (rounds-stop (a .states) (a .events) (a .rows) (start .pre .1 .0) (loop .group) (round .result) (round .ensures) (loop .left) (in-loop .loop-test .taken) same) ∙ loop .inv .2
 
 sub-left : tie.Need-sub-left Inv-loop μ-loop
 sub-left c = search needs
@@ -37,7 +44,15 @@ loop-less : tie.Need-loop-less Inv-loop μ-loop
 loop-less c = search needs
 
 loop-again : tie.Need-loop-again Inv-loop μ-loop
-loop-again c = let s = c .before .before .before .before .before .before .before .before in let l = c .before .before .before .before .before .before .before in (omega arith, next-least (firstEvents (s .args .events)) (s .args .states) (s .args .rows) (l .loop .group) (c .before .before .before .before .round .result) (c .before .before .before .before .round .ensures), sym (rounds-step (s .args .states) (s .args .events) (s .args .rows) (s .pre .1 .0) (l .loop .group) (c .before .before .before .before .round .result) (c .before .before .before .before .round .ensures) (l .loop .left) (l .loop .left - 1) (omega arith) (sym (c .before .same-groups .ensures) ∙ c .if1 .left)) ∙ l .loop .inv .2)
+loop-again c =
+    let loop = c .before .before .before .before .before .before .before .loop in
+    let start = c .before .before .before .before .before .before .before .before in
+    let a = start .args in
+    let round = c .before .before .before .before .round in
+    let other = sym (c .before .same-groups .ensures) ∙ c .if1 .left in
+    let least = next-least (firstEvents (a .events)) (a .states) (a .rows) (loop .group) (round .result) (round .ensures) in
+    let step = rounds-step (a .states) (a .events) (a .rows) (start .pre .1 .0) (loop .group) (round .result) (round .ensures) (loop .left) (loop .left - 1) (omega arith) other in
+    (omega arith, least, sym step ∙ loop .inv .2)
 
 returns-2 : tie.Need-returns-2 Inv-loop μ-loop
 unfolding rounds

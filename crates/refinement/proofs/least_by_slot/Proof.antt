@@ -3,9 +3,9 @@ use native.Mathlib.Omega.{arith}
 use borrow.Author.Needs.{needs}
 use mathlib.Core.Path.{sym, _∙_}
 use denote.Ref.{now}
-use Rattle.grouping.proofs.Slots.{left-none, left-same}
-use Rattle.grouping.proofs.least_by_slot.Statement.{statement}
-use Rattle.grouping.proofs.least_by_slot.Tie as tie
+use Rattle.refinement.proofs.Slots.{left-none, left-same}
+use Rattle.refinement.proofs.least_by_slot.Statement.{statement}
+use Rattle.refinement.proofs.least_by_slot.Tie as tie
 
 cast-result : tie.Need-cast-result
 cast-result c = search needs
@@ -23,7 +23,11 @@ element-copy-out-result : tie.Need-element-copy-out-result
 element-copy-out-result c = search needs
 
 returns-2 : tie.Need-returns-2
-returns-2 c = left-same (c .before .before .before .before .args .events) (now (c .before .before .before .before .args .rows)) (now (c .before .before .before .before .args .group)) (c .before .before .before .before .args .i) (c .before .before .before .before .args .j) (now (c .before .before .before .before .args .next)) (c .before .before .before .before .pre .1 .1 .1 .0) (omega arith) (sym (c .before .before .same-step .ensures) ∙ c .before .if2 .taken)
+returns-2 c =
+    let start = c .before .before .before .before in
+    let a = start .args in
+    left-same (a .events) (now (a .rows)) (now (a .group)) (a .i) (a .j) (now (a .next)) (start .pre .1 .1 .1 .0) (omega arith)
+    (sym (c .before .before .same-step .ensures) ∙ c .before .if2 .taken)
 
 least-same-requires : tie.Need-least-same-requires
 least-same-requires c κs = search needs

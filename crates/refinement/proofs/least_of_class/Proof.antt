@@ -6,8 +6,8 @@ use borrow.Author.Tests.{eq-eqb, ne-eqb}
 use Prim.Native.Nat.{_-_, _≤_}
 use Rattle.sequences.proofs.Loops.{Missed, missed-none, missed-more, missed-found, missed-end}
 use Rattle.moore.specs.Grouping.{together}
-use Rattle.grouping.proofs.least_of_class.Statement.{statement}
-use Rattle.grouping.proofs.least_of_class.Tie as tie
+use Rattle.refinement.proofs.least_of_class.Statement.{statement}
+use Rattle.refinement.proofs.least_of_class.Tie as tie
 
 abbrev Inv-loop : tie.InvT-loop
 Inv-loop classes i k₀ k = (k ≤ i) × Missed k (λ j. together classes j i)

@@ -6,11 +6,11 @@ use Rattle.meaning.specs.Traces.{firstEvents}
 use Rattle.sequences.specs.Tabulate.{leastBelow}
 use Rattle.sequences.proofs.Loops.{Filled, filled-none, filled-more}
 use Rattle.moore.specs.Grouping.{sameStep, nextGroups}
-use Rattle.grouping.specs.Slots.{Slotted}
-use Rattle.grouping.proofs.Laws.{filled-take, rows-fewer}
-use Rattle.grouping.proofs.Slots.{left-below, in-slot, slotted-none, slotted-more}
-use Rattle.grouping.proofs.round.Statement.{statement}
-use Rattle.grouping.proofs.round.Tie as tie
+use Rattle.refinement.specs.Slots.{Slotted}
+use Rattle.refinement.proofs.Laws.{filled-take, rows-fewer}
+use Rattle.refinement.proofs.Slots.{left-below, in-slot, slotted-none, slotted-more}
+use Rattle.refinement.proofs.round.Statement.{statement}
+use Rattle.refinement.proofs.round.Tie as tie
 
 abbrev Inv-loop : tie.InvT-loop
 Inv-loop group states events rows next₀ slots₀ i₀ next slots i = (i ≤ states) × Filled i (λ k. leastBelow k (λ j. sameStep (firstEvents events) rows group j k)) next₀ next × Slotted i events rows group slots
@@ -37,7 +37,14 @@ wide16-requires : tie.Need-wide16-requires Inv-loop μ-loop
 wide16-requires c κs = search needs
 
 least-by-slot-requires : tie.Need-least-by-slot-requires Inv-loop μ-loop
-least-by-slot-requires c κs = ((omega arith, omega arith), (rows-fewer (c .before .before .before .before .before .before .loop .i + 1) 256 (c .before .before .before .before .before .before .before .before .pre .1 .0) (omega arith) (omega arith), (record { least = λ k l. c .before .before .before .before .before .before .before .before .pre .1 .1 .least k (omega arith) }, (left-below _ _ _ (c .before .before .before .before .before .before .loop .i) (c .before .before .before .before .before .before .loop .inv .1), in-slot _ _ _ (c .before .before .before .before .before .before .loop .i) (c .before .before .before .slot-of .result) (c .before .before .wide16 .result) (c .before .before .before .before .before .before .loop .slots) (c .before .before .before .before .before .before .loop .inv .2) (c .before .before .before .slot-of .ensures .0) (c .before .before .wide16 .ensures .0)))))
+least-by-slot-requires c κs =
+    let wide16 = c .before .before .wide16 in
+    let slot-of = c .before .before .before .slot-of in
+    let loop = c .before .before .before .before .before .before .loop in
+    let start = c .before .before .before .before .before .before .before .before in
+    let below = rows-fewer (loop .i + 1) 256 (start .pre .1 .0) (omega arith) (omega arith) in
+    let slotted = in-slot _ _ _ (loop .i) (slot-of .result) (wide16 .result) (loop .slots) (loop .inv .2) (slot-of .ensures .0) (wide16 .ensures .0) in
+    ((omega arith, omega arith), (below, (record { least = λ k l. start .pre .1 .1 .least k (omega arith) }, (left-below _ _ _ (loop .i) (loop .inv .1), slotted))))
 
 mul-next : tie.Need-mul-next Inv-loop μ-loop
 mul-next c = search needs
@@ -61,7 +68,11 @@ loop-less : tie.Need-loop-less Inv-loop μ-loop
 loop-less c = search needs
 
 loop-again : tie.Need-loop-again Inv-loop μ-loop
-loop-again c = (omega arith, filled-more (c .before .before .before .before .before .before .before .loop .inv .1) (c .least-by-slot .ensures) (let l : c .before .before .before .before .before .before .before .loop .i < 256 = omega arith in search needs), slotted-more _ _ _ (c .before .before .before .before .before .before .before .loop .i) (c .before .before .before .before .slot-of .result) (c .before .before .before .before .before .before .before .loop .slots) (c .before .before .before .before .before .before .before .loop .inv .2) (c .before .before .before .before .slot-of .ensures .0) (c .before .before .before .before .slot-of .ensures .1))
+loop-again c =
+    let slot-of = c .before .before .before .before .slot-of in
+    let loop = c .before .before .before .before .before .before .before .loop in
+    let filled = filled-more (loop .inv .1) (c .least-by-slot .ensures) (let l : loop .i < 256 = omega arith in search needs) in
+    (omega arith, filled, slotted-more _ _ _ (loop .i) (slot-of .result) (loop .slots) (loop .inv .2) (slot-of .ensures .0) (slot-of .ensures .1))
 
 returns : tie.Need-returns Inv-loop μ-loop
 unfolding nextGroups

@@ -5,9 +5,9 @@ use Prim.Native.Nat.{_-_, _≤_, _<_}
 use Rattle.sequences.specs.Tabulate.{leastBelow}
 use Rattle.sequences.proofs.Loops.{Filled, filled-none, filled-more}
 use Rattle.moore.specs.Grouping.{together, firstGroups}
-use Rattle.grouping.proofs.Laws.{filled-take}
-use Rattle.grouping.proofs.first_groups.Statement.{statement}
-use Rattle.grouping.proofs.first_groups.Tie as tie
+use Rattle.refinement.proofs.Laws.{filled-take}
+use Rattle.refinement.proofs.first_groups.Statement.{statement}
+use Rattle.refinement.proofs.first_groups.Tie as tie
 
 abbrev Inv-loop : tie.InvT-loop
 Inv-loop classes states group₀ i₀ group i = (i ≤ states) × Filled i (λ k. leastBelow k (λ j. together classes j k)) group₀ group

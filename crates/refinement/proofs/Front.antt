@@ -1,0 +1,65 @@
+-- Of a list of groups a round reads those of the n states only: what stands past them does not matter.
+use mathlib.Core.Path.{_≡_, refl, sym, ap, ap₂, _∙_}
+use mathlib.Core.Bool.{Bool, true, false, cond}
+use mathlib.Core.List.{List, _∷_}
+use Prim.Native.Nat.{ℕ, zero, suc, _+_, _<_}
+use native.Mathlib.Numerals.{add-one}
+use native.Mathlib.Nat.{not-suc-le-zero}
+use native.Mathlib.Omega.{arith}
+use lib.Dec.{eqb}
+use lib.ListN.{getD, take}
+use lib.Seq.{getD-take}
+use Rattle.meaning.specs.Traces.{firstEvents}
+use Rattle.sequences.specs.Tabulate.{tabulate, allBelow, leastBelow}
+use Rattle.moore.specs.Grouping.{entry, together, sameStep, nextGroups, sameBelow, rounds}
+use Rattle.refinement.specs.Groups.{RowsBelow}
+
+-- ---- equal below the bound
+pub tabulate-same : {A : Type 0} (n : ℕ) (f g : ℕ → A) → ((i : ℕ) → i < n → f i ≡ g i) → tabulate n f ≡ tabulate n g
+tabulate-same zero f g h = refl
+tabulate-same {A} (suc n) f g h = ap₂ (λ (a : A) (l : List A). a ∷ l) (h zero (omega arith)) (tabulate-same n (λ i. f (suc i)) (λ i. g (suc i)) (λ i l. h (suc i) (omega arith)))
+
+pub all-same : (n : ℕ) (p q : ℕ → Bool) → ((i : ℕ) → i < n → p i ≡ q i) → allBelow n p ≡ allBelow n q
+all-same zero p q h = refl
+all-same (suc n) p q h = ap₂ (λ (a b : Bool). cond a b false) (h zero (omega arith)) (all-same n (λ i. p (suc i)) (λ i. q (suc i)) (λ i l. h (suc i) (omega arith)))
+
+least-same : (n : ℕ) (p q : ℕ → Bool) → ((i : ℕ) → i < n → p i ≡ q i) → leastBelow n p ≡ leastBelow n q
+least-same zero p q h = refl
+least-same (suc n) p q h = ap₂ (λ (a : Bool) (b : ℕ). cond a zero (suc b)) (h zero (omega arith)) (least-same n (λ i. p (suc i)) (λ i. q (suc i)) (λ i l. h (suc i) (omega arith)))
+
+-- ---- the front of a list of groups
+module _ (n : ℕ) (group : List ℕ) where
+  pub front-at : (i : ℕ) → i < n → getD (take n group) i 0 ≡ getD group i 0
+  front-at i l = getD-take n group i 0 l
+
+  pub together-front : (i j : ℕ) → i < n → j < n → together (take n group) i j ≡ together group i j
+  together-front i j l m = ap₂ eqb (front-at i l) (front-at j m)
+
+  module _ (w : ℕ) (rows : List (List ℕ)) (h : RowsBelow n w n rows) where
+    step-front : (j i : ℕ) → j < n → i < n → sameStep (firstEvents w) rows (take n group) j i ≡ sameStep (firstEvents w) rows group j i
+    step-front j i m l =
+        ap₂ (λ (a b : Bool). cond a b false) (together-front j i m l)
+        (all-same w (λ e. together (take n group) (entry rows j e) (entry rows i e)) (λ e. together group (entry rows j e) (entry rows i e)) (λ e k. together-front (entry rows j e) (entry rows i e) (h .row j m .to e k) (h .row i l .to e k)))
+
+    next-front : nextGroups (firstEvents w) n rows (take n group) ≡ nextGroups (firstEvents w) n rows group
+    unfolding nextGroups
+    next-front = tabulate-same n (λ i. leastBelow i (λ j. sameStep (firstEvents w) rows (take n group) j i)) (λ i. leastBelow i (λ j. sameStep (firstEvents w) rows group j i))
+        (λ i l. least-same i (λ j. sameStep (firstEvents w) rows (take n group) j i) (λ j. sameStep (firstEvents w) rows group j i) (λ j m. step-front j i (omega arith) l))
+
+same-front : (n : ℕ) (a b : List ℕ) → sameBelow n (take n a) (take n b) ≡ sameBelow n a b
+same-front n a b = all-same n (λ i. eqb (getD (take n a) i 0) (getD (take n b) i 0)) (λ i. eqb (getD a i 0) (getD b i 0)) (λ i l. ap₂ eqb (front-at n a i l) (front-at n b i l))
+
+-- ---- one turn of the rounds
+module _ (n w : ℕ) (rows : List (List ℕ)) (h : RowsBelow n w n rows) (group next : List ℕ) (e : take n next ≡ nextGroups (firstEvents w) n rows group) where
+  turn : (k : ℕ) → rounds (suc k) (firstEvents w) n rows (take n group) ≡ cond (sameBelow n next group) (take n group) (rounds k (firstEvents w) n rows (take n next))
+  unfolding rounds
+  turn k =
+      ap (λ (x : List ℕ). cond (sameBelow n x (take n group)) (take n group) (rounds k (firstEvents w) n rows x)) (next-front n group w rows h ∙ sym e)
+      ∙ ap (λ (b : Bool). cond b (take n group) (rounds k (firstEvents w) n rows (take n next))) (same-front n next group)
+
+  pub rounds-stop : (k : ℕ) → 0 < k → sameBelow n next group ≡ true → rounds k (firstEvents w) n rows (take n group) ≡ take n group
+  rounds-stop zero l q = absurd (not-suc-le-zero l)
+  rounds-stop (suc k) l q = turn k ∙ rw q
+
+  pub rounds-step : (k j : ℕ) → k ≡ j + 1 → sameBelow n next group ≡ false → rounds k (firstEvents w) n rows (take n group) ≡ rounds j (firstEvents w) n rows (take n next)
+  rounds-step k j l q = rw (l, add-one j) (turn j ∙ rw q)

@@ -1,0 +1,3 @@
+pub mod Laws
+pub mod Front
+pub mod Slots
