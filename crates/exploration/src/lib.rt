@@ -184,7 +184,17 @@ fn walk(
     while i < count {
         let mut row = [0u16; 16];
         let key = keys[i];
-        let grown = expand(profiles, full, n, events, keys, &mut slots, count, key, &mut row);
+        let grown = expand(
+            profiles,
+            full,
+            n,
+            events,
+            keys,
+            &mut slots,
+            count,
+            key,
+            &mut row,
+        );
         let Grown::To(next) = grown else {
             *met = 257;
             return rows;

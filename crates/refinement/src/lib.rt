@@ -199,7 +199,12 @@ fn first_groups(classes: &[u8; 256], states: usize) -> [u16; 256]
 }
 
 // For each state the least of its group.
-pub fn groups(rows: [[u16; 16]; 256], classes: &[u8; 256], states: usize, events: usize) -> [u16; 256]
+pub fn groups(
+    rows: [[u16; 16]; 256],
+    classes: &[u8; 256],
+    states: usize,
+    events: usize,
+) -> [u16; 256]
     requires { ⌜ (events ≤ 16) × (states ≤ 256) ⌝ }
     requires { ⌜ RowsBelow states events states rows ⌝ }
     ensures { λ r. ⌜ take states r ≡ grouping (firstEvents events) states rows (now (classes .entry)) ⌝ }
