@@ -172,13 +172,11 @@ fn walk(
     keys: &mut [[u64; 4]; 256],
     met: &mut u16,
 ) -> [[u16; 16]; 256]
-    requires { ⌜ Steppable events n (now profiles) (keyOf (now full)) ⌝ }
-    requires { ⌜ (events ≤ 16) × KeysFit 1 (now keys) × (keyOf (getD (now keys) 0 []) ≡ startKey (tablesBy n (now profiles) (keyOf (now full)))) ⌝ }
+    requires { ⌜ (events ≤ 16) × Steppable events n (now profiles) (keyOf (now full)) × KeysFit 1 (now keys) × (keyOf (getD (now keys) 0 []) ≡ startKey (tablesBy n (now profiles) (keyOf (now full)))) ⌝ }
     ensures { λ r. ⌜ WalkedAs (exploreBelow (tablesBy n (now (profiles .entry)) (keyOf (now (full .entry)))) events) events (now (keys .exit)) (now (met .exit)) r ⌝ }
 {
     let mut rows = no_rows();
-    let first = keys[0];
-    let mut slots = first_slots(first);
+    let mut slots = first_slots(keys[0]);
     let mut count: usize = 1;
     let mut i: usize = 0;
     while i < count {

@@ -46,7 +46,7 @@ walk-requires c κs =
     let fit = keys-first (replicate 256 (replicate {A = ℕ} 4 0)) (pack .result) (length-replicate 256 (replicate {A = ℕ} 4 0)) (pack .ensures .0) .0 in
     let first = pack .ensures .1 ∙ start-is tabled (started .result) (started .ensures)
     ∙ ap (λ (W : ℕ). startKey (tablesBy (power .result) (now (a .profiles)) W)) (sym (full .ensures .1)) in
-    (steppable tabled (record { nodes = a .m; few = start .pre .0 .1; is = power .ensures .0 }) (full .ensures .1), (width .ensures .1, fit, first))
+    (width .ensures .1, steppable tabled (record { nodes = a .m; few = start .pre .0 .1; is = power .ensures .0 }) (full .ensures .1), fit, first)
 
 wide16-requires : tie.Need-wide16-requires
 wide16-requires c κs = search needs

@@ -20,8 +20,8 @@ abbrev μ-loop : tie.MeasureT-loop
 no-rows-requires : tie.Need-no-rows-requires Inv-loop μ-loop
 no-rows-requires c κs = search needs
 
-element-copy-out-first : tie.Need-element-copy-out-first Inv-loop μ-loop
-element-copy-out-first c = search needs
+element-copy-out-first-slots : tie.Need-element-copy-out-first-slots Inv-loop μ-loop
+element-copy-out-first-slots c = search needs
 
 first-slots-requires : tie.Need-first-slots-requires Inv-loop μ-loop
 first-slots-requires c κs = search needs
@@ -31,7 +31,7 @@ loop-holds c =
     let start = c .before .before .before in
     let a = start .args in
     walking-none (tablesBy (a .n) (now (a .profiles)) (keyOf (now (a .full)))) (a .events)
-    (start .pre .1 .1) (slotted-first (c .first-slots .ensures .0) (c .first-slots .ensures .1)) (c .before .before .no-rows .ensures) (start .pre .1 .2)
+    (start .pre .2) (slotted-first (c .first-slots .ensures .0) (c .first-slots .ensures .1)) (c .before .before .no-rows .ensures) (start .pre .3)
 
 mul-key : tie.Need-mul-key Inv-loop μ-loop
 mul-key c = omega (arith, c .before .loop .inv .fit .few)
@@ -43,7 +43,7 @@ expand-requires : tie.Need-expand-requires Inv-loop μ-loop
 expand-requires c κs =
     let loop = c .before .before .before .before .before .loop in
     let start = c .before .before .before .before .before .before .before .before .before in
-    (start .pre .0, (start .pre .1 .0, loop .inv .fit, loop .inv .slotted, refl))
+    (start .pre .1, (start .pre .0, loop .inv .fit, loop .inv .slotted, refl))
 
 enum-known-grown : tie.Need-enum-known-grown Inv-loop μ-loop
 enum-known-grown c = search needs
@@ -94,7 +94,7 @@ walk-spec =
     Inv-loop
     μ-loop
     no-rows-requires
-    element-copy-out-first
+    element-copy-out-first-slots
     first-slots-requires
     loop-holds
     mul-key
