@@ -5,7 +5,7 @@ use mathlib.Core.List.{List, _++_}
 use mathlib.Core.Bool.{Bool, true, false, cond}
 use Prim.Native.Nat.{ℕ, _<_}
 use native.Mathlib.Omega.{arith}
-use lib.ListN.{length, drop}
+use lib.ListN.{length, take, drop}
 use lib.Seq.{take-append-seam}
 use lib.Dec.{leb}
 use borrow.Author.Tests.{leb-false}
@@ -45,6 +45,10 @@ module _ (file : List ℕ) (r : Rule) (reads : Reads file r) where
     demand-3 = our-demands .demand-3 file r t reads (built-by t q);
   }
 
+  -- the table stands at the front of the output
+  front-right : (t out : List ℕ) → outcomeOf r ≡ Table t → BuiltRight file (take (length t) (t ++ drop (length t) out))
+  front-right t out q = rw (take-append-seam t (drop (length t) out)) (built-right t q)
+
   short-right : (t : List ℕ) (room : ℕ) → outcomeOf r ≡ Table t → room < length t → RefusedRight file room 10
   short-right t room q l r′ reads′ =
       inr (refl, our-demands .demand-2 file r′ reads′ .not-both t (built-by t q), record { table = t; built = built-by t q; longer = l })
@@ -58,7 +62,7 @@ module _ (file : List ℕ) (r : Rule) (reads : Reads file r) where
   accepted-right out (Table t) q = go (leb (length t) (length out)) refl
     where
       go : (b : Bool) → leb (length t) (length out) ≡ b → Right file out (cond b (t ++ drop (length t) out) out) (cond b (Built.Table (length t)) (Built.Refused ShortOutput))
-      go true e = rw (take-append-seam t (drop (length t) out)) (built-right t q)
+      go true e = front-right t out q
       go false e = short-right t (length out) q (leb-false (length t) (length out) e)
   accepted-right out TooMany q = many-right (length out) q
 
