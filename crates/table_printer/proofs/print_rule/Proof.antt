@@ -1,6 +1,7 @@
 -- `table_printer::print_rule` meets its contract.
 use native.Mathlib.Omega.{arith}
 use mathlib.Core.Path.{sym, _∙_}
+use Prim.Native.Nat.{_≤_}
 use lib.ListN.{length, take}
 use lib.Seq.{length-take-le}
 use borrow.Author.Needs.{needs}
@@ -11,7 +12,7 @@ use Rattle.table_printer.proofs.print_rule.Statement.{statement}
 use Rattle.table_printer.proofs.print_rule.Tie as tie
 
 returns : tie.Need-returns
-returns c = let l = lt-leb 32768 (length (now (c .before .before .before .args .text))) (c .if1 .taken) in (rw l, rw l)
+returns c = let l = lt-leb 32768 (length (now (c .before .before .before .args .text))) (omega (arith, c .if1 .taken)) in (rw l, rw l)
 
 room-requires : tie.Need-room-requires
 room-requires c κs = search needs
@@ -86,7 +87,7 @@ returns-3 c =
     let out = now (start .args .text) in
     let why = at-built .built2 .given .0 .0 in
     let e = refused-text file (at-room .room .result) (omega (arith, at-room .room .ensures)) why (sym (at-build .build .ensures .0) ∙ at-built .built2 .given .1) in
-    let long = at-test .if1 .left in
+    let long : 32768 ≤ length out = omega (arith, at-test .if1 .left) in
     (at-line .refusal-text .ensures .0 ∙ line-answer file out why long e, at-line .refusal-text .ensures .1 ∙ line-after file out why long e)
 
 pub print-rule-spec : {M : Type 1} → statement M
