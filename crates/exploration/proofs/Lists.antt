@@ -10,6 +10,7 @@ use lib.ListN.{length, getD, set, length-set, replicate, length-replicate}
 use lib.Seq.{getD-set-same, getD-set-other}
 use lib.Dec.{T, eqb, eqb→eq}
 use borrow.Author.Tests.{eq-eqb, ne-eqb}
+use Rattle.sequences.proofs.Pointwise.{least-same}
 use Rattle.sequences.specs.Tabulate.{tabulate, leastBelow}
 use Rattle.sequences.proofs.Loops.{length-tab, getD-tab, least-is}
 use Rattle.sequences.proofs.Pigeonhole.{least-below}
@@ -73,11 +74,6 @@ keys-first keys key l w = (record { some = omega arith; few = omega arith; room 
     go : (i : ℕ) → i < 1 → WordsFit (getD (set keys 0 key) i [])
     go zero m = subst WordsFit (sym first) w
     go (suc i) m = absurd (omega arith)
-
-least-same : (n : ℕ) (p q : ℕ → Bool) → ((i : ℕ) → i < n → p i ≡ q i) → leastBelow n p ≡ leastBelow n q
-least-same n p q h =
-    let r = least-below n q in
-    least-is n p (leastBelow n q) (r .bound) (λ k l. h k (omega (arith, r .bound)) ∙ r .before k l) (λ l. h (leastBelow n q) l ∙ r .here l)
 
 pub locate-is : (s count : ℕ) (keys : List (List ℕ)) (k : ℕ) → locate eqb s (keysIn count keys) k ≡ leastBelow count (metAt keys k)
 unfolding locate

@@ -6,6 +6,7 @@ use Prim.Native.Nat.{ℕ, zero, suc, _≤_, _<_}
 use native.Mathlib.Omega.{arith}
 use lib.Dec.{eqb}
 use lib.ListN.{getD, take}
+use Rattle.sequences.proofs.Pointwise.{all-same}
 use Rattle.meaning.specs.Traces.{firstEvents}
 use Rattle.sequences.specs.Tabulate.{tabulate}
 use Rattle.meaning.specs.Monitors.{keep}
@@ -13,7 +14,7 @@ use Rattle.moore.specs.Counting.{countBelow}
 use Rattle.moore.specs.Grouping.{entry, together, leads}
 use Rattle.moore.specs.Quotient.{leaders, leader, size, number, closed}
 use Rattle.refinement.specs.Groups.{RowBelow}
-use Rattle.refinement.proofs.Front.{all-same, front-at, together-front}
+use Rattle.refinement.proofs.Front.{front-at, together-front}
 
 -- ---- equal below the bound
 pub map-tabulate : {A B : Type 0} (h : A → B) (n : ℕ) (f : ℕ → A) → map h (tabulate n f) ≡ tabulate n (λ i. h (f i))

@@ -5,6 +5,7 @@ use mathlib.Core.List.{List, _++_, map}
 use Prim.Native.Nat.{ℕ, _^_, _≤_, _<_}
 use native.Mathlib.Omega.{arith}
 use lib.ListN.{getD, take, drop}
+use Rattle.sequences.proofs.Pointwise.{tabulate-same}
 use Rattle.sequences.specs.Tabulate.{tabulate}
 use Rattle.sequences.proofs.Loops.{getD-tab}
 use Rattle.meaning.specs.Traces.{over, firstEvents}
@@ -15,7 +16,7 @@ use Rattle.moore.proofs.Grouping.{grouping-grouped, grouping-stable}
 use Rattle.moore.proofs.Quotient.{leader-in, number-in, number-start}
 use Rattle.refinement.specs.Groups.{RowsBelow, Least}
 use Rattle.refinement.proofs.Laws.{taken-at, rows-fewer}
-use Rattle.refinement.proofs.Front.{tabulate-same, front-at}
+use Rattle.refinement.proofs.Front.{front-at}
 use Rattle.grouping.specs.Machines.{ListBelow, Leaders, verdictAt, rowAt}
 use Rattle.grouping.specs.Reduction.{padded, Reduction}
 use Rattle.grouping.proofs.Front.{map-tabulate, size-front, leader-front, number-front, closed-front}

@@ -4,9 +4,9 @@ use mathlib.Core.Bool.{Bool, true, false, cond, _&&_}
 use Prim.Native.Nat.{ℕ, suc, _^_}
 use lib.ListN.{length, getD, drop, replicate}
 use lib.Dec.{ltb, leb}
-use Rattle.sequences.specs.Tabulate.{every, allBelow, leastBelow, tabulate}
+use Rattle.sequences.specs.Tabulate.{every, leastBelow, tabulate}
 use Rattle.meaning.specs.Monitors.{Monitor, follow}
-use Rattle.meaning.specs.TableFiles.{isTable, signalsIn, statesIn, verdictByte, successor, countsTests, verdictOf, monitorIn, monitorOf}
+use Rattle.meaning.specs.TableFiles.{isTable, signalsIn, statesIn, verdictByte, successor, contentTests, countsTests, verdictOf, monitorIn, monitorOf}
 use Rattle.meaning.specs.declared.Verdict.{Verdict}
 use Rattle.meaning.specs.declared.Verdict.the-variants.{Undecided, Satisfied, Violated, Moot}
 use Rattle.meaning.specs.declared.Refusal.{Refusal}
@@ -90,6 +90,6 @@ abbrev pub rowIn : List ℕ → ℕ → ℕ → ℕ → StateRow
 rowIn t P S s =
     cond (countsFit t P S)
     (cond (ltb s S)
-    (cond (leb (verdictByte t P s) 3 && allBelow (2 ^ P) (λ e. ltb (successor t P s e) S)) (rowOf t P s) (noRow WrongTable))
+    (cond (every (contentTests t P S s)) (rowOf t P s) (noRow WrongTable))
     (noRow WrongState))
     (noRow WrongTable)

@@ -38,14 +38,13 @@ successor t P s e = u16At t (rowAt P s + 5 + 2 * e)
 abbrev pub tableLength : ℕ → ℕ → ℕ
 tableLength P S = 7 + S * rowLength P
 
--- a state's record: its length and kind, "a verdict above 3", "a successor not below S"
+-- what a state's record holds: "a verdict above 3", "a successor not below S" are refused
+abbrev pub contentTests : List ℕ → ℕ → ℕ → ℕ → List Bool
+contentTests t P S s = leb (verdictByte t P s) 3 ∷ allBelow (2 ^ P) (λ e. ltb (successor t P s e) S) ∷ []
+
+-- the whole record, with its length and kind
 abbrev pub rowTests : List ℕ → ℕ → ℕ → ℕ → List Bool
-rowTests t P S s =
-    eqb (u16At t (rowAt P s)) (3 + 2 * 2 ^ P)
-    ∷ eqb (u16At t (rowAt P s + 2)) 513
-    ∷ leb (verdictByte t P s) 3
-    ∷ allBelow (2 ^ P) (λ e. ltb (successor t P s e) S)
-    ∷ []
+rowTests t P S s = eqb (u16At t (rowAt P s)) (3 + 2 * 2 ^ P) ∷ eqb (u16At t (rowAt P s + 2)) 513 ∷ contentTests t P S s
 
 -- P and S are those of a table, "P is the number of signals, 1 to 4", "the number of states, 1 to 256", and the bytes have that table's length
 abbrev pub countsTests : List ℕ → ℕ → ℕ → List Bool

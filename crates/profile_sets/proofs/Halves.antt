@@ -3,36 +3,21 @@ use mathlib.Core.Path.{_≡_, refl, sym, ap, ap₂, _∙_, subst}
 use mathlib.Core.Bool.{Bool, true, false, _&&_}
 use mathlib.Core.List.{List, [], _∷_}
 use Prim.Native.Nat.{ℕ, zero, suc, _+_, _*_, _/_, _%_, _^_, _≤_, _<_}
-use native.Mathlib.Nat.{pow-suc, add-mod-right, mod-eq-of-lt, mod-lt, mul-assoc, add-comm, lt-of-lt-of-le}
+use native.Mathlib.Nat.{pow-suc, add-mod-right, mod-eq-of-lt, mul-assoc, add-comm, lt-of-lt-of-le}
 use native.Mathlib.Decide.{decLt}
 use native.Mathlib.Omega.{arith}
 use lib.ListN.{getD}
-use lib.Dec.{eqb, lit<}
-use lib.Bits.{bitAnd, and-mod, and-shr, and-le-r}
+use lib.Bits.{bitAnd, and-le-r}
 use lib.Pow.{pow-mono, shl-exact}
 use Rattle.ltl.specs.Sets.{on, setBelow}
 use Rattle.ltl.specs.Residuals.{preimage}
 use Rattle.ltl.specs.Keys.{look, stepKey}
-use Rattle.ltl.proofs.Sets.{on-out, on-set, same-members, set-lt, set-same}
+use Rattle.ltl.proofs.Sets.{on-out, on-set, same-members, set-lt, set-same, on-and}
 use Rattle.profile_sets.specs.Arrays.{setIn, tablesBy, Steppable, keyOf, WordsFit, hitsFrom, Cut}
 use Rattle.profile_sets.proofs.Tables.{on-set-in, labels-few, profile-small}
 use Rattle.profile_sets.proofs.Words.{key-member, each-of-four, set-lowest, Begun, begun-all}
 
 -- ---- the numbers in both of two sets
-
-on-and : (A B i : ℕ) → on (bitAnd A B) i ≡ (on A i && on B i)
-on-and A B i =
-    ap (λ (x : ℕ). eqb (x % 2) 1) (and-shr A B i) ∙ ap (λ (x : ℕ). eqb x 1) (and-mod (A / 2 ^ i) (B / 2 ^ i) 1)
-    ∙ digit (A / 2 ^ i % 2) (B / 2 ^ i % 2) (mod-lt (A / 2 ^ i) (lit< tt)) (mod-lt (B / 2 ^ i) (lit< tt))
-  where
-    digit : (x y : ℕ) → x < 2 → y < 2 → eqb (bitAnd x y) 1 ≡ (eqb x 1 && eqb y 1)
-    digit zero zero p q = refl
-    digit zero (suc zero) p q = refl
-    digit (suc zero) zero p q = refl
-    digit (suc zero) (suc zero) p q = refl
-    digit zero (suc (suc y)) p q = absurd (omega arith)
-    digit (suc zero) (suc (suc y)) p q = absurd (omega arith)
-    digit (suc (suc x)) y p q = absurd (omega arith)
 
 module _ (a b : ℕ) (full : List ℕ) where
   abbrev cutWords : List ℕ

@@ -9,24 +9,13 @@ use native.Mathlib.Omega.{arith}
 use lib.Dec.{eqb}
 use lib.ListN.{getD, take}
 use lib.Seq.{getD-take}
+use Rattle.sequences.proofs.Pointwise.{tabulate-same, all-same, least-same}
 use Rattle.meaning.specs.Traces.{firstEvents}
 use Rattle.sequences.specs.Tabulate.{tabulate, allBelow, leastBelow}
 use Rattle.moore.specs.Grouping.{entry, together, sameStep, nextGroups, sameBelow, rounds}
 use Rattle.refinement.specs.Groups.{RowsBelow}
 
 -- ---- equal below the bound
-pub tabulate-same : {A : Type 0} (n : ℕ) (f g : ℕ → A) → ((i : ℕ) → i < n → f i ≡ g i) → tabulate n f ≡ tabulate n g
-tabulate-same zero f g h = refl
-tabulate-same {A} (suc n) f g h = ap₂ (λ (a : A) (l : List A). a ∷ l) (h zero (omega arith)) (tabulate-same n (λ i. f (suc i)) (λ i. g (suc i)) (λ i l. h (suc i) (omega arith)))
-
-pub all-same : (n : ℕ) (p q : ℕ → Bool) → ((i : ℕ) → i < n → p i ≡ q i) → allBelow n p ≡ allBelow n q
-all-same zero p q h = refl
-all-same (suc n) p q h = ap₂ (λ (a b : Bool). cond a b false) (h zero (omega arith)) (all-same n (λ i. p (suc i)) (λ i. q (suc i)) (λ i l. h (suc i) (omega arith)))
-
-least-same : (n : ℕ) (p q : ℕ → Bool) → ((i : ℕ) → i < n → p i ≡ q i) → leastBelow n p ≡ leastBelow n q
-least-same zero p q h = refl
-least-same (suc n) p q h = ap₂ (λ (a : Bool) (b : ℕ). cond a zero (suc b)) (h zero (omega arith)) (least-same n (λ i. p (suc i)) (λ i. q (suc i)) (λ i l. h (suc i) (omega arith)))
-
 -- ---- the front of a list of groups
 module _ (n : ℕ) (group : List ℕ) where
   pub front-at : (i : ℕ) → i < n → getD (take n group) i 0 ≡ getD group i 0

@@ -10,6 +10,7 @@ use lib.ListN.{length, getD, length-append}
 use lib.Seq.{getD-append-add}
 use lib.Dec.{ltb, eqb}
 use borrow.Author.Tests.{lt-ltb, le-leb, eq-eqb}
+use Rattle.sequences.proofs.Pointwise.{all-is}
 use Rattle.sequences.specs.Tabulate.{joined, every, allBelow}
 use Rattle.sequences.proofs.Joined.{joined-length, joined-at}
 use Rattle.meaning.specs.Bytes.{u16At}
@@ -27,10 +28,6 @@ pub record Fitting (P S : ℕ) (verdicts : List ℕ) (rows : List (List ℕ)) : 
   pub next : (s e : ℕ) → s < S → e < 2 ^ P → getD (getD rows s []) e 0 < S
 
 -- ---- tests
-all-is : (n : ℕ) (p : ℕ → Bool) → ((i : ℕ) → i < n → p i ≡ true) → allBelow n p ≡ true
-all-is zero p h = refl
-all-is (suc n) p h = rw (h zero (omega arith)) (all-is n (λ i. p (suc i)) (λ i l. h (suc i) (omega arith)))
-
 abbrev Each : List Bool → Type 0
 Each [] = Unit {0}
 Each (b ∷ bs) = (b ≡ true) × Each bs

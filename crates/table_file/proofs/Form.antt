@@ -11,9 +11,8 @@ use Rattle.sequences.specs.Tabulate.{every, allBelow}
 use Rattle.sequences.proofs.Tests.{holds}
 use Rattle.sequences.proofs.Loops.{all-not}
 use Rattle.meaning.specs.Bytes.{u16At}
-use Rattle.meaning.specs.TableFiles.{countsTests, headerTests, rowTests, signalsIn, statesIn, verdictByte, successor, isTable, checkedOf, verdictOf}
+use Rattle.meaning.specs.TableFiles.{countsTests, contentTests, headerTests, rowTests, signalsIn, statesIn, verdictByte, successor, isTable, checkedOf, verdictOf}
 use Rattle.meaning.specs.Runs.{countsFit}
-use Rattle.table_file.specs.Rows.{contentFits}
 use Rattle.meaning.specs.declared.Verdict.the-variants.{Undecided}
 use Rattle.meaning.specs.declared.Refusal.the-variants.{WrongTable}
 use Rattle.meaning.specs.declared.Checked.the-variants as Checked
@@ -41,12 +40,6 @@ after-three true true true l h = h
 after-three true true false l h = never h
 after-three true false c l h = never h
 after-three false b c l h = never h
-
--- the last two tests of a list whose other tests hold
-pub last-two : (a b : Bool) → (a && b) ≡ every (a ∷ b ∷ [])
-last-two true true = refl
-last-two true false = refl
-last-two false b = refl
 
 module _ (t : List ℕ) where
   abbrev rowsFit : Bool
@@ -91,7 +84,7 @@ module _ (t : List ℕ) where
     table-successors : (s : ℕ) → s < statesIn t → allBelow (2 ^ signalsIn t) (λ e. ltb (successor t (signalsIn t) s e) (statesIn t)) ≡ true
     table-successors s l = holds (rowTests t (signalsIn t) (statesIn t) s) (table-row s l) 3
 
-    pub table-content : (s : ℕ) → s < statesIn t → contentFits t (signalsIn t) (statesIn t) s ≡ true
+    pub table-content : (s : ℕ) → s < statesIn t → every (contentTests t (signalsIn t) (statesIn t) s) ≡ true
     table-content s l = rw (table-verdict s l, table-successors s l)
 
     pub table-inside : (s e : ℕ) → s < statesIn t → e < 2 ^ signalsIn t → successor t (signalsIn t) s e < statesIn t

@@ -4,9 +4,8 @@ ghost use Prim.Native.Nat.{_+_, _*_, _≤_, _<_};
 ghost use lib.Dec.{ltb};
 ghost use Rattle.sequences.specs.Tabulate.{every, allBelow};
 ghost use Rattle.meaning.specs.Bytes.{u16At};
-ghost use Rattle.meaning.specs.TableFiles.{rowAt, rowTests, headerTests, checkedOf, verdictOf, verdictByte, successor};
+ghost use Rattle.meaning.specs.TableFiles.{rowAt, contentTests, rowTests, headerTests, checkedOf, verdictOf, verdictByte, successor};
 ghost use Rattle.meaning.specs.Runs.{countsFit};
-ghost use Rattle.table_file.specs.Rows.{contentFits};
 use events::width;
 use meaning::Checked;
 use meaning::Refusal;
@@ -79,7 +78,7 @@ fn successors_fit(t: &[u8], at: usize, events: usize, states: u16) -> bool
 // Whether a state's verdict byte is one of the four, and all its successors are states.
 pub fn content_fits(t: &[u8], signals: u8, states: u16, state: u16) -> bool
     requires { ⌜ signals ≤ 4 ⌝ }
-    ensures { λ r. ⌜ r ≡ contentFits (now (t .entry)) signals states state ⌝ }
+    ensures { λ r. ⌜ r ≡ every (contentTests (now (t .entry)) signals states state) ⌝ }
 {
     let at = row_at(signals, state);
     if 3 < byte_at(t, at + 4) {

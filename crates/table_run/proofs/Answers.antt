@@ -10,8 +10,9 @@ use native.Mathlib.Omega.{arith}
 use borrow.Author.Tests.{lt-ltb, leb-true, ltb-true, ltb-false}
 use lib.Dec.{leb, ltb}
 use lib.ListN.{length, getD}
+use Rattle.sequences.specs.Tabulate.{every}
 use Rattle.meaning.specs.Monitors.{Monitor, follow}
-use Rattle.meaning.specs.TableFiles.{isTable, signalsIn, statesIn, checkedOf, verdictOf, verdictByte, successor, monitorIn}
+use Rattle.meaning.specs.TableFiles.{isTable, signalsIn, statesIn, checkedOf, verdictOf, verdictByte, successor, monitorIn, contentTests}
 use Rattle.meaning.specs.Runs.{endOf, firstBad, ranOf, runOf, countsFit, inTable, onTable, tested, ranIn, noRow, rowOf, rowRead, rowIn}
 use Rattle.meaning.specs.declared.Verdict.{Verdict}
 use Rattle.meaning.specs.declared.Decided.{Decided}
@@ -20,7 +21,6 @@ use Rattle.meaning.specs.declared.Refusal.the-variants.{WrongEvent, WrongState,
 use Rattle.meaning.specs.declared.Checked.the-variants as Checked
 use Rattle.meaning.specs.declared.Ran.{Ran}
 use Rattle.meaning.specs.declared.Ran.the-variants as Ran
-use Rattle.table_file.specs.Rows.{contentFits}
 use Rattle.table_file.proofs.Form.{table-counts, table-verdict, table-inside, table-content}
 use Rattle.run_parts.proofs.Laws.{all-events}
 
@@ -116,12 +116,12 @@ module _ (t : List ℕ) where
     row-table Q R e = let f = found Q R e in rw (f .signals, f .states, f .table, table-counts t (f .table)) (row-kept (f .table))
       where
         row-kept : (h : isTable t ≡ true)
-            → cond (ltb s (statesIn t)) (cond (contentFits t (signalsIn t) (statesIn t) s) (rowOf t (signalsIn t) s) (noRow WrongTable)) (noRow WrongState)
+            → cond (ltb s (statesIn t)) (cond (every (contentTests t (signalsIn t) (statesIn t) s)) (rowOf t (signalsIn t) s) (noRow WrongTable)) (noRow WrongState)
             ≡ cond (ltb s (statesIn t)) (rowOf t (signalsIn t) s) (noRow WrongState)
         row-kept h = go (ltb s (statesIn t)) refl
           where
             go : (b : Bool) → ltb s (statesIn t) ≡ b
-                → cond b (cond (contentFits t (signalsIn t) (statesIn t) s) (rowOf t (signalsIn t) s) (noRow WrongTable)) (noRow WrongState) ≡ cond b (rowOf t (signalsIn t) s) (noRow WrongState)
+                → cond b (cond (every (contentTests t (signalsIn t) (statesIn t) s)) (rowOf t (signalsIn t) s) (noRow WrongTable)) (noRow WrongState) ≡ cond b (rowOf t (signalsIn t) s) (noRow WrongState)
             go true e = rw (table-content t h s (ltb-true s (statesIn t) e))
             go false e = refl
 

@@ -7,8 +7,9 @@ use native.Mathlib.Omega.{arith}
 use borrow.Author.Tests.{lt-leb, le-leb, lt-ltb, le-ltb, leb-true, ltb-true}
 use lib.Dec.{leb, ltb}
 use lib.ListN.{length}
+use Rattle.sequences.specs.Tabulate.{every}
 use Rattle.sequences.proofs.Tests.{holds}
-use Rattle.meaning.specs.TableFiles.{countsTests, verdictOf, verdictByte, successor}
+use Rattle.meaning.specs.TableFiles.{countsTests, verdictOf, verdictByte, successor, contentTests}
 use Rattle.meaning.specs.Runs.{decidedFrom, firstBad, countsFit, inTable, onTable, ranIn, noRow, rowOf, rowIn}
 use Rattle.meaning.specs.declared.Verdict.{Verdict}
 use Rattle.meaning.specs.declared.Decided.{Decided}
@@ -17,7 +18,6 @@ use Rattle.meaning.specs.declared.Ran.the-variants as Ran
 use Rattle.meaning.specs.declared.Ran.the-variants.{Ended}
 use Rattle.meaning.specs.declared.Refusal.{Refusal}
 use Rattle.meaning.specs.declared.Refusal.the-variants.{WrongEvent, WrongState, WrongTable}
-use Rattle.table_file.specs.Rows.{contentFits}
 use Rattle.run_loop.specs.Ends.{endIn}
 use Rattle.table_run.specs.Tables.{admission, shownBy}
 use Rattle.table_run.specs.declared.Admission.{Admission}
@@ -58,10 +58,10 @@ module _ (t : List ℕ) (P S s : ℕ) where
       go true false p q e = let y : x ≡ WrongState = cc in rw (p, q, y)
       go false b p q e = let y : x ≡ WrongTable = cc in rw (p, y)
 
-  pub row-stands : Start → contentFits t P S s ≡ true → rowOf t P s ≡ rowIn t P S s
+  pub row-stands : Start → every (contentTests t P S s) ≡ true → rowOf t P s ≡ rowIn t P S s
   row-stands a h = rw (a .fits, lt-ltb s S (a .inside), h)
 
-  pub row-off : Start → contentFits t P S s ≡ false → noRow WrongTable ≡ rowIn t P S s
+  pub row-off : Start → every (contentTests t P S s) ≡ false → noRow WrongTable ≡ rowIn t P S s
   row-off a h = rw (a .fits, lt-ltb s S (a .inside), h)
 
   -- the answer of a run that starts

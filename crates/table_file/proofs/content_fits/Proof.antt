@@ -2,15 +2,16 @@
 use native.Mathlib.Omega.{arith}
 use mathlib.Core.Path.{_≡_, _∙_, ap, ap₂}
 use mathlib.Core.Bool.{true, false}
-use Prim.Native.Nat.{ℕ, _+_, _*_}
+use Prim.Native.Nat.{ℕ, _+_, _*_, _^_}
 use borrow.Author.Tests.{lt-leb, le-leb}
 use borrow.Author.Needs.{needs}
 use denote.Ref.{now}
 use lib.Dec.{leb, ltb}
 use lib.ListN.{getD}
 use Rattle.sequences.specs.Tabulate.{allBelow}
+use Rattle.sequences.proofs.Tests.{last}
 use Rattle.meaning.specs.Bytes.{u16At}
-use Rattle.meaning.specs.TableFiles.{rowAt, verdictByte}
+use Rattle.meaning.specs.TableFiles.{rowAt, verdictByte, successor}
 use Rattle.table_file.proofs.content_fits.Statement.{statement}
 use Rattle.table_file.proofs.content_fits.Tie as tie
 
@@ -51,7 +52,9 @@ returns-2 c =
     let byte : tested .before .byte-at .result ≡ verdictByte l (a .signals) (a .state)
     = tested .before .byte-at .ensures ∙ ap (λ (n : ℕ). getD l (n + 4) 0) place in
     let h : leb (verdictByte l (a .signals) (a .state)) 3 ≡ true = le-leb (verdictByte l (a .signals) (a .state)) 3 (omega (arith, tested .if1 .left, byte)) in
-    rw h (c .successors-fit .ensures ∙ ap₂ (λ (k n : ℕ). allBelow n (λ e. ltb (u16At l (k + 5 + 2 * e)) (a .states))) place (c .before .width .ensures .0))
+    rw h
+    (c .successors-fit .ensures ∙ ap₂ (λ (k n : ℕ). allBelow n (λ e. ltb (u16At l (k + 5 + 2 * e)) (a .states))) place (c .before .width .ensures .0)
+    ∙ last (allBelow (2 ^ a .signals) (λ e. ltb (successor l (a .signals) (a .state) e) (a .states))))
 
 pub content-fits-spec : {M : Type 1} → statement M
 content-fits-spec =

@@ -2,14 +2,12 @@
 use mathlib.Core.Path.{_≡_, sym, _∙_, ap}
 use borrow.Author.Tests.{eq-eqb, ne-eqb}
 use Rattle.sequences.proofs.Tests.{fails}
-use Rattle.table_file.proofs.Form.{last-two}
 use Prim.Native.Nat.{ℕ, _+_, _-_, _*_, _^_}
 use mathlib.Core.Bool.{true}
 use denote.Ref.{now}
 use Rattle.meaning.specs.Bytes.{u16At}
-use Rattle.meaning.specs.TableFiles.{rowAt, rowTests, verdictByte, successor}
-use lib.Dec.{leb, ltb, eqb}
-use Rattle.sequences.specs.Tabulate.{allBelow}
+use Rattle.meaning.specs.TableFiles.{rowAt, rowTests}
+use lib.Dec.{eqb}
 use borrow.Author.Needs.{needs}
 use Rattle.table_file.proofs.row_fits.Statement.{statement}
 use Rattle.table_file.proofs.row_fits.Tie as tie
@@ -75,7 +73,7 @@ returns-3 c =
     = eq-eqb _ _ (read ∙ first .if1 .left ∙ ap (λ (w : ℕ). 3 + 2 * w) (first .before .width .ensures .0)) in
     let h₁ : eqb (u16At l (rowAt P s + 2)) 513 ≡ true
     = eq-eqb _ _ (ap (λ (n : ℕ). u16At l (n + 2)) (sym place) ∙ sym (second .before .u16-at2 .ensures) ∙ second .if2 .left) in
-    rw (h₀, h₁) (c .content-fits .ensures ∙ last-two (leb (verdictByte l P s) 3) (allBelow (2 ^ P) (λ e. ltb (successor l P s e) (a .states))))
+    rw (h₀, h₁) (c .content-fits .ensures)
 
 pub row-fits-spec : {M : Type 1} → statement M
 row-fits-spec =
