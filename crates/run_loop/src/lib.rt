@@ -28,7 +28,7 @@ fn noted(first: Decided, shows: bool, count: usize) -> Decided
     }
 }
 
-// Where a run ends; 14 where its way leaves the table.
+// Where a run ends, by the copied rows where they have a successor; 14 where its way leaves the table.
 pub fn ended(t: &[u8], rows: &[u16], signals: u8, states: u16, state: u16, events: &[u8]) -> Ran
     requires { ⌜ (signals ≤ 4) × NoneAbove (length (now events)) (now events) 15 ⌝ }
     requires { ⌜ Copied (now t) signals (now rows) ⌝ }
@@ -58,8 +58,8 @@ pub fn ended(t: &[u8], rows: &[u16], signals: u8, states: u16, state: u16, event
     Ran::Refused(Refusal::WrongTable)
 }
 
-// The same by copied rows, which are made where there are none. This function calls itself, and so the compiler does not lay its frame, with
-// the rows, into that of a run that has no use for them.
+// The same, with the rows copied first where there are none. The compiler does not merge a function that calls itself into its caller, so a
+// run that copies no rows has no room for them on the stack.
 pub fn ended_by_rows(
     t: &[u8],
     rows: &[u16],

@@ -2,7 +2,7 @@
 --     stays                     for any bytes and counts, an answer never leaves the table
 --     run-table, row-table      with the counts of checked bytes nothing is tested in vain: the answers are those of the table
 --     run-refused, row-refused  counts of 0, as a refused opening has them, are refused by 14
-use mathlib.Core.Path.{_≡_, refl, ap, subst}
+use mathlib.Core.Path.{_≡_, refl}
 use mathlib.Core.List.{List, [], _∷_}
 use mathlib.Core.Bool.{Bool, true, false, cond, _&&_}
 use Prim.Native.Nat.{ℕ, suc, _^_, _≤_, _<_}

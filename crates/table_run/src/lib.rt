@@ -28,8 +28,8 @@ enum Admission {
     Refused(Refusal),
 }
 
-// Counts that no table has, and bytes that are not as many as that table's, are refused by 14, so that a refused opening, whose counts are
-// 0, runs nowhere; then a state that is none by 13.
+// 14 for counts that no table has, which those of a refused opening, 0 and 0, are, and for bytes that are not as many as that table's; then 13
+// for a state that is none.
 fn admit(t: &[u8], signals: u8, states: u16, state: u16) -> Admission
     ensures { λ r. ⌜ r ≡ admission (now (t .entry)) signals states state ⌝ }
 {
@@ -44,7 +44,7 @@ fn admit(t: &[u8], signals: u8, states: u16, state: u16) -> Admission
 
 // ---- a list of events
 
-// A run over the bytes of a table and its counts: 14, 13 and 12 before it starts, and 14 where its way leaves the table.
+// A run over bytes and counts: 14, 13 or 12 before it starts, and 14 where its way leaves the table.
 pub fn run_in(t: &[u8], signals: u8, states: u16, state: u16, events: &[u8]) -> Ran
     ensures { λ r. ⌜ r ≡ ranIn (now (t .entry)) signals states state (now (events .entry)) ⌝ }
 {
@@ -56,6 +56,7 @@ pub fn run_in(t: &[u8], signals: u8, states: u16, state: u16, events: &[u8]) -> 
     if bad < events.len() {
         return Ran::Refused(Refusal::WrongEvent(bad));
     }
+    // From so many events on it pays to copy the successors first.
     let none: [u16; 0] = [];
     if 4096 <= events.len() {
         return ended_by_rows(t, &none, signals, states, state, events);

@@ -1,6 +1,5 @@
 -- `run_parts::decides_at` meets its contract.
 use mathlib.Core.Path.{sym, _∙_, ap}
-use Prim.Native.Nat.{_-_}
 use Rattle.meaning.specs.Runs.{decides}
 use borrow.Author.Needs.{needs}
 use Rattle.run_parts.proofs.decides_at.Statement.{statement}

@@ -1,7 +1,6 @@
 -- `table_file::check` meets its contract.
 use native.Mathlib.Omega.{arith}
 use mathlib.Core.Path.{sym, _∙_}
-use Prim.Native.Nat.{_-_}
 use denote.Ref.{now}
 use Rattle.table_file.proofs.Form.{signals-few, checked-table, checked-rows, checked-header}
 use borrow.Author.Needs.{needs}

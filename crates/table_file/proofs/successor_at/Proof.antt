@@ -1,6 +1,6 @@
 -- `table_file::successor_at` meets its contract.
 use mathlib.Core.Path.{_∙_, ap₂}
-use Prim.Native.Nat.{ℕ, _+_, _-_, _*_}
+use Prim.Native.Nat.{ℕ, _+_, _*_}
 use denote.Ref.{now}
 use Rattle.meaning.specs.Bytes.{u16At}
 use borrow.Author.Needs.{needs}

@@ -1,6 +1,6 @@
 -- `table_file::verdict_at` meets its contract.
 use mathlib.Core.Path.{_≡_, sym, _∙_, ap}
-use Prim.Native.Nat.{ℕ, _+_, _-_}
+use Prim.Native.Nat.{ℕ, _+_}
 use denote.Ref.{now}
 use Rattle.meaning.specs.TableFiles.{verdictOf, verdictByte}
 use lib.ListN.{getD}
