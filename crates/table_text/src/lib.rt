@@ -5,13 +5,13 @@ ghost use mathlib.Core.List.{_∷_};
 ghost use lib.ListN.{length};
 ghost use Rattle.table_text.specs.Put.{Put};
 ghost use Rattle.table_text.specs.Text.{decimal, word, countsText, successorsText, lineText, linesText, textAnswer, textAfter, lineAnswer, lineAfter};
+use events::width;
 use meaning::Checked;
 use meaning::Refusal;
 use meaning::Verdict;
 use table_file::check;
 use table_file::successor_at;
 use table_file::verdict_at;
-use events::width;
 use wire::wide16;
 
 // What printing a table returns: the length of its text in bytes, or the refusal.

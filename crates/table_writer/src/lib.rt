@@ -7,10 +7,10 @@ ghost use lib.ListN.{length};
 ghost use lib.Seq.{sets};
 ghost use Rattle.meaning.specs.TableFiles.{rowLength};
 ghost use Rattle.table_bytes.specs.Written.{headerBytes, successorBytes, rowBytes, rowsBytes, writtenOf, tableAfter};
+use events::width;
 use meaning::Built;
 use meaning::Refusal;
 use table_file::row_at;
-use events::width;
 use wire::put_u16;
 use wire::wide16;
 

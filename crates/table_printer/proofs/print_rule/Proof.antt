@@ -42,7 +42,7 @@ slice-aggregate-table-text c =
     let at-room = at-build .before .before in
     let start = at-room .before .before .before .before in
     let h = tabled (now (start .args .rule)) (at-room .room .result) (at-build .build .last .1 .0) (at-build .build .result) (at-built .built .given .0 .0)
-        (at-build .build .ensures .0) (at-build .build .ensures .1 .0) (at-build .build .ensures .1 .1) (at-built .built .given .1) in
+    (at-build .build .ensures .0) (at-build .build .ensures .1 .0) (at-build .build .ensures .1 .1) (at-built .built .given .1) in
     sym (length-take-le (at-built .built .given .0 .0) (at-build .build .last .1 .0) (h .inside))
 
 table-text-requires : tie.Need-table-text-requires
@@ -69,7 +69,7 @@ returns-2 c =
     let n = at-built .built .given .0 .0 in
     let after = at-build .build .last .1 .0 in
     let h = tabled file (at-room .room .result) after (at-build .build .result) n
-        (at-build .build .ensures .0) (at-build .build .ensures .1 .0) (at-build .build .ensures .1 .1) (at-built .built .given .1) in
+    (at-build .build .ensures .0) (at-build .build .ensures .1 .0) (at-build .build .ensures .1 .1) (at-built .built .given .1) in
     (at-text .table-text .ensures .0 ∙ table-answer file out (take n after) (h .form) (h .text), at-text .table-text .ensures .1 ∙ table-after file out (take n after) (h .form) (h .text))
 
 same-length-2 : tie.Need-same-length-2
