@@ -3,7 +3,7 @@ use native.Mathlib.Omega.{arith}
 use borrow.Author.Needs.{needs}
 use mathlib.Core.Path.{_≡_, refl, _∙_, ap}
 use Prim.Native.Nat.{ℕ, _-_, _≤_}
-use mathlib.Core.List.{[]}
+use mathlib.Core.List.{List, []}
 use denote.Ref.{now}
 use lib.ListN.{length, getD}
 use Rattle.sequences.proofs.Stores.{Stored, stored-none, stored-length}
@@ -58,7 +58,9 @@ loop-again c =
     let at-loop = at-wide16 .before .before in
     let start = at-loop .before .before in
     let w : at-wide16 .wide16 .result ≡ at-loop .loop .s = at-wide16 .wide16 .ensures .0 in
-    let h = rows-more (start .args .signals) (now (start .args .verdicts)) (now (start .args .rows)) (at-loop .loop .s) _ (at-row-at .row-at .result) (at-loop .loop .inv .2) (at-row-at .row-at .ensures .0) (at-put-row .put-row .ensures ∙ ap (λ (n : ℕ). sets (at-loop .loop .out) (at-row-at .row-at .result) (rowBytes (start .args .signals) (getD (now (start .args .verdicts)) n 0) (getD (now (start .args .rows)) n []))) w) in
+    let bytes : ℕ → List ℕ = λ n. rowBytes (start .args .signals) (getD (now (start .args .verdicts)) n 0) (getD (now (start .args .rows)) n []) in
+    let stored = at-put-row .put-row .ensures ∙ ap (λ (n : ℕ). sets (at-loop .loop .out) (at-row-at .row-at .result) (bytes n)) w in
+    let h = rows-more (start .args .signals) (now (start .args .verdicts)) (now (start .args .rows)) (at-loop .loop .s) _ (at-row-at .row-at .result) (at-loop .loop .inv .2) (at-row-at .row-at .ensures .0) stored in
     (omega arith, stored-length h ∙ refl, h)
 
 same-length : tie.Need-same-length Inv-loop μ-loop
