@@ -60,7 +60,7 @@ uint64_t tefuji_check(const uint8_t *table, size_t table_length);
 /* Checks the table and runs it from a state over a list of events.
  * Answers verdict * 65536 + end state, and stores in `count` how many events had been read when a verdict other than undecided was first
  * shown: 0 if the given state shows one, TEFUJI_NONE if never. Refuses by 14, then 13, then 12, and leaves `count` as it was.
- * From 4,096 events on it needs about 9 KiB of stack. */
+ * From 4,096 events on it needs about 17 KiB of stack, below that at most 1 KiB. */
 uint64_t tefuji_run(const uint8_t *table, size_t table_length, uint16_t state, const uint8_t *events, size_t events_length, uint64_t *count);
 
 /* Reads one event, at a cost that does not grow with the table. `counts` is what tefuji_check answered for the same bytes; with it a step
