@@ -23,7 +23,7 @@ use Rattle.labelling.specs.Arrays.{TablesIn}
 use Rattle.profile_sets.specs.Arrays.{tablesIn}
 use Rattle.exploration.proofs.Explored.{explored-same}
 use Rattle.exploration.specs.Answers.{exploreKeys, ExploredAs, Explores}
-use Rattle.monitor.specs.Build.{outcomeOf, answerTo, outputOf, answerOf, outputAfter}
+use Rattle.building.specs.Build.{outcomeOf, answerTo, outputOf, answerOf, outputAfter}
 use Rattle.monitor.specs.Parts.{Finished, ruleIn}
 use Rattle.monitor.proofs.Walking.{tablesFor, classList, closes, goes-beyond, machine-in, agrees}
 use Rattle.monitor.proofs.Writing.{bytes-are, answer-is, output-is}

@@ -23,7 +23,7 @@ use Rattle.smallest.proofs.Tables.{over-signals}
 use Rattle.smallest.proofs.Smallest.{table-within, table-beyond}
 use Rattle.exploration.specs.Answers.{exploreKeys, ClosedAs}
 use Rattle.exploration.specs.Answers as Walk
-use Rattle.monitor.specs.Build.{outcomeOf}
+use Rattle.building.specs.Build.{outcomeOf}
 
 -- the tables of a rule
 abbrev pub tablesFor : Rule → Tables

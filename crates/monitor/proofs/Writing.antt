@@ -19,7 +19,7 @@ use Rattle.table_bytes.proofs.RoundTrip.{length-back, same-bytes}
 use Rattle.smallest.specs.Table.{Outcome, Table, reducedBytes}
 use Rattle.grouping.specs.Reduction.{Reduction}
 use Rattle.grouping.proofs.Arrays.{verdict-at, successor-at}
-use Rattle.monitor.specs.Build.{outcomeOf, answerTo, outputOf, answerOf, outputAfter}
+use Rattle.building.specs.Build.{outcomeOf, answerTo, outputOf, answerOf, outputAfter}
 
 module _ (P n : ℕ) {rows states : List (List ℕ)} {classes model bytes : List ℕ} {to : List (List ℕ)} {q : ℕ} {bytes′ : List ℕ} {to′ : List (List ℕ)}
     (a : Agree (over P) n rows states classes model) (R : Reduction (over P) n rows classes bytes to q bytes′ to′) where

@@ -8,7 +8,7 @@ ghost use Rattle.moore.specs.Grouping.{Machine};
 ghost use mathlib.Core.Bool.{Bool};
 ghost use Rattle.meaning.specs.RuleFiles.{Accepted, judge};
 ghost use Rattle.smallest.proofs.Accepted.{Formed};
-ghost use Rattle.monitor.specs.Build.{answerOf, outputAfter, Right};
+ghost use Rattle.building.specs.Build.{answerOf, outputAfter, Right};
 ghost use Rattle.monitor.specs.Parts.{Finished, ruleIn};
 use exploration::no_rows;
 use meaning::Built;

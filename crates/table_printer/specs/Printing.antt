@@ -7,7 +7,7 @@ use lib.Dec.{leb}
 use Rattle.meaning.specs.RuleFiles.{Judgement, judge}
 use Rattle.meaning.specs.declared.Refusal.the-variants.{ShortOutput, TooManyResiduals}
 use Rattle.smallest.specs.Table.{Outcome, Table, TooMany}
-use Rattle.monitor.specs.Build.{outcomeOf}
+use Rattle.building.specs.Build.{outcomeOf}
 use Rattle.table_text.specs.Text.{textOf, refusalText, atFront}
 use Rattle.table_text.specs.declared.Text.{Text}
 use Rattle.table_text.specs.declared.Text.the-variants as Text

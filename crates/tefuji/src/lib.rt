@@ -5,7 +5,7 @@ ghost use Prim.Native.Nat.{_<_, _^_};
 ghost use Rattle.meaning.specs.RuleFiles.{judge};
 ghost use Rattle.meaning.specs.TableFiles.{checkedOf, verdictNumber};
 ghost use Rattle.meaning.specs.Runs.{runOf};
-ghost use Rattle.monitor.specs.Build.{answerOf, outputAfter, Right};
+ghost use Rattle.building.specs.Build.{answerOf, outputAfter, Right};
 ghost use Rattle.table_text.specs.Text.{textAnswer, textAfter};
 ghost use Rattle.tefuji.specs.Codes.{placeCode, refusalCode, builtCode, countsCode, ranCode, countCode, countAfter, stepOf, textCode};
 use meaning::Built;

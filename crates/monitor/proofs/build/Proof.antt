@@ -2,7 +2,7 @@
 use mathlib.Core.Path.{refl}
 use denote.Ref.{now}
 use Rattle.monitor.proofs.Reading.{refused-read, accepted-read, read-formed, read-count}
-use Rattle.monitor.proofs.Right.{all-right}
+use Rattle.building.proofs.Right.{all-right}
 use borrow.Author.Needs.{needs}
 use Rattle.monitor.proofs.build.Statement.{statement}
 use Rattle.monitor.proofs.build.Tie as tie

@@ -22,7 +22,7 @@ use Rattle.smallest.proofs.Accepted.{accepted-signals}
 use Rattle.smallest.proofs.Tables.{over-signals}
 use Rattle.smallest.proofs.Smallest.{too-many}
 use Rattle.smallest.proofs.Demands.{demands}
-use Rattle.monitor.specs.Build.{outcomeOf, answerTo, outputOf, answerOf, outputAfter, BuiltRight, RefusedRight, Right}
+use Rattle.building.specs.Build.{outcomeOf, answerTo, outputOf, answerOf, outputAfter, BuiltRight, RefusedRight, Right}
 
 -- the first theorem: demands 2 and 3, over all rule files and all tables
 pub our-demands : Demands (BuiltBy ltlSystem)
@@ -61,9 +61,9 @@ module _ (file : List ℕ) (r : Rule) (reads : Reads file r) where
   accepted-right : (out : List ℕ) (x : Outcome) → outcomeOf r ≡ x → Right file out (outputOf x out) (answerTo x out)
   accepted-right out (Table t) q = go (leb (length t) (length out)) refl
     where
-      go : (b : Bool) → leb (length t) (length out) ≡ b → Right file out (cond b (t ++ drop (length t) out) out) (cond b (Built.Table (length t)) (Built.Refused ShortOutput))
-      go true e = front-right t out q
-      go false e = short-right t (length out) q (leb-false (length t) (length out) e)
+      go : (b : Bool) → leb (length t) (length out) ≡ b → Right file out (outputOf (Table t) out) (answerTo (Table t) out)
+      go true e = rw e (front-right t out q)
+      go false e = rw e (short-right t (length out) q (leb-false (length t) (length out) e))
   accepted-right out TooMany q = many-right (length out) q
 
 -- whatever the file says

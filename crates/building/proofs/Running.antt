@@ -22,8 +22,8 @@ use Rattle.meaning.specs.declared.Decided.the-variants.{After, Never}
 use Rattle.meaning.specs.declared.Ran.{Ran}
 use Rattle.meaning.specs.declared.Ran.the-variants.{Ended}
 use Rattle.table_file.proofs.Form.{table-header, states-some, table-inside}
-use Rattle.monitor.specs.Build.{BuiltRight}
-use Rattle.monitor.specs.Running.{CountRight, RunRight, StepRight, stepsFrom, steps}
+use Rattle.building.specs.Build.{BuiltRight}
+use Rattle.building.specs.Running.{CountRight, RunRight, StepRight, stepsFrom, steps}
 
 -- ---- the count of a run of any monitor
 
