@@ -40,10 +40,18 @@ add-put-successors : tie.Need-add-put-successors
 add-put-successors c = search needs
 
 put-successors-requires : tie.Need-put-successors-requires
-put-successors-requires c κs = (c .before .before .before .before .before .before .before .before .before .width .ensures .1, simp length-set (omega (arith, c .before .before .before .put-u162 .kept .0, c .before .before .before .before .before .before .before .put-u16 .kept .0, c .before .before .before .before .before .before .before .before .before .width .ensures .0)))
+put-successors-requires c κs =
+    let at-put-u162 = c .before .before .before in
+    let at-put-u16 = at-put-u162 .before .before .before .before in
+    let at-width = at-put-u16 .before .before in
+    (omega (arith, at-width .width .ensures .1), simp length-set (omega (arith, at-put-u162 .put-u162 .kept .0, at-put-u16 .put-u16 .kept .0, at-width .width .ensures .0)))
 
 same-length : tie.Need-same-length
-same-length c = c .before .before .put-successors .kept .0 ∙ simp length-set (c .before .before .before .before .before .before .put-u162 .kept .0 ∙ c .before .before .before .before .before .before .before .before .before .before .put-u16 .kept .0)
+same-length c =
+    let at-put-successors = c .before .before in
+    let at-put-u162 = at-put-successors .before .before .before .before in
+    let at-put-u16 = at-put-u162 .before .before .before .before in
+    at-put-successors .put-successors .kept .0 ∙ simp length-set (at-put-u162 .put-u162 .kept .0 ∙ at-put-u16 .put-u16 .kept .0)
 
 returns : tie.Need-returns
 returns c =
