@@ -1,5 +1,5 @@
 -- The end of the walk, and the same answer for all tables that the arrays hold.
-use mathlib.Core.Path.{_≡_, refl, sym, ap, _∙_, subst}
+use mathlib.Core.Path.{_≡_, sym, ap, _∙_, subst}
 use mathlib.Core.Bool.{Bool, cond}
 use mathlib.Core.List.{List, [], _++_}
 use Prim.Native.Nat.{ℕ, _+_, _^_, _<_}
@@ -15,8 +15,9 @@ use Rattle.walk.specs.Explore.{Explored, within, beyond, explore}
 use Rattle.labelling.specs.Arrays.{TablesIn}
 use Rattle.profile_sets.specs.Arrays.{setIn, Marked, tablesBy, tablesIn, Tabled, Steppable, keyOf}
 use Rattle.profile_sets.proofs.Tables.{step-held, whole-is, start-same, step-same}
-use Rattle.exploration.specs.Arrays.{keysIn, KeysFit}
-use Rattle.exploration.specs.Answers.{expandKey, exploreBelow, exploreKeys, classOf, classBy, Beyond, Ended, WalkedAs, ClosedAs, ExploredAs, Explores}
+use Rattle.key_slots.specs.Arrays.{keysIn, KeysFit}
+use Rattle.key_slots.specs.Answers.{Beyond}
+use Rattle.exploration.specs.Answers.{expandKey, exploreBelow, exploreKeys, classOf, classBy, Ended, WalkedAs, ClosedAs, ExploredAs, Explores}
 use Rattle.exploration.proofs.SameSteps.{row-same, explore-same}
 
 -- ---- the row of a key, from its array of bools

@@ -7,10 +7,10 @@ use lib.ListN.{length, getD}
 use lib.Dec.{eqb}
 use Rattle.meaning.specs.Traces.{over, firstEvents}
 use Rattle.ltl.specs.Keys.{Tables, startKey, stepKey, emptyKey, fullKey}
-use Rattle.walk.specs.Explore.{Explored, within, beyond, enter, expand, explore}
-use Rattle.exploration.specs.Arrays.{keysIn, KeysFit, Slotted, rowIn}
-use Rattle.exploration.specs.declared.Entered.{Entered}
-use Rattle.exploration.specs.declared.Entered.the-variants as Entered
+use Rattle.walk.specs.Explore.{Explored, within, beyond, expand, explore}
+use Rattle.key_slots.specs.Arrays.{keysIn, KeysFit}
+use Rattle.key_slots.specs.Answers.{Beyond, Within}
+use Rattle.exploration.specs.Rows.{rowIn}
 use Rattle.exploration.specs.declared.Grown.{Grown}
 use Rattle.exploration.specs.declared.Grown.the-variants as Grown
 
@@ -34,26 +34,6 @@ abbrev pub classBy : ℕ → ℕ → ℕ
 classBy full k = cond (eqb k 0) 2 (cond (eqb k full) 1 0)
 
 -- ---- the answers of the functions below `explore`
-
--- the model went beyond the limit
-pub record Beyond {A : Type 0} (m : Explored ℕ A) : Type 0 where
-  pub keys : List ℕ
-  pub key : ℕ
-  pub is : m ≡ beyond keys key
-
--- the model kept within the limit with the answer a, and its keys are the first `count` of the array
-pub record Within {A : Type 0} (m : Explored ℕ A) (count : ℕ) (keys : List (List ℕ)) (slots : List ℕ) (a : A) : Type 0 where
-  pub is : m ≡ within (keysIn count keys) a
-  pub fit : KeysFit count keys
-  pub slotted : Slotted count keys slots
-
-abbrev pub EnteredAs : Explored ℕ ℕ → List (List ℕ) → List ℕ → Entered → Type 0
-EnteredAs m keys slots (Entered.At i count) = Within m count keys slots i × (i < 256)
-EnteredAs m keys slots Entered.Full = Beyond m
-
--- a key entered among others, whatever is read past them
-abbrev pub Enters : List ℕ → ℕ → List (List ℕ) → List ℕ → Entered → Type 0
-Enters ks k keys slots r = (s : ℕ) → EnteredAs (enter eqb s 256 ks k) keys slots r
 
 abbrev pub GrownAs : Explored ℕ (List ℕ) → ℕ → List (List ℕ) → List ℕ → List ℕ → Grown → Type 0
 GrownAs m width keys slots row (Grown.To count) = Within m count keys slots (rowIn width row)

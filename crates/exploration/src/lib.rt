@@ -1,15 +1,18 @@
 // The breadth-first walk over the keys of remaining properties. A key is a set of at most 256 profiles, in four words.
 ghost use mathlib.Core.Path.{_≡_};
 ghost use mathlib.Core.List.{List, [], _++_};
-ghost use Prim.Native.Nat.{ℕ, _^_, _≤_, _<_};
+ghost use Prim.Native.Nat.{ℕ, _^_, _≤_};
 ghost use lib.ListN.{length, getD, drop};
-ghost use Rattle.sequences.specs.Tabulate.{tabulate, leastBelow};
+ghost use Rattle.sequences.specs.Tabulate.{tabulate};
 ghost use Rattle.ltl.specs.Keys.{startKey};
 ghost use Rattle.profile_sets.specs.Arrays.{tablesBy, tablesIn, Tabled, Steppable, keyOf, WordsFit};
-ghost use Rattle.exploration.specs.Arrays.{keysIn, KeysFit, metAt, slotOf, Slotted, MetThere};
-ghost use Rattle.exploration.specs.Answers.{expandKey, exploreBelow, classBy, Enters, GrownAs, WalkedAs, Explores};
+ghost use Rattle.key_slots.specs.Arrays.{keysIn, KeysFit, Slotted};
+ghost use Rattle.exploration.specs.Answers.{expandKey, exploreBelow, classBy, GrownAs, WalkedAs, Explores};
 use events::power;
 use events::width;
+use key_slots::Entered;
+use key_slots::enter;
+use key_slots::first_slots;
 use profile_sets::pack;
 use profile_sets::same_key;
 use profile_sets::spread;
@@ -17,110 +20,10 @@ use profile_sets::start_profiles;
 use profile_sets::step_key;
 use wire::wide16;
 
-// The number of a key, and how many keys there are now; or there is no room for it.
-pub enum Entered {
-    At(usize, usize),
-    Full,
-}
-
 // How many keys there are now; or there was no room for one.
 pub enum Grown {
     To(usize),
     Full,
-}
-
-// ---- the keys met
-
-// The number of the first key that is the same, or how many keys there are.
-fn locate(keys: &[[u64; 4]; 256], count: usize, key: [u64; 4]) -> usize
-    requires { ⌜ KeysFit count (now keys) × WordsFit key ⌝ }
-    ensures { λ r. ⌜ r ≡ leastBelow count (metAt (now (keys .entry)) (keyOf key)) ⌝ }
-{
-    let mut i: usize = 0;
-    while i < count {
-        let met = keys[i];
-        if same_key(met, key) {
-            return i;
-        }
-        i += 1;
-    }
-    count
-}
-
-// The slot of a key. A slot has the number of a key that belongs there, or 256 if there is none.
-fn slot_of(key: [u64; 4]) -> usize
-    ensures { λ r. ⌜ (r ≡ slotOf key) × (r < 1024) ⌝ }
-{
-    let low = key[0] % 4611686018427387904 + key[1] % 4611686018427387904;
-    let high = key[2] % 4611686018427387904 + key[3] % 4611686018427387904;
-    ((low + high) % 1021) as usize
-}
-
-// The slots where the only key has the number 0.
-fn first_slots(key: [u64; 4]) -> [u16; 1024]
-    ensures { λ r. ⌜ (length r ≡ 1024) × (getD r (slotOf key) 0 ≡ 0) ⌝ }
-{
-    let slot = slot_of(key);
-    let mut out = [256u16; 1024];
-    out[slot] = 0;
-    out
-}
-
-// Whether a number that a slot has is that of the key.
-fn same_at(keys: &[[u64; 4]; 256], count: usize, i: usize, key: [u64; 4]) -> bool
-    requires { ⌜ KeysFit count (now keys) × WordsFit key ⌝ }
-    ensures { λ r. ⌜ MetThere count (metAt (now (keys .entry)) (keyOf key)) i r ⌝ }
-{
-    if count <= i {
-        return false;
-    }
-    let met = keys[i];
-    same_key(met, key)
-}
-
-// The same as `locate`: by the key's slot, or else by all keys.
-fn find(
-    keys: &[[u64; 4]; 256],
-    slots: &[u16; 1024],
-    slot: usize,
-    count: usize,
-    key: [u64; 4],
-) -> usize
-    requires { ⌜ KeysFit count (now keys) × WordsFit key × Slotted count (now keys) (now slots) ⌝ }
-    requires { ⌜ (slot ≡ slotOf key) × (slot < 1024) ⌝ }
-    ensures { λ r. ⌜ r ≡ leastBelow count (metAt (now (keys .entry)) (keyOf key)) ⌝ }
-{
-    let i = wide16(slots[slot]);
-    if 256 <= i {
-        return count;
-    }
-    if same_at(keys, count, i, key) {
-        return i;
-    }
-    locate(keys, count, key)
-}
-
-// The number of a key, which is added at the end if it is new.
-fn enter(
-    keys: &mut [[u64; 4]; 256],
-    slots: &mut [u16; 1024],
-    count: usize,
-    key: [u64; 4],
-) -> Entered
-    requires { ⌜ KeysFit count (now keys) × WordsFit key × Slotted count (now keys) (now slots) ⌝ }
-    ensures { λ r. ⌜ Enters (keysIn count (now (keys .entry))) (keyOf key) (now (keys .exit)) (now (slots .exit)) r ⌝ }
-{
-    let slot = slot_of(key);
-    let i = find(keys, slots, slot, count, key);
-    if i < count {
-        return Entered::At(i, count);
-    }
-    if count < 256 {
-        keys[count] = key;
-        slots[slot] = count as u16;
-        return Entered::At(count, count + 1);
-    }
-    Entered::Full
 }
 
 // The row of a key, for event 0 upward.

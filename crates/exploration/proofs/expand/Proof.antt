@@ -8,10 +8,13 @@ use denote.Ref.{now}
 use Rattle.profile_sets.specs.Arrays.{setIn, tablesBy, keyOf}
 use Rattle.profile_sets.proofs.Tables.{labels-few, fewer-events}
 use Rattle.walk.specs.Explore.{Explored}
-use Rattle.exploration.specs.Arrays.{keysIn, rowIn}
-use Rattle.exploration.specs.Answers.{expandKey, Beyond, Within}
+use Rattle.key_slots.specs.Arrays.{keysIn}
+use Rattle.key_slots.specs.Answers.{Beyond, Within}
+use Rattle.key_slots.proofs.Entering.{entered-at}
+use Rattle.exploration.specs.Rows.{rowIn}
+use Rattle.exploration.specs.Answers.{expandKey}
 use Rattle.exploration.proofs.Explored.{held-row}
-use Rattle.exploration.proofs.Steps.{entered-at, Expanding, expanding-none, expanding-more, expanding-over, expanding-all}
+use Rattle.exploration.proofs.Steps.{Expanding, expanding-none, expanding-more, expanding-over, expanding-all}
 use Rattle.exploration.proofs.expand.Statement.{statement}
 use Rattle.exploration.proofs.expand.Tie as tie
 

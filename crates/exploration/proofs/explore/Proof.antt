@@ -8,9 +8,9 @@ use lib.ListN.{replicate, length-replicate}
 use Rattle.ltl.specs.Keys.{startKey}
 use Rattle.profile_sets.specs.Arrays.{tablesBy, tablesIn, keyOf}
 use Rattle.profile_sets.proofs.Tables.{start-is, steppable}
-use Rattle.exploration.specs.Arrays.{KeysFit}
-use Rattle.exploration.specs.Answers.{exploreKeys, WalkedAs}
-use Rattle.exploration.proofs.Lists.{keys-first}
+use Rattle.key_slots.specs.Arrays.{KeysFit}
+use Rattle.key_slots.proofs.Lists.{keys-first}
+use Rattle.exploration.specs.Answers.{exploreKeys}
 use Rattle.exploration.proofs.Explored.{tabled-at, walked-at, class-at, classes-length, explored-closed, explored-over}
 use Rattle.exploration.proofs.explore.Statement.{statement}
 use Rattle.exploration.proofs.explore.Tie as tie

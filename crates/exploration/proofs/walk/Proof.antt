@@ -5,9 +5,9 @@ use mathlib.Core.Path.{refl}
 use Prim.Native.Nat.{_-_}
 use denote.Ref.{now}
 use Rattle.profile_sets.specs.Arrays.{tablesBy, keyOf}
+use Rattle.key_slots.proofs.Lists.{slotted-first}
 use Rattle.exploration.specs.Answers.{exploreBelow}
 use Rattle.exploration.proofs.Steps.{Walking, walking-none, walking-more, walking-over, walking-all}
-use Rattle.exploration.proofs.Lists.{slotted-first}
 use Rattle.exploration.proofs.walk.Statement.{statement}
 use Rattle.exploration.proofs.walk.Tie as tie
 

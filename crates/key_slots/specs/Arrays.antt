@@ -1,4 +1,4 @@
--- How the walk's keys and rows stand in arrays.
+-- How the keys met and their slots stand in arrays.
 use mathlib.Core.Path.{_≡_}
 use mathlib.Core.Bool.{Bool, true}
 use mathlib.Core.List.{List, []}
@@ -36,10 +36,3 @@ pub record Slotted (count : ℕ) (keys : List (List ℕ)) (slots : List ℕ) : T
 -- where the answer is yes, i is below the bound and passes
 pub record MetThere (count : ℕ) (f : ℕ → Bool) (i : ℕ) (r : Bool) : Type 0 where
   pub there : r ≡ true → (i < count) × (f i ≡ true)
-
--- the first `width` entries of a row, and the first `count` rows of an array
-abbrev pub rowIn : ℕ → List ℕ → List ℕ
-rowIn width row = tabulate width (λ e. getD row e 0)
-
-abbrev pub rowsIn : ℕ → ℕ → List (List ℕ) → List (List ℕ)
-rowsIn width count rows = tabulate count (λ s. rowIn width (getD rows s []))

@@ -17,7 +17,7 @@ use Rattle.sequences.proofs.Pigeonhole.{least-below}
 use Rattle.walk.specs.Explore.{locate}
 use Rattle.profile_sets.specs.Arrays.{keyOf, WordsFit}
 use Rattle.profile_sets.proofs.Words.{key-differ}
-use Rattle.exploration.specs.Arrays.{keysIn, KeysFit, metAt, slotOf, Slotted, MetThere}
+use Rattle.key_slots.specs.Arrays.{keysIn, KeysFit, metAt, slotOf, Slotted, MetThere}
 
 module _ {A : Type 0} where
   tab-last : (n : ℕ) (f : ℕ → A) → tabulate (suc n) f ≡ tabulate n f ++ (f n ∷ [])

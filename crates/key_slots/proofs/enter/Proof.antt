@@ -4,10 +4,10 @@ use borrow.Author.Needs.{needs}
 use mathlib.Core.Path.{sym, _∙_}
 use denote.Ref.{now}
 use Rattle.profile_sets.specs.Arrays.{keyOf}
-use Rattle.exploration.proofs.Lists.{locate-is}
-use Rattle.exploration.proofs.Steps.{entered-met, entered-new, entered-full}
-use Rattle.exploration.proofs.enter.Statement.{statement}
-use Rattle.exploration.proofs.enter.Tie as tie
+use Rattle.key_slots.proofs.Lists.{locate-is}
+use Rattle.key_slots.proofs.Entering.{entered-met, entered-new, entered-full}
+use Rattle.key_slots.proofs.enter.Statement.{statement}
+use Rattle.key_slots.proofs.enter.Tie as tie
 
 slot-of-requires : tie.Need-slot-of-requires
 slot-of-requires c κs = search needs

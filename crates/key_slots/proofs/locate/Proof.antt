@@ -5,9 +5,9 @@ use mathlib.Core.Path.{sym, _∙_}
 use Prim.Native.Nat.{_-_, _≤_}
 use Rattle.sequences.proofs.Loops.{Missed, missed-none, missed-more, missed-found, missed-end}
 use Rattle.profile_sets.specs.Arrays.{keyOf}
-use Rattle.exploration.specs.Arrays.{metAt}
-use Rattle.exploration.proofs.locate.Statement.{statement}
-use Rattle.exploration.proofs.locate.Tie as tie
+use Rattle.key_slots.specs.Arrays.{metAt}
+use Rattle.key_slots.proofs.locate.Statement.{statement}
+use Rattle.key_slots.proofs.locate.Tie as tie
 
 abbrev Inv-loop : tie.InvT-loop
 Inv-loop keys count key i₀ i = (i ≤ count) × Missed i (metAt keys (keyOf key))

@@ -1,9 +1,9 @@
 -- `find` meets its contract.
 use borrow.Author.Needs.{needs}
 use Rattle.profile_sets.specs.Arrays.{keyOf}
-use Rattle.exploration.proofs.Lists.{found-none, found-met}
-use Rattle.exploration.proofs.find.Statement.{statement}
-use Rattle.exploration.proofs.find.Tie as tie
+use Rattle.key_slots.proofs.Lists.{found-none, found-met}
+use Rattle.key_slots.proofs.find.Statement.{statement}
+use Rattle.key_slots.proofs.find.Tie as tie
 
 mul-wide16 : tie.Need-mul-wide16
 mul-wide16 c = search needs

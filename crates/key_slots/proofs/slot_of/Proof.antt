@@ -1,9 +1,9 @@
 -- `slot_of` meets its contract.
 use native.Mathlib.Omega.{arith}
 use borrow.Author.Needs.{needs}
-use Rattle.exploration.proofs.Lists.{slot-is}
-use Rattle.exploration.proofs.slot_of.Statement.{statement}
-use Rattle.exploration.proofs.slot_of.Tie as tie
+use Rattle.key_slots.proofs.Lists.{slot-is}
+use Rattle.key_slots.proofs.slot_of.Statement.{statement}
+use Rattle.key_slots.proofs.slot_of.Tie as tie
 
 array-read-low : tie.Need-array-read-low
 array-read-low c = search needs

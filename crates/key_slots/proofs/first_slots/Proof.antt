@@ -1,8 +1,8 @@
 -- `first_slots` meets its contract.
 use borrow.Author.Needs.{needs}
-use Rattle.exploration.proofs.Lists.{slots-first}
-use Rattle.exploration.proofs.first_slots.Statement.{statement}
-use Rattle.exploration.proofs.first_slots.Tie as tie
+use Rattle.key_slots.proofs.Lists.{slots-first}
+use Rattle.key_slots.proofs.first_slots.Statement.{statement}
+use Rattle.key_slots.proofs.first_slots.Tie as tie
 
 slot-of-requires : tie.Need-slot-of-requires
 slot-of-requires c κs = search needs

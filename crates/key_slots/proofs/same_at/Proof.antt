@@ -2,8 +2,8 @@
 use borrow.Author.Needs.{needs}
 use mathlib.Core.Path.{sym, _∙_}
 use mathlib.Core.Bool.{false≢true}
-use Rattle.exploration.proofs.same_at.Statement.{statement}
-use Rattle.exploration.proofs.same_at.Tie as tie
+use Rattle.key_slots.proofs.same_at.Statement.{statement}
+use Rattle.key_slots.proofs.same_at.Tie as tie
 
 returns : tie.Need-returns
 returns c = record { there = λ e. absurd (false≢true e) }
