@@ -12,12 +12,12 @@ ghost use Rattle.ltl.specs.Keys.{look};
 ghost use Rattle.valuation.specs.Entries.{Entries};
 ghost use Rattle.relations.specs.Relations.{entry, onlyIf, labelAt, Reaches};
 ghost use Rattle.realizability.specs.Core.{leadsBy, bothWays, componentBy, Within, withinComponent, Gathered, AllGathered, coreIn, coreBy, toCoreBy, realizableBy, Sizes};
+use node_words::holds;
 use relations::close;
 use relations::edge_rows;
 use relations::has;
 use relations::is_empty;
 use relations::label_in;
-use valuation::holds;
 
 // Whether the rows lead from x to y, or we are there.
 fn leads(rows: &[u64; 256], x: usize, y: usize) -> bool

@@ -14,9 +14,9 @@ use Rattle.ltl.specs.Nodes.{Split, plain, temporal, split}
 use Rattle.ltl.specs.Valuation as ltl
 use Rattle.ltl.specs.Valuation.{plainValue, temporalValue, labelBit, fairBit, value, none}
 use Rattle.ltl.proofs.Sets.{on-zero, put-lt, put-here, put-other}
-use Rattle.valuation.specs.declared.Words.{Words}
-use Rattle.valuation.specs.Bits.{Bits, bitsOf}
-use Rattle.valuation.specs.Words.{labelOf, laneOf, Lanes, LabelBits}
+use Rattle.node_words.specs.declared.Words.{Words}
+use Rattle.node_words.specs.Bits.{Bits, bitsOf}
+use Rattle.node_words.specs.Words.{labelOf, laneOf, Lanes, LabelBits}
 use Rattle.valuation.specs.Columns.{Planes, State, Held, Advanced, Byte}
 
 -- ---- planes

@@ -1,6 +1,6 @@
 -- Sets as words of 64 bits hold them.
-use mathlib.Core.Path.{_≡_, sym, ap}
-use mathlib.Core.Bool.{Bool, false}
+use mathlib.Core.Path.{_≡_, ap}
+use mathlib.Core.Bool.{Bool}
 use Prim.Native.Nat.{ℕ, suc, _+_, _*_, _%_, _^_, _≤_, _<_}
 use native.Mathlib.Nat.{pow-suc}
 use native.Mathlib.Omega.{arith}
@@ -8,11 +8,8 @@ use lib.Pow.{pow-mono}
 use mir.Val.{Fits}
 use mir.Syntax.{w64}
 use Rattle.events.proofs.Powers.{shift-one}
-use Rattle.ltl.specs.Sets.{on, put}
-use Rattle.ltl.proofs.Sets.{on-out, put-lt}
-
-pub on-past : (A i : ℕ) → A < 2 ^ 64 → 64 ≤ i → false ≡ on A i
-on-past A i h l = sym (on-out A 64 i h l)
+use Rattle.ltl.specs.Sets.{put}
+use Rattle.ltl.proofs.Sets.{put-lt}
 
 pub put-fits : (k A : ℕ) → k < 64 → A < 2 ^ k → Fits w64 (A + (1 * 2 ^ k) % 2 ^ 64)
 put-fits k A h l = record { fits = rw shift-one (omega (arith, pow-suc 2 k, pow-mono {i = suc k} {j = 64} h)) }

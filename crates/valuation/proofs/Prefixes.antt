@@ -18,7 +18,7 @@ use Rattle.ltl.proofs.Sets.{same-set}
 use Rattle.ltl.proofs.Valuation.{sized-none, sized-all}
 use Rattle.ltl.proofs.Labels.{valued-temporals}
 use Rattle.valuation.specs.Valued.{Valuable, profileAt, fairsAt}
-use Rattle.valuation.specs.Words.{labelOf}
+use Rattle.node_words.specs.Words.{labelOf}
 use Rattle.valuation.specs.Columns.{Planes, Held, Byte}
 use Rattle.valuation.proofs.Numbers.{profile-fits}
 use Rattle.valuation.specs.Entries.{Entries}

@@ -8,7 +8,7 @@ use Rattle.meaning.specs.declared.Node.{Node}
 use Rattle.ltl.specs.Sets.{on}
 use Rattle.ltl.specs.Nodes.{split}
 use Rattle.ltl.specs.Valuation as ltl
-use Rattle.valuation.specs.Words.{labelOf}
+use Rattle.node_words.specs.Words.{labelOf}
 
 -- bit l of word j is bit j of f l
 pub record Planes (f : ℕ → ℕ) (columns : List ℕ) : Type 0 where

@@ -2,25 +2,18 @@
 // 64 labels are valued at once: bit l of a word is for label l of the lower or of the upper half.
 ghost use mathlib.Core.Path.{_≡_};
 ghost use Prim.Native.Nat.{ℕ, _+_, _^_, _≤_, _<_};
-ghost use Rattle.ltl.specs.Sets.{on, put};
+ghost use Rattle.ltl.specs.Sets.{put};
 ghost use lib.ListN.{length, take, getD};
 ghost use Rattle.ltl.specs.Nodes.{split, splits, temporals};
-ghost use Rattle.valuation.specs.Words.{plainWords, promiseWords, labelOf, Lanes, Flipped, Everywhere, LabelBits};
+ghost use Rattle.node_words.specs.Words.{labelOf};
 ghost use Rattle.valuation.specs.Columns.{Advanced, Planes, Byte};
 ghost use Rattle.valuation.specs.Valued.{Valuable, profileAt, fairsAt};
 ghost use Rattle.valuation.specs.Entries.{Entries, Table};
 ghost use mathlib.Core.List.{List, _∷_, []};
-use events::at_least;
-use events::signal_on;
 use meaning::Node;
-
-// What valuing a node gives, a bit for each label.
-pub struct Words {
-    pub value: u64,
-    pub label: u64,
-    pub fair: u64,
-    pub temporal: bool,
-}
+use node_words::holds;
+use node_words::label_word;
+use node_words::node_words;
 
 // The bits of the profiles and of the sets of fairness, a word for each bit; and how many nodes are temporal.
 pub struct Columns {
@@ -33,106 +26,6 @@ pub struct Columns {
 pub struct Rows {
     pub profiles: [u8; 128],
     pub fairs: [u8; 128],
-}
-
-// Whether a number is in a set.
-pub fn holds(set: u64, i: u8) -> bool
-    ensures { λ r. ⌜ r ≡ on set i ⌝ }
-{
-    if i < 64 {
-        return (set >> i) % 2 == 1;
-    }
-    false
-}
-
-// A set of numbers below k, with k added where asked.
-fn put_at(k: u8, add: bool, set: u64) -> u64
-    requires { ⌜ (k < 64) × (set < 2 ^ k) ⌝ }
-    ensures { λ r. ⌜ r ≡ put k add set ⌝ }
-{
-    if add {
-        return set + (1 << k);
-    }
-    set
-}
-
-// ---- a word: one bit for each of 64 labels
-
-fn flip(a: u64) -> u64
-    ensures { λ r. ⌜ Flipped a r ⌝ }
-{
-    0xFFFF_FFFF_FFFF_FFFF - a
-}
-
-fn everywhere(bit: bool) -> u64
-    ensures { λ r. ⌜ Everywhere bit r ⌝ }
-{
-    if bit {
-        return 0xFFFF_FFFF_FFFF_FFFF;
-    }
-    0
-}
-
-// Bit j of each label.
-fn label_word(high: bool, j: u8) -> u64
-    ensures { λ r. ⌜ LabelBits high j r ⌝ }
-{
-    match j {
-        0 => 0xAAAA_AAAA_AAAA_AAAA,
-        1 => 0xCCCC_CCCC_CCCC_CCCC,
-        2 => 0xF0F0_F0F0_F0F0_F0F0,
-        3 => 0xFF00_FF00_FF00_FF00,
-        4 => 0xFFFF_0000_FFFF_0000,
-        5 => 0xFFFF_FFFF_0000_0000,
-        6 => everywhere(high),
-        _ => 0,
-    }
-}
-
-fn plain(value: u64) -> Words
-    ensures { λ r. ⌜ r ≡ plainWords value ⌝ }
-{
-    Words {
-        value,
-        label: 0,
-        fair: 0,
-        temporal: false,
-    }
-}
-
-fn promise(value: u64, label: u64, fair: u64) -> Words
-    ensures { λ r. ⌜ r ≡ promiseWords value label fair ⌝ }
-{
-    Words {
-        value,
-        label,
-        fair,
-        temporal: true,
-    }
-}
-
-// A node's bits, where a and b are its operands' and x is its bit of the next label.
-fn node_words(event: u8, a: u64, b: u64, x: u64, n: Node) -> Words
-    ensures { λ r. ⌜ Lanes event a b x n r ⌝ }
-{
-    let kind = n.kind;
-    match kind {
-        0 => plain(0),
-        1 => plain(everywhere(true)),
-        2 => plain(everywhere(signal_on(event, n.a))),
-        3 => plain(everywhere(at_least(event, n.a, n.b))),
-        4 => plain(flip(a)),
-        5 => plain(a & b),
-        6 => plain(a | b),
-        7 => plain(flip(a) | b),
-        8 => plain((a & b) | flip(a | b)),
-        9 => plain((a | b) & flip(a & b)),
-        10 => promise(x, a, everywhere(true)),
-        11 => promise(b | (a & x), b | (a & x), flip(b | (a & x)) | b),
-        12 => promise(a | x, a | x, flip(a | x) | a),
-        13 => promise(a & x, a & x, (a & x) | flip(a)),
-        _ => plain(0),
-    }
 }
 
 // ---- columns: a word for each node, and for each temporal one
@@ -213,6 +106,17 @@ pub fn temporal_count(count: usize, nodes: [Node; 64]) -> u8
 }
 
 // ---- bytes
+
+// A set of numbers below k, with k added where asked.
+fn put_at(k: u8, add: bool, set: u64) -> u64
+    requires { ⌜ (k < 64) × (set < 2 ^ k) ⌝ }
+    ensures { λ r. ⌜ r ≡ put k add set ⌝ }
+{
+    if add {
+        return set + (1 << k);
+    }
+    set
+}
 
 // The byte of label l.
 fn byte_at(columns: &[u64; 8], l: u8) -> u8

@@ -1,11 +1,11 @@
--- `valuation::label_word` meets its contract. Each constant is checked at all 64 labels of both halves.
+-- `node_words::label_word` meets its contract. Each constant is checked at all 64 labels of both halves.
 use native.Mathlib.Omega.{arith}
 use borrow.Author.Needs.{needs}
-use Rattle.valuation.proofs.Lanewise.{bits-at, bits-top, bits-past}
-use Rattle.valuation.proofs.Lanes.{past}
+use Rattle.node_words.proofs.Lanewise.{bits-at, bits-top, bits-past}
+use Rattle.node_words.proofs.Lanes.{past}
 use mathlib.Core.Path.{refl}
-use Rattle.valuation.proofs.label_word.Statement.{statement}
-use Rattle.valuation.proofs.label_word.Tie as tie
+use Rattle.node_words.proofs.label_word.Statement.{statement}
+use Rattle.node_words.proofs.label_word.Tie as tie
 
 everywhere-requires : tie.Need-everywhere-requires
 everywhere-requires c κs = search needs

@@ -5,8 +5,8 @@ use Prim.Native.Nat.{ℕ, _+_, _<_}
 use Rattle.meaning.specs.declared.Node.{Node}
 use Rattle.ltl.specs.Sets.{on}
 use Rattle.ltl.specs.Nodes.{split}
-use Rattle.valuation.specs.Bits.{Bits, bitsOf}
-use Rattle.valuation.specs.declared.Words.{Words}
+use Rattle.node_words.specs.Bits.{Bits, bitsOf}
+use Rattle.node_words.specs.declared.Words.{Words}
 
 -- label l of the upper half (true) or of the lower one
 abbrev pub labelOf : Bool → ℕ → ℕ

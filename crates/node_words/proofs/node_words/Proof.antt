@@ -1,10 +1,10 @@
--- `valuation::node_words` meets its contract. An arm for each kind; a kind past the last is false.
+-- `node_words::node_words` meets its contract. An arm for each kind; a kind past the last is false.
 use native.Mathlib.Omega.{arith}
 use borrow.Author.Needs.{needs}
-use Rattle.valuation.proofs.Lanes.{past, no-kind, falsum-words, verum-words, signal-words, at-least-words, neg-words, and-words, or-words, implies-words, iff-words, xor-words, next-words, until-words, eventually-words, always-words}
-use Rattle.valuation.proofs.Lanewise.{every-is}
-use Rattle.valuation.proofs.node_words.Statement.{statement}
-use Rattle.valuation.proofs.node_words.Tie as tie
+use Rattle.node_words.proofs.Lanes.{past, no-kind, falsum-words, verum-words, signal-words, at-least-words, neg-words, and-words, or-words, implies-words, iff-words, xor-words, next-words, until-words, eventually-words, always-words}
+use Rattle.node_words.proofs.Lanewise.{every-is}
+use Rattle.node_words.proofs.node_words.Statement.{statement}
+use Rattle.node_words.proofs.node_words.Tie as tie
 
 plain-requires : tie.Need-plain-requires
 plain-requires c κs = search needs

@@ -10,9 +10,9 @@ use Rattle.ltl.specs.Sets.{on}
 use Rattle.ltl.proofs.Sets.{on-zero, on-and, on-or}
 use Rattle.ltl.specs.Nodes.{Split, plain, falsum, atLeast, kinds}
 use Rattle.ltl.specs.Valuation.{plainValue}
-use Rattle.valuation.specs.declared.Words.{Words}
-use Rattle.valuation.specs.Bits.{plainBits, temporalBits, bitsOf}
-use Rattle.valuation.specs.Words.{Lanes, laneOf, plainWords, promiseWords, Flipped, Everywhere}
+use Rattle.node_words.specs.declared.Words.{Words}
+use Rattle.node_words.specs.Bits.{plainBits, temporalBits, bitsOf}
+use Rattle.node_words.specs.Words.{Lanes, laneOf, plainWords, promiseWords, Flipped, Everywhere}
 
 -- a number that is none of those before j, nor j
 pub past : (j k : ℕ) → j ≤ k → (k ≡ j → ⊥) → suc j ≤ k

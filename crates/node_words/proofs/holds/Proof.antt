@@ -1,9 +1,9 @@
--- `valuation::holds` meets its contract. A set in a word has no number past 63.
+-- `node_words::holds` meets its contract. A set in a word has no number past 63.
 use native.Mathlib.Omega.{arith}
-use Rattle.valuation.proofs.Numbers.{on-past}
+use Rattle.node_words.proofs.Lanewise.{on-past}
 use borrow.Author.Needs.{needs}
-use Rattle.valuation.proofs.holds.Statement.{statement}
-use Rattle.valuation.proofs.holds.Tie as tie
+use Rattle.node_words.proofs.holds.Statement.{statement}
+use Rattle.node_words.proofs.holds.Tie as tie
 
 shr-result : tie.Need-shr-result
 shr-result c = search needs

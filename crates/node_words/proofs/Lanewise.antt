@@ -8,7 +8,11 @@ use native.Mathlib.Omega.{arith}
 use lib.Dec.{eqb}
 use Rattle.ltl.specs.Sets.{on, everyBelow}
 use Rattle.ltl.proofs.Sets.{on-first, on-suc, on-zero, on-out}
-use Rattle.valuation.specs.Words.{labelOf, Flipped, Everywhere, LabelBits}
+use Rattle.node_words.specs.Words.{labelOf, Flipped, Everywhere, LabelBits}
+
+-- a word has no bit past 63
+pub on-past : (A i : ℕ) → A < 2 ^ 64 → 64 ≤ i → false ≡ on A i
+on-past A i h l = sym (on-out A 64 i h l)
 
 -- ---- all bits turned round
 

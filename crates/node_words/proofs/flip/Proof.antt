@@ -1,9 +1,9 @@
--- `valuation::flip` meets its contract. A word and its flip add up to all ones.
+-- `node_words::flip` meets its contract. A word and its flip add up to all ones.
 use native.Mathlib.Omega.{arith}
 use borrow.Author.Needs.{needs}
-use Rattle.valuation.proofs.Lanewise.{flipped}
-use Rattle.valuation.proofs.flip.Statement.{statement}
-use Rattle.valuation.proofs.flip.Tie as tie
+use Rattle.node_words.proofs.Lanewise.{flipped}
+use Rattle.node_words.proofs.flip.Statement.{statement}
+use Rattle.node_words.proofs.flip.Tie as tie
 
 sub-result : tie.Need-sub-result
 sub-result c = search needs

@@ -1,8 +1,8 @@
--- `valuation::everywhere` meets its contract. All ones, or none.
-use Rattle.valuation.proofs.Lanewise.{every-is, every-on, every-off}
+-- `node_words::everywhere` meets its contract. All ones, or none.
+use Rattle.node_words.proofs.Lanewise.{every-is, every-on, every-off}
 use mathlib.Core.Path.{sym}
-use Rattle.valuation.proofs.everywhere.Statement.{statement}
-use Rattle.valuation.proofs.everywhere.Tie as tie
+use Rattle.node_words.proofs.everywhere.Statement.{statement}
+use Rattle.node_words.proofs.everywhere.Tie as tie
 
 returns : tie.Need-returns
 returns c = every-is every-on (c .before .args .bit) (sym (c .if1 .taken))
