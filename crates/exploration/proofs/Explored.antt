@@ -12,7 +12,7 @@ use Rattle.meaning.specs.Traces.{over, firstEvents}
 use Rattle.ltl.specs.Sets.{on}
 use Rattle.ltl.specs.Keys.{Tables, startKey, stepKey, emptyKey}
 use Rattle.walk.specs.Explore.{Explored, within, beyond, explore}
-use Rattle.labelling.specs.Arrays.{TablesIn}
+use Rattle.ltl.specs.Arrays.{TablesIn}
 use Rattle.profile_sets.specs.Arrays.{setIn, Marked, tablesBy, tablesIn, Tabled, Steppable, keyOf}
 use Rattle.profile_sets.proofs.Tables.{step-held, whole-is, start-same, step-same}
 use Rattle.key_slots.specs.Arrays.{keysIn, KeysFit}

@@ -21,7 +21,7 @@ use Rattle.ltl.proofs.Instance.{made-tabulates}
 use Rattle.valuation.specs.Valued.{Valuable, profileAt, fairsAt}
 use Rattle.valuation.specs.Entries.{Entries, Table}
 use Rattle.relations.proofs.Searches.{some-same}
-use Rattle.labelling.specs.Arrays.{TablesIn}
+use Rattle.ltl.specs.Arrays.{TablesIn}
 use Rattle.labelling.specs.Marks.{hits, AllMarked}
 use Rattle.labelling.proofs.Marks.{gives, marks-on}
 

@@ -8,7 +8,7 @@ ghost use Rattle.ltl.specs.Nodes.{splits, temporals};
 ghost use Rattle.ltl.specs.Keys.{tablesOf};
 ghost use Rattle.valuation.specs.Valued.{Valuable};
 ghost use Rattle.labelling.specs.Marks.{hits, Marked, AllMarked};
-ghost use Rattle.labelling.specs.Arrays.{TablesIn};
+ghost use Rattle.ltl.specs.Arrays.{TablesIn};
 use events::power;
 use events::width;
 use meaning::Node;

@@ -5,3 +5,4 @@ pub mod Closure
 pub mod Realizable
 pub mod Residuals
 pub mod Keys
+pub mod Arrays

@@ -19,7 +19,7 @@ use Rattle.smallest.specs.Table.{Outcome, Table, TooMany, reducedBytes}
 use Rattle.smallest.proofs.Accepted.{Signals, Formed}
 use Rattle.ltl.proofs.Nodes.{split-temporals}
 use Rattle.valuation.specs.Valued.{Valuable}
-use Rattle.labelling.specs.Arrays.{TablesIn}
+use Rattle.ltl.specs.Arrays.{TablesIn}
 use Rattle.profile_sets.specs.Arrays.{tablesIn}
 use Rattle.exploration.proofs.Explored.{explored-same}
 use Rattle.exploration.specs.Answers.{exploreKeys, ExploredAs, Explores}

@@ -15,7 +15,7 @@ use Rattle.ltl.specs.Sets.{on, setBelow}
 use Rattle.ltl.specs.Residuals.{preimage, ruleTrue, startFrom, stepFrom}
 use Rattle.ltl.specs.Keys.{Tables, look, startKey, stepKey}
 use Rattle.ltl.proofs.Sets.{on-out, on-set, same-members, set-lt, set-same}
-use Rattle.labelling.specs.Arrays.{TablesIn}
+use Rattle.ltl.specs.Arrays.{TablesIn}
 use Rattle.profile_sets.specs.Arrays.{setIn, Marked, tablesBy, tablesIn, Tabled, Labels, Steppable}
 use Rattle.profile_sets.proofs.Words.{set-past}
 

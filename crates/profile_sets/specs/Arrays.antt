@@ -6,7 +6,7 @@ use Prim.Native.Nat.{ℕ, _+_, _*_, _/_, _%_, _^_, _≤_, _<_}
 use lib.ListN.{length, getD}
 use Rattle.ltl.specs.Sets.{on, setBelow}
 use Rattle.ltl.specs.Keys.{Tables, look}
-use Rattle.labelling.specs.Arrays.{TablesIn}
+use Rattle.ltl.specs.Arrays.{TablesIn}
 
 -- the set of the profiles at which the array is true
 unfoldable pub setIn : List Bool → ℕ

@@ -1,11 +1,11 @@
--- The tables of the residual system (Keys of crate ltl), as arrays hold them: the profile by event and next label, and which profiles there are.
+-- The tables of the residual system (Keys), as arrays hold them: the profile by event and next label, and which profiles there are.
 use mathlib.Core.Path.{_≡_}
 use mathlib.Core.List.{List, []}
 use mathlib.Core.Bool.{Bool, false}
 use Prim.Native.Nat.{ℕ, _+_, _≤_, _<_}
 use lib.ListN.{getD}
 use Rattle.ltl.specs.Sets.{on}
 use Rattle.ltl.specs.Keys.{Tables, look}
 
 -- n labels; events below `width`
 pub record TablesIn (width n : ℕ) (t : Tables) (profiles : List (List ℕ)) (whole : List Bool) : Type 0 where
