@@ -2,7 +2,7 @@
 ghost use mathlib.Core.Path.{_≡_};
 ghost use lib.ListN.{length};
 use console::front;
-use table_text::Text;
+use text_pieces::Text;
 
 // What is taken: the first 4,096 bytes of standard input, or all if there are fewer.
 fn input() -> [u8; 4096]

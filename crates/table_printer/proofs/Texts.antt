@@ -22,8 +22,8 @@ use Rattle.meaning.specs.declared.Built.the-variants as Built
 use Rattle.smallest.specs.Table.{Outcome, Table, TooMany}
 use Rattle.building.specs.Build.{outcomeOf, answerTo, outputOf, answerOf, outputAfter, Right}
 use Rattle.building.proofs.Right.{our-demands, built-by}
-use Rattle.table_text.specs.Text.{textOf, refusalText, atFront, textAnswer, textAfter, lineAnswer, lineAfter}
-use Rattle.table_text.specs.declared.Text.the-variants as Text
+use Rattle.text_pieces.specs.RefusalLine.{refusalText, lineAnswer, lineAfter}
+use Rattle.table_text.specs.Text.{textOf, textAnswer, textAfter}
 use Rattle.table_printer.specs.Printing.{outcomeText, judgementText, printed, printAnswer, printAfter}
 use Rattle.table_printer.proofs.Longest.{table-longest}
 

@@ -8,9 +8,11 @@ use Rattle.meaning.specs.RuleFiles.{Judgement, judge}
 use Rattle.meaning.specs.declared.Refusal.the-variants.{ShortOutput, TooManyResiduals}
 use Rattle.smallest.specs.Table.{Outcome, Table, TooMany}
 use Rattle.building.specs.Build.{outcomeOf}
-use Rattle.table_text.specs.Text.{textOf, refusalText, atFront}
-use Rattle.table_text.specs.declared.Text.{Text}
-use Rattle.table_text.specs.declared.Text.the-variants as Text
+use Rattle.text_pieces.specs.Put.{atFront}
+use Rattle.text_pieces.specs.RefusalLine.{refusalText}
+use Rattle.text_pieces.specs.declared.Text.{Text}
+use Rattle.text_pieces.specs.declared.Text.the-variants as Text
+use Rattle.table_text.specs.Text.{textOf}
 
 -- the text of what building comes to, given a long enough buffer
 abbrev pub outcomeText : Outcome → List ℕ

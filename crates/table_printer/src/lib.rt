@@ -4,9 +4,9 @@ ghost use lib.ListN.{length};
 ghost use Rattle.table_printer.specs.Printing.{printAnswer, printAfter};
 use meaning::Built;
 use meaning::Refusal;
-use table_text::Text;
-use table_text::refusal_text;
 use table_text::table_text;
+use text_pieces::Text;
+use text_pieces::refusal_text;
 
 // Room for the longest table.
 fn room() -> [u8; 9479]

@@ -5,11 +5,11 @@ use Prim.Native.Nat.{ℕ, _≤_}
 use native.Mathlib.Nat.{zero-add}
 use borrow.Author.Tests.{le-leb}
 use lib.ListN.{length}
-use Rattle.table_text.specs.Put.{Put}
+use Rattle.text_pieces.specs.Put.{Put}
 use Rattle.table_text.specs.Text.{countsText, linesText, textOf, textAnswer, textAfter}
-use Rattle.table_text.specs.declared.Text.the-variants as Text
+use Rattle.text_pieces.specs.declared.Text.the-variants as Text
 use Rattle.table_text.proofs.Tables.{Counts}
-use Rattle.table_text.proofs.Laws.{put-more, put-is, put-front}
+use Rattle.text_pieces.proofs.Laws.{put-more, put-is, put-front}
 
 module _ {t d s r : List ℕ} {P S j k : ℕ} (h : Counts t P S) (p : Put d 0 (countsText P S) s j) (q : Put s j (linesText t P S) r k) where
   text-put : Put d 0 (textOf t) r k

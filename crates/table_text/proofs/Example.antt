@@ -1,11 +1,11 @@
--- Document 01's printed examples: rule P3's table and its four lines, and a refusal's line.
+-- Document 01's printed example: rule P3's table and its four lines.
 use mathlib.Core.Path.{_≡_, refl}
 use mathlib.Core.Bool.{true}
 use mathlib.Core.List.{List, [], _∷_, _++_}
 use Prim.Native.Nat.{ℕ}
 use Rattle.meaning.specs.TableFiles.{isTable}
-use Rattle.meaning.specs.declared.Refusal.the-variants.{WrongOperand}
-use Rattle.table_text.specs.Text.{digits, textOf, refusalText}
+use Rattle.text_pieces.specs.Decimal.{digits}
+use Rattle.table_text.specs.Text.{textOf}
 
 -- "Its table begins `05 00 00 02 01 03 00` and has 34 bytes.": then the records of states 0, 1 and 2
 abbrev tableP3 : List ℕ
@@ -30,8 +30,3 @@ table-P3 = refl
 pub text-P3 : textOf tableP3 ≡ linesP3
 unfolding textOf digits
 text-P3 = refl
-
--- "refused 6 at 11"
-pub refused-6 : refusalText (WrongOperand 11) ≡ 114 ∷ 101 ∷ 102 ∷ 117 ∷ 115 ∷ 101 ∷ 100 ∷ 32 ∷ 54 ∷ 32 ∷ 97 ∷ 116 ∷ 32 ∷ 49 ∷ 49 ∷ 10 ∷ []
-unfolding refusalText digits
-refused-6 = refl

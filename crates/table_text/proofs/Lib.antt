@@ -1,5 +1,3 @@
 pub mod Answers
-pub mod Decimal
 pub mod Example
-pub mod Laws
 pub mod Tables

@@ -1,26 +1,18 @@
--- The text of a table and of a refusal, as document 01 prints them, in ASCII: byte 32 between words, byte 10 at the end of each line.
+-- The text of a table, as document 01 prints it, in ASCII: byte 32 between words, byte 10 at the end of each line.
 use mathlib.Core.List.{List, [], _∷_, _++_}
 use mathlib.Core.Bool.{cond}
-use Prim.Native.Nat.{ℕ, zero, suc, _+_, _/_, _%_, _^_}
-use lib.ListN.{length, drop}
-use lib.Dec.{ltb, leb}
+use Prim.Native.Nat.{ℕ, _^_}
+use lib.ListN.{length}
+use lib.Dec.{leb}
 use Rattle.sequences.specs.Tabulate.{joined}
 use Rattle.meaning.specs.TableFiles.{signalsIn, statesIn, verdictByte, verdictOf, successor, isTable}
-use Rattle.meaning.specs.Refusals.{codeOf}
 use Rattle.meaning.specs.declared.Verdict.{Verdict}
 use Rattle.meaning.specs.declared.Verdict.the-variants.{Undecided, Satisfied, Violated, Moot}
-use Rattle.meaning.specs.declared.Refusal.{Refusal}
 use Rattle.meaning.specs.declared.Refusal.the-variants.{ShortOutput, WrongTable}
-use Rattle.table_text.specs.declared.Text.{Text}
-use Rattle.table_text.specs.declared.Text.the-variants as Text
-
--- "Numbers are written in decimal": the digits of n, with no leading zero. The first argument bounds how many; one above n is enough.
-unfoldable pub digits : ℕ → ℕ → List ℕ
-digits zero n = []
-digits (suc k) n = let front = digits k (n / 10) in cond (ltb n 10) ((48 + n) ∷ []) (front ++ ((48 + n % 10) ∷ []))
-
-abbrev pub decimal : ℕ → List ℕ
-decimal n = digits (suc n) n
+use Rattle.text_pieces.specs.Put.{atFront}
+use Rattle.text_pieces.specs.Decimal.{decimal}
+use Rattle.text_pieces.specs.declared.Text.{Text}
+use Rattle.text_pieces.specs.declared.Text.the-variants as Text
 
 -- "undecided", "satisfied", "violated", "moot"
 abbrev pub word : Verdict → List ℕ
@@ -51,16 +43,6 @@ linesText t P n = joined n (λ s. lineText t P s)
 unfoldable pub textOf : List ℕ → List ℕ
 textOf t = countsText (signalsIn t) (statesIn t) ++ linesText t (signalsIn t) (statesIn t)
 
--- "refused 6 at 11"
-unfoldable pub refusalText : Refusal → List ℕ
-refusalText r =
-    (114 ∷ 101 ∷ 102 ∷ 117 ∷ 115 ∷ 101 ∷ 100 ∷ 32 ∷ [])
-    ++ decimal (codeOf r .0) ++ (32 ∷ 97 ∷ 116 ∷ 32 ∷ []) ++ decimal (codeOf r .1) ++ (10 ∷ [])
-
--- the bytes at the front of a buffer, and what stood past them
-abbrev pub atFront : List ℕ → List ℕ → List ℕ
-atFront text out = text ++ drop (length text) out
-
 -- the answer: 14 where the bytes are no table, 10 where the output has fewer than 32,768 bytes, in which the text of every table fits
 abbrev pub textAnswer : List ℕ → List ℕ → Text
 textAnswer t out =
@@ -69,10 +51,3 @@ textAnswer t out =
 -- the output then: on a refusal "Lent buffers keep every byte"
 abbrev pub textAfter : List ℕ → List ℕ → List ℕ
 textAfter t out = cond (isTable t) (cond (leb 32768 (length out)) (atFront (textOf t) out) out) out
-
--- the same of a refusal's line: every one fits in 64 bytes
-abbrev pub lineAnswer : Refusal → List ℕ → Text
-lineAnswer r out = cond (leb 64 (length out)) (Text.Written (length (refusalText r))) (Text.Refused ShortOutput)
-
-abbrev pub lineAfter : Refusal → List ℕ → List ℕ
-lineAfter r out = cond (leb 64 (length out)) (atFront (refusalText r) out) out

@@ -1,10 +1,11 @@
-// The text of a table and of a refusal, into a lent buffer.
+// The text of a table, into a lent buffer.
 ghost use mathlib.Core.Path.{_≡_};
-ghost use Prim.Native.Nat.{_+_, _*_, _^_, _≤_, _<_};
+ghost use Prim.Native.Nat.{_+_, _*_, _^_, _≤_};
 ghost use mathlib.Core.List.{_∷_};
 ghost use lib.ListN.{length};
-ghost use Rattle.table_text.specs.Put.{Put};
-ghost use Rattle.table_text.specs.Text.{decimal, word, countsText, successorsText, lineText, linesText, textAnswer, textAfter, lineAnswer, lineAfter};
+ghost use Rattle.text_pieces.specs.Put.{Put};
+ghost use Rattle.text_pieces.specs.Decimal.{decimal};
+ghost use Rattle.table_text.specs.Text.{word, countsText, successorsText, lineText, linesText, textAnswer, textAfter};
 use events::width;
 use meaning::Checked;
 use meaning::Refusal;
@@ -12,57 +13,11 @@ use meaning::Verdict;
 use table_file::check;
 use table_file::successor_at;
 use table_file::verdict_at;
-use wire::wide16;
-
-// What printing a table returns: the length of its text in bytes, or the refusal.
-pub enum Text {
-    Written(usize),
-    Refused(Refusal),
-}
+use text_pieces::Text;
+use text_pieces::put_bytes;
+use text_pieces::put_number;
 
 // ---- pieces: each is put at a place, and the place after it is returned
-
-fn put_bytes(out: &mut [u8], at: usize, bytes: &[u8]) -> usize
-    requires { ⌜ at + length (now bytes) ≤ length (now out) ⌝ }
-    ensures { λ r. ⌜ Put (now (out .entry)) at (now (bytes .entry)) (now (out .exit)) r ⌝ }
-{
-    let mut i: usize = 0;
-    while i < bytes.len() {
-        out[at + i] = bytes[i];
-        i += 1;
-    }
-    at + i
-}
-
-fn digit(n: usize) -> u8
-    requires { ⌜ n < 10 ⌝ }
-    ensures { λ r. ⌜ r ≡ 48 + n ⌝ }
-{
-    48 + (n as u8)
-}
-
-// A number: its digits but the last, then the last.
-fn put_decimal(out: &mut [u8], at: usize, n: usize) -> usize
-    requires { ⌜ at + length (decimal n) ≤ length (now out) ⌝ }
-    ensures { λ r. ⌜ Put (now (out .entry)) at (decimal n) (now (out .exit)) r ⌝ }
-{
-    if n < 10 {
-        out[at] = digit(n);
-        return at + 1;
-    }
-    let next = put_decimal(out, at, n / 10);
-    out[next] = digit(n % 10);
-    next + 1
-}
-
-// A number of two bytes, which has at most five digits.
-fn put_number(out: &mut [u8], at: usize, n: u16) -> usize
-    requires { ⌜ at + 5 ≤ length (now out) ⌝ }
-    ensures { λ r. ⌜ Put (now (out .entry)) at (decimal n) (now (out .exit)) r ⌝ }
-    ensures { λ r. ⌜ r ≤ at + 5 ⌝ }
-{
-    put_decimal(out, at, wide16(n))
-}
 
 // The word of a verdict.
 fn put_word(out: &mut [u8], at: usize, verdict: Verdict) -> usize
@@ -146,7 +101,7 @@ fn put_lines(out: &mut [u8], at: usize, table: &[u8], signals: u8, states: u16) 
     next
 }
 
-// ---- texts
+// ---- the text
 
 // The table's text at the front of the output and its length; or 14 where the bytes are no table, then 10 where the output has fewer than
 // 32,768 bytes, and every byte of the output as it was. Bytes past the text are kept.
@@ -163,22 +118,5 @@ pub fn table_text(table: &[u8], out: &mut [u8]) -> Text
     }
     let next = put_counts(out, signals, states);
     let end = put_lines(out, next, table, signals, states);
-    Text::Written(end)
-}
-
-// The refusal's line at the front of the output and its length; or 10 where the output has fewer than 64 bytes, and every byte of it as it was.
-// Bytes past the line are kept.
-pub fn refusal_text(refusal: Refusal, out: &mut [u8]) -> Text
-    ensures { λ r. ⌜ r ≡ lineAnswer refusal (now (out .entry)) ⌝ }
-    ensures { λ _. ⌜ now (out .exit) ≡ lineAfter refusal (now (out .entry)) ⌝ }
-{
-    if out.len() < 64 {
-        return Text::Refused(Refusal::ShortOutput);
-    }
-    let a = put_bytes(out, 0, b"refused ");
-    let b = put_number(out, a, refusal.number() as u16);
-    let c = put_bytes(out, b, b" at ");
-    let d = put_decimal(out, c, refusal.place());
-    let end = put_bytes(out, d, b"\n");
     Text::Written(end)
 }

@@ -15,8 +15,8 @@ use Rattle.meaning.specs.declared.Decided.the-variants.{After, Never}
 use Rattle.meaning.specs.declared.Ran.{Ran}
 use Rattle.meaning.specs.declared.Ran.the-variants as Ran
 use Rattle.meaning.specs.Runs.{ranIn}
-use Rattle.table_text.specs.declared.Text.{Text}
-use Rattle.table_text.specs.declared.Text.the-variants as Text
+use Rattle.text_pieces.specs.declared.Text.{Text}
+use Rattle.text_pieces.specs.declared.Text.the-variants as Text
 
 -- "Every refusal returns a number and a place." A place of 2^56 or more, which no memory holds, is shown as 2^56 - 1.
 abbrev pub placeCode : ℕ → ℕ

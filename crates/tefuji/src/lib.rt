@@ -14,7 +14,7 @@ use meaning::Decided;
 use meaning::Ran;
 use meaning::Refusal;
 use meaning::Verdict;
-use table_text::Text;
+use text_pieces::Text;
 
 // ---- answers as numbers
 

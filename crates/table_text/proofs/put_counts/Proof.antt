@@ -1,6 +1,6 @@
 -- `table_text::put_counts` meets its contract.
 use native.Mathlib.Omega.{arith}
-use Rattle.table_text.proofs.Laws.{put-more}
+use Rattle.text_pieces.proofs.Laws.{put-more}
 use borrow.Author.Needs.{needs}
 use Rattle.table_text.proofs.put_counts.Statement.{statement}
 use Rattle.table_text.proofs.put_counts.Tie as tie

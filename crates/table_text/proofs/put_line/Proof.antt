@@ -3,7 +3,7 @@ use native.Mathlib.Omega.{arith}
 use mathlib.Core.Path.{ap}
 use denote.Ref.{now}
 use Rattle.table_text.specs.Text.{word}
-use Rattle.table_text.proofs.Laws.{put-more, put-is}
+use Rattle.text_pieces.proofs.Laws.{put-more, put-is}
 use Rattle.meaning.specs.TableFiles.{verdictByte, verdictOf}
 use borrow.Author.Needs.{needs}
 use Rattle.table_text.proofs.put_line.Statement.{statement}

@@ -4,9 +4,9 @@ use borrow.Author.Needs.{needs}
 use mathlib.Core.Path.{_≡_, refl, ap}
 use Prim.Native.Nat.{_+_, _-_, _*_, _≤_}
 use denote.Ref.{now}
-use Rattle.table_text.specs.Put.{Put}
+use Rattle.text_pieces.specs.Put.{Put}
 use Rattle.table_text.specs.Text.{lineText, linesText}
-use Rattle.table_text.proofs.Laws.{put-none, put-length, put-is, joined-more}
+use Rattle.text_pieces.proofs.Laws.{put-none, put-length, put-is, joined-more}
 use Rattle.table_text.proofs.put_lines.Statement.{statement}
 use Rattle.table_text.proofs.put_lines.Tie as tie
 

@@ -3,7 +3,7 @@ use native.Mathlib.Omega.{arith}
 use mathlib.Core.Path.{refl, _∙_}
 use denote.Ref.{now}
 use lib.ListN.{length-set}
-use Rattle.table_text.proofs.Laws.{put-more, put-byte}
+use Rattle.text_pieces.proofs.Laws.{put-more, put-byte}
 use borrow.Author.Needs.{needs}
 use Rattle.table_text.proofs.put_successor.Statement.{statement}
 use Rattle.table_text.proofs.put_successor.Tie as tie

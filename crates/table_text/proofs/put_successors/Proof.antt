@@ -5,9 +5,10 @@ use mathlib.Core.Path.{_≡_, refl, ap}
 use Prim.Native.Nat.{ℕ, _+_, _-_, _*_, _^_, _≤_}
 use mathlib.Core.List.{List, _∷_}
 use denote.Ref.{now}
-use Rattle.table_text.specs.Put.{Put}
-use Rattle.table_text.specs.Text.{decimal, successorsText}
-use Rattle.table_text.proofs.Laws.{put-none, put-length, put-is, joined-more}
+use Rattle.text_pieces.specs.Put.{Put}
+use Rattle.text_pieces.specs.Decimal.{decimal}
+use Rattle.table_text.specs.Text.{successorsText}
+use Rattle.text_pieces.proofs.Laws.{put-none, put-length, put-is, joined-more}
 use Rattle.meaning.specs.TableFiles.{successor}
 use Rattle.table_text.proofs.put_successors.Statement.{statement}
 use Rattle.table_text.proofs.put_successors.Tie as tie

@@ -2,7 +2,7 @@
 use native.Mathlib.Omega.{arith}
 use mathlib.Core.Path.{sym, ap}
 use Rattle.table_text.specs.Text.{word}
-use Rattle.table_text.proofs.Laws.{put-is}
+use Rattle.text_pieces.proofs.Laws.{put-is}
 use borrow.Author.Needs.{needs}
 use Rattle.table_text.proofs.put_word.Statement.{statement}
 use Rattle.table_text.proofs.put_word.Tie as tie

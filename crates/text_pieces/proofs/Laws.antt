@@ -11,9 +11,9 @@ use lib.ListN.{length, getD, set, take, length-append}
 use lib.Seq.{take-suc, take-length}
 use Rattle.sequences.specs.Tabulate.{joined}
 use Rattle.sequences.proofs.Stores.{Stored, stored-more, stored-whole, stored-length}
-use Rattle.table_text.specs.Put.{Put}
-use Rattle.table_text.specs.Text.{decimal, atFront}
-use Rattle.table_text.proofs.Decimal.{decimal-one, decimal-more}
+use Rattle.text_pieces.specs.Put.{Put, atFront}
+use Rattle.text_pieces.specs.Decimal.{decimal}
+use Rattle.text_pieces.proofs.Decimal.{decimal-one, decimal-more}
 
 pub put-none : {d : List ℕ} {i j : ℕ} → j ≡ i → Put d i [] d j
 put-none e = record { stored = refl; next = omega arith }

@@ -1,13 +1,13 @@
--- `table_text::put_bytes` meets its contract.
+-- `text_pieces::put_bytes` meets its contract.
 use native.Mathlib.Omega.{arith}
 use borrow.Author.Needs.{needs}
 use Prim.Native.Nat.{_+_, _-_, _≤_}
 use denote.Ref.{now}
 use lib.ListN.{length, take}
-use Rattle.table_text.specs.Put.{Put}
-use Rattle.table_text.proofs.Laws.{put-none, put-length, bytes-more, bytes-all}
-use Rattle.table_text.proofs.put_bytes.Statement.{statement}
-use Rattle.table_text.proofs.put_bytes.Tie as tie
+use Rattle.text_pieces.specs.Put.{Put}
+use Rattle.text_pieces.proofs.Laws.{put-none, put-length, bytes-more, bytes-all}
+use Rattle.text_pieces.proofs.put_bytes.Statement.{statement}
+use Rattle.text_pieces.proofs.put_bytes.Tie as tie
 
 abbrev Inv-loop : tie.InvT-loop
 Inv-loop out₀ at bytes i₀ out i = (i ≤ length bytes) × Put out₀ at (take i bytes) out (at + i)

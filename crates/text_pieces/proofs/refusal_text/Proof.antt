@@ -1,18 +1,19 @@
--- `table_text::refusal_text` meets its contract.
+-- `text_pieces::refusal_text` meets its contract.
 use native.Mathlib.Omega.{arith}
 use native.Mathlib.Nat.{zero-add}
 use mathlib.Core.Path.{_∙_, ap}
 use lib.ListN.{length}
 use borrow.Author.Tests.{le-leb, lt-leb}
 use denote.Ref.{now}
-use Rattle.table_text.specs.Text.{decimal, refusalText}
-use Rattle.table_text.specs.declared.Text.the-variants as Text
-use Rattle.table_text.proofs.Laws.{put-length, put-more, put-is, put-front}
-use Rattle.table_text.proofs.Decimal.{decimal-u64}
+use Rattle.text_pieces.specs.Decimal.{decimal}
+use Rattle.text_pieces.specs.RefusalLine.{refusalText}
+use Rattle.text_pieces.specs.declared.Text.the-variants as Text
+use Rattle.text_pieces.proofs.Laws.{put-length, put-more, put-is, put-front}
+use Rattle.text_pieces.proofs.Decimal.{decimal-u64}
 use Rattle.meaning.specs.Refusals.{codeOf}
 use borrow.Author.Needs.{needs}
-use Rattle.table_text.proofs.refusal_text.Statement.{statement}
-use Rattle.table_text.proofs.refusal_text.Tie as tie
+use Rattle.text_pieces.proofs.refusal_text.Statement.{statement}
+use Rattle.text_pieces.proofs.refusal_text.Tie as tie
 
 returns : tie.Need-returns
 returns c = let l = lt-leb 64 (length (now (c .before .before .args .out))) (c .if1 .taken) in (rw l, rw l)

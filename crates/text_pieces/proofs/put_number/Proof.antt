@@ -1,12 +1,12 @@
--- `table_text::put_number` meets its contract.
+-- `text_pieces::put_number` meets its contract.
 use native.Mathlib.Omega.{arith}
 use mathlib.Core.Path.{ap}
-use Rattle.table_text.specs.Text.{decimal}
-use Rattle.table_text.proofs.Laws.{put-is}
-use Rattle.table_text.proofs.Decimal.{decimal-u16}
+use Rattle.text_pieces.specs.Decimal.{decimal}
+use Rattle.text_pieces.proofs.Laws.{put-is}
+use Rattle.text_pieces.proofs.Decimal.{decimal-u16}
 use borrow.Author.Needs.{needs}
-use Rattle.table_text.proofs.put_number.Statement.{statement}
-use Rattle.table_text.proofs.put_number.Tie as tie
+use Rattle.text_pieces.proofs.put_number.Statement.{statement}
+use Rattle.text_pieces.proofs.put_number.Tie as tie
 
 wide16-requires : tie.Need-wide16-requires
 wide16-requires c κs = search needs

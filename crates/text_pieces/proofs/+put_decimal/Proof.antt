@@ -7,14 +7,14 @@ use denote.Ref.{now}
 use lib.ListN.{length, length-set}
 use borrow.Fn.Kinds.{In}
 use borrow.Fn.PlainCycle.{Measures, is, falls, and}
-use Rattle.table_text.proofs.Decimal.{decimal-one, decimal-length}
-use Rattle.table_text.proofs.Laws.{decimal-one-put, decimal-more-put}
-use Rattle.table_text.proofs.put_decimal.Reads as put-decimal
-use Rattle.table_text.proofs.put_decimal.Kinds as put-decimal-kinds
-use Rattle.table_text.proofs.+put_decimal.Lts-put_decimal as put-decimal-lts
-use Rattle.table_text.proofs.digit.Reads as digit-reads
-use Rattle.table_text.proofs.+put_decimal.{statement}
-use Rattle.table_text.proofs.+put_decimal.Tie.{close}
+use Rattle.text_pieces.proofs.Decimal.{decimal-one, decimal-length}
+use Rattle.text_pieces.proofs.Laws.{decimal-one-put, decimal-more-put}
+use Rattle.text_pieces.proofs.put_decimal.Reads as put-decimal
+use Rattle.text_pieces.proofs.put_decimal.Kinds as put-decimal-kinds
+use Rattle.text_pieces.proofs.+put_decimal.Lts-put_decimal as put-decimal-lts
+use Rattle.text_pieces.proofs.digit.Reads as digit-reads
+use Rattle.text_pieces.proofs.+put_decimal.{statement}
+use Rattle.text_pieces.proofs.+put_decimal.Tie.{close}
 
 abbrev μ-put-decimal : Measures 1 put-decimal-kinds.ps ℕ
 μ-put-decimal κs a = a .1 .1 .0

@@ -9,7 +9,7 @@ use native.Mathlib.Omega.{arith}
 use native.Mathlib.Decide.{decLt}
 use borrow.Author.Tests.{lt-ltb, le-ltb}
 use lib.ListN.{length, length-append}
-use Rattle.table_text.specs.Text.{digits, decimal}
+use Rattle.text_pieces.specs.Decimal.{digits, decimal}
 
 -- one digit, whatever the fuel
 digits-one : (k n : ℕ) → n < 10 → digits (suc k) n ≡ (48 + n) ∷ []
