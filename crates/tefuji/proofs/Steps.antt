@@ -13,7 +13,7 @@ use Rattle.meaning.specs.declared.Checked.the-variants as Checked
 use Rattle.meaning.specs.declared.Ran.the-variants as Ran
 use Rattle.table_file.proofs.Form.{table-header, states-few}
 use Rattle.table_run.proofs.Answers.{run-table, run-refused}
-use Rattle.tefuji.specs.Codes.{refusalCode, countsCode, stepOf}
+use Rattle.codes.specs.Codes.{refusalCode, countsCode, stepOf}
 
 -- over more than four signals there is no table
 pub step-none : (t : List ℕ) (c s e : ℕ) → 4 < c / 65536 → Ran.Refused WrongTable ≡ stepOf t c s e

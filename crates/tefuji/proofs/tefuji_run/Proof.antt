@@ -3,7 +3,7 @@ use borrow.Author.Needs.{needs}
 use mathlib.Core.Path.{ap, _∙_}
 use denote.Ref.{now}
 use Rattle.meaning.specs.declared.Ran.{Ran}
-use Rattle.tefuji.specs.Codes.{ranCode, countAfter}
+use Rattle.codes.specs.Codes.{ranCode, countAfter}
 use Rattle.tefuji.proofs.tefuji_run.Statement.{statement}
 use Rattle.tefuji.proofs.tefuji_run.Tie as tie
 

@@ -2,7 +2,7 @@
 use borrow.Author.Needs.{needs}
 use mathlib.Core.Path.{ap, _∙_}
 use denote.Ref.{now}
-use Rattle.tefuji.specs.Codes.{ranCode}
+use Rattle.codes.specs.Codes.{ranCode}
 use Rattle.tefuji.proofs.Steps.{step-none}
 use Rattle.tefuji.proofs.tefuji_step.Statement.{statement}
 use Rattle.tefuji.proofs.tefuji_step.Tie as tie

@@ -1,9 +1,9 @@
--- `tefuji::ran_code` meets its contract.
+-- `codes::ran_code` meets its contract.
 use borrow.Author.Needs.{needs}
 use mathlib.Core.Path.{sym, ap, _∙_}
-use Rattle.tefuji.specs.Codes.{ranCode}
-use Rattle.tefuji.proofs.ran_code.Statement.{statement}
-use Rattle.tefuji.proofs.ran_code.Tie as tie
+use Rattle.codes.specs.Codes.{ranCode}
+use Rattle.codes.proofs.ran_code.Statement.{statement}
+use Rattle.codes.proofs.ran_code.Tie as tie
 
 enum-known-ran : tie.Need-enum-known-ran
 enum-known-ran c = search needs

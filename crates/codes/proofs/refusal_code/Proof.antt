@@ -1,7 +1,7 @@
--- `tefuji::refusal_code` meets its contract.
+-- `codes::refusal_code` meets its contract.
 use borrow.Author.Needs.{needs}
-use Rattle.tefuji.proofs.refusal_code.Statement.{statement}
-use Rattle.tefuji.proofs.refusal_code.Tie as tie
+use Rattle.codes.proofs.refusal_code.Statement.{statement}
+use Rattle.codes.proofs.refusal_code.Tie as tie
 
 number-requires : tie.Need-number-requires
 number-requires c κs = search needs

@@ -1,9 +1,9 @@
--- `tefuji::place_code` meets its contract.
+-- `codes::place_code` meets its contract.
 use native.Mathlib.Omega.{arith}
 use Prim.Native.Nat.{_^_}
 use borrow.Author.Tests.{lt-ltb, le-ltb}
-use Rattle.tefuji.proofs.place_code.Statement.{statement}
-use Rattle.tefuji.proofs.place_code.Tie as tie
+use Rattle.codes.proofs.place_code.Statement.{statement}
+use Rattle.codes.proofs.place_code.Tie as tie
 
 returns : tie.Need-returns
 returns c = (rw (lt-ltb (c .before .args .place) (2 ^ 56) (c .if1 .taken)), c .if1 .taken)

@@ -1,10 +1,10 @@
--- `tefuji::verdict_number` meets its contract.
+-- `codes::verdict_number` meets its contract.
 use mathlib.Core.Path.{sym, ap}
 use native.Mathlib.Omega.{arith}
 use borrow.Author.Needs.{needs}
 use Rattle.meaning.specs.TableFiles.{verdictNumber}
-use Rattle.tefuji.proofs.verdict_number.Statement.{statement}
-use Rattle.tefuji.proofs.verdict_number.Tie as tie
+use Rattle.codes.proofs.verdict_number.Statement.{statement}
+use Rattle.codes.proofs.verdict_number.Tie as tie
 
 enum-told : tie.Need-enum-told
 enum-told c = search needs

@@ -1,10 +1,10 @@
--- `tefuji::count_after` meets its contract.
+-- `codes::count_after` meets its contract.
 use borrow.Author.Needs.{needs}
 use mathlib.Core.Path.{sym, ap, _∙_}
 use Rattle.meaning.specs.declared.Ran.{Ran}
-use Rattle.tefuji.specs.Codes.{countAfter}
-use Rattle.tefuji.proofs.count_after.Statement.{statement}
-use Rattle.tefuji.proofs.count_after.Tie as tie
+use Rattle.codes.specs.Codes.{countAfter}
+use Rattle.codes.proofs.count_after.Statement.{statement}
+use Rattle.codes.proofs.count_after.Tie as tie
 
 enum-known-ran : tie.Need-enum-known-ran
 enum-known-ran c = search needs

@@ -1,9 +1,9 @@
--- `tefuji::count_code` meets its contract.
+-- `codes::count_code` meets its contract.
 use mathlib.Core.Path.{sym, ap}
 use borrow.Author.Needs.{needs}
-use Rattle.tefuji.specs.Codes.{countCode}
-use Rattle.tefuji.proofs.count_code.Statement.{statement}
-use Rattle.tefuji.proofs.count_code.Tie as tie
+use Rattle.codes.specs.Codes.{countCode}
+use Rattle.codes.proofs.count_code.Statement.{statement}
+use Rattle.codes.proofs.count_code.Tie as tie
 
 enum-known-decided : tie.Need-enum-known-decided
 enum-known-decided c = search needs
