@@ -48,11 +48,11 @@ fn say_row(t: &[u8], signals: u8, state: u16)
     say(b" | ");
     say_number(wire::wide16(state));
     say(b" ");
-    say_verdict(table_file::verdict_at(t, signals, state));
+    say_verdict(table_layout::verdict_at(t, signals, state));
     let n = events::width(signals);
     let mut e: u8 = 0;
     while wire::wide(e) < n {
-        say_number(wire::wide16(table_file::successor_at(t, signals, state, e)));
+        say_number(wire::wide16(table_layout::successor_at(t, signals, state, e)));
         say(b" ");
         e += 1;
     }

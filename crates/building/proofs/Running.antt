@@ -21,7 +21,7 @@ use Rattle.meaning.specs.declared.Decided.{Decided}
 use Rattle.meaning.specs.declared.Decided.the-variants.{After, Never}
 use Rattle.meaning.specs.declared.Ran.{Ran}
 use Rattle.meaning.specs.declared.Ran.the-variants.{Ended}
-use Rattle.table_file.proofs.Form.{table-header, states-some, table-inside}
+use Rattle.table_layout.proofs.Form.{table-header, states-some, table-inside}
 use Rattle.building.specs.Build.{BuiltRight}
 use Rattle.building.specs.Running.{CountRight, RunRight, StepRight, stepsFrom, steps}
 

@@ -13,7 +13,7 @@ use Rattle.meaning.specs.Runs.{runOf, ranIn, rowRead, rowIn}
 use Rattle.meaning.specs.declared.Ran.{Ran}
 use Rattle.meaning.specs.declared.Checked.{Checked}
 use Rattle.meaning.specs.declared.Checked.the-variants as Checked
-use Rattle.table_file.proofs.Form.{states-some, table-header, table-inside}
+use Rattle.table_layout.proofs.Form.{states-some, table-header, table-inside}
 use Rattle.table_run.proofs.Answers.{run-table, run-refused, row-table, row-refused}
 use Rattle.opened.specs.OpenedTables.{countsOf, openedOf, outcomeBy, ranBy, rowBy, steppedBy, stateAfter, steppedAll}
 

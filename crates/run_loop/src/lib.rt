@@ -11,7 +11,7 @@ use run_parts::decides_at;
 use run_parts::fill_rows;
 use run_parts::in_table;
 use run_parts::successor_in;
-use table_file::verdict_at;
+use table_layout::verdict_at;
 
 // When the first verdict other than undecided was shown, once the state after so many events is seen too.
 fn noted(first: Decided, shows: bool, count: usize) -> Decided

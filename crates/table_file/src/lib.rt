@@ -1,48 +1,18 @@
-// Table files: their form, and what stands in a state's record.
+// The check of a table file: whether its bytes have the form of a table.
 ghost use mathlib.Core.Path.{_≡_};
 ghost use Prim.Native.Nat.{_+_, _*_, _≤_, _<_};
 ghost use lib.Dec.{ltb};
 ghost use Rattle.sequences.specs.Tabulate.{every, allBelow};
 ghost use Rattle.meaning.specs.Bytes.{u16At};
-ghost use Rattle.meaning.specs.TableFiles.{rowAt, contentTests, rowTests, headerTests, checkedOf, verdictOf, verdictByte, successor};
-ghost use Rattle.meaning.specs.Runs.{countsFit};
+ghost use Rattle.meaning.specs.TableFiles.{contentTests, rowTests, headerTests, checkedOf};
 use events::width;
 use meaning::Checked;
 use meaning::Refusal;
-use meaning::Verdict;
+use table_layout::counts_fit;
+use table_layout::row_at;
 use wire::byte_at;
 use wire::u16_at;
-use wire::wide;
 use wire::wide16;
-
-// ---- form
-
-// The place of a state's record, which for the number of states is the table's length.
-pub fn row_at(signals: u8, state: u16) -> usize
-    requires { ⌜ signals ≤ 4 ⌝ }
-    ensures { λ r. ⌜ (r ≡ rowAt signals state) × (r < 4194304) ⌝ }
-{
-    7 + wide16(state) * (5 + 2 * width(signals))
-}
-
-// Whether the counts are a table's, and the bytes as many as that table has.
-pub fn counts_fit(t: &[u8], signals: u8, states: u16) -> bool
-    ensures { λ r. ⌜ r ≡ countsFit (now (t .entry)) signals states ⌝ }
-{
-    if signals < 1 {
-        return false;
-    }
-    if 4 < signals {
-        return false;
-    }
-    if states < 1 {
-        return false;
-    }
-    if 256 < states {
-        return false;
-    }
-    t.len() == row_at(signals, states)
-}
 
 fn header_fits(t: &[u8]) -> bool
     ensures { λ r. ⌜ r ≡ every (headerTests (now (t .entry))) ⌝ }
@@ -128,28 +98,4 @@ pub fn check(t: &[u8]) -> Checked
         }
     }
     Checked::Refused(Refusal::WrongTable)
-}
-
-// ---- a state's record
-
-// The verdict of a state. Past the bytes it is undecided.
-pub fn verdict_at(t: &[u8], signals: u8, state: u16) -> Verdict
-    requires { ⌜ signals ≤ 4 ⌝ }
-    ensures { λ r. ⌜ r ≡ verdictOf (verdictByte (now (t .entry)) signals state) ⌝ }
-{
-    let v = byte_at(t, row_at(signals, state) + 4);
-    match v {
-        1 => Verdict::Satisfied,
-        2 => Verdict::Violated,
-        3 => Verdict::Moot,
-        _ => Verdict::Undecided,
-    }
-}
-
-// The successor of a state for an event. Past the bytes it is 0.
-pub fn successor_at(t: &[u8], signals: u8, state: u16, event: u8) -> u16
-    requires { ⌜ signals ≤ 4 ⌝ }
-    ensures { λ r. ⌜ r ≡ successor (now (t .entry)) signals state event ⌝ }
-{
-    u16_at(t, row_at(signals, state) + 5 + 2 * wide(event))
 }

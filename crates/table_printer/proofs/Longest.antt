@@ -10,7 +10,7 @@ use lib.Pow.{pow-mono}
 use borrow.Author.Tests.{eqb-true}
 use Rattle.sequences.proofs.Tests.{holds}
 use Rattle.meaning.specs.TableFiles.{signalsIn, statesIn, rowLength, tableLength, headerTests, isTable}
-use Rattle.table_file.proofs.Form.{table-header, signals-few, states-few}
+use Rattle.table_layout.proofs.Form.{table-header, signals-few, states-few}
 
 pub table-longest : (t : List ℕ) → isTable t ≡ true → length t ≤ 9479
 table-longest t form =

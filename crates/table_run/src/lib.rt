@@ -17,9 +17,9 @@ use run_parts::first_bad;
 use run_parts::in_table;
 use run_parts::successors_of;
 use table_file::content_fits;
-use table_file::counts_fit;
-use table_file::successor_at;
-use table_file::verdict_at;
+use table_layout::counts_fit;
+use table_layout::successor_at;
+use table_layout::verdict_at;
 use wire::wide;
 
 // Whether a run may start, or a row be read.

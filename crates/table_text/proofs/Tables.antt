@@ -7,7 +7,7 @@ use native.Mathlib.Omega.{arith}
 use Rattle.meaning.specs.TableFiles.{signalsIn, statesIn, isTable, checkedOf}
 use Rattle.meaning.specs.declared.Refusal.{Refusal}
 use Rattle.meaning.specs.declared.Checked.the-variants as Checked
-use Rattle.table_file.proofs.Form.{table-header, signals-few, states-few}
+use Rattle.table_layout.proofs.Form.{table-header, signals-few, states-few}
 
 -- t is a table over P signals, with S states
 pub record Counts (t : List ℕ) (P S : ℕ) : Type 0 where

@@ -20,7 +20,7 @@ fn row_of(t: &[u8], signals: u8, state: u16) -> [u16; 16]
     let mut row = [0u16; 16];
     let mut e: u8 = 0;
     while e < 16 {
-        row[wire::wide(e)] = table_file::successor_at(t, signals, state, e);
+        row[wire::wide(e)] = table_layout::successor_at(t, signals, state, e);
         e += 1;
     }
     row
@@ -47,7 +47,7 @@ fn rewritten(t: &[u8], signals: u8, states: u16) -> bool
     let mut s: u16 = 0;
     while s < states {
         let i = wire::wide16(s);
-        verdicts[i] = wire::byte_at(t, table_file::row_at(signals, s) + 4);
+        verdicts[i] = wire::byte_at(t, table_layout::row_at(signals, s) + 4);
         let row = row_of(t, signals, s);
         rows[i] = row;
         s += 1;

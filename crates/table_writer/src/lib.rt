@@ -10,7 +10,7 @@ ghost use Rattle.table_bytes.specs.Written.{headerBytes, successorBytes, rowByt
 use events::width;
 use meaning::Built;
 use meaning::Refusal;
-use table_file::row_at;
+use table_layout::row_at;
 use wire::put_u16;
 use wire::wide16;
 

@@ -11,7 +11,7 @@ use Rattle.meaning.specs.declared.Refusal.the-variants.{WrongTable}
 use Rattle.meaning.specs.declared.Checked.{Checked}
 use Rattle.meaning.specs.declared.Checked.the-variants as Checked
 use Rattle.meaning.specs.declared.Ran.the-variants as Ran
-use Rattle.table_file.proofs.Form.{table-header, states-few}
+use Rattle.table_layout.proofs.Form.{table-header, states-few}
 use Rattle.table_run.proofs.Answers.{run-table, run-refused}
 use Rattle.codes.specs.Codes.{refusalCode, countsCode, stepOf}
 

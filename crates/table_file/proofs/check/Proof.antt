@@ -2,7 +2,8 @@
 use native.Mathlib.Omega.{arith}
 use mathlib.Core.Path.{sym, _∙_}
 use denote.Ref.{now}
-use Rattle.table_file.proofs.Form.{signals-few, checked-table, checked-rows, checked-header}
+use Rattle.table_layout.proofs.Form.{signals-few}
+use Rattle.table_file.proofs.Checking.{checked-table, checked-rows, checked-header}
 use borrow.Author.Needs.{needs}
 use Rattle.table_file.proofs.check.Statement.{statement}
 use Rattle.table_file.proofs.check.Tie as tie

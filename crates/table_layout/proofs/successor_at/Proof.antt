@@ -1,11 +1,11 @@
--- `table_file::successor_at` meets its contract.
+-- `table_layout::successor_at` meets its contract.
 use mathlib.Core.Path.{_∙_, ap₂}
 use Prim.Native.Nat.{ℕ, _+_, _*_}
 use denote.Ref.{now}
 use Rattle.meaning.specs.Bytes.{u16At}
 use borrow.Author.Needs.{needs}
-use Rattle.table_file.proofs.successor_at.Statement.{statement}
-use Rattle.table_file.proofs.successor_at.Tie as tie
+use Rattle.table_layout.proofs.successor_at.Statement.{statement}
+use Rattle.table_layout.proofs.successor_at.Tie as tie
 
 row-at-requires : tie.Need-row-at-requires
 row-at-requires c κs = search needs

@@ -1,7 +1,7 @@
 -- Laws of the form of a table.
 use mathlib.Core.Path.{_≡_, refl, sym, _∙_}
-use mathlib.Core.List.{List, [], _∷_}
-use mathlib.Core.Bool.{Bool, true, false, cond, _&&_}
+use mathlib.Core.List.{List, _∷_}
+use mathlib.Core.Bool.{Bool, true, false, _&&_}
 use Prim.Native.Nat.{ℕ, zero, suc, _^_, _≤_, _<_}
 use native.Mathlib.Omega.{arith}
 use lib.ListN.{length}
@@ -11,11 +11,9 @@ use Rattle.sequences.specs.Tabulate.{every, allBelow}
 use Rattle.sequences.proofs.Tests.{holds}
 use Rattle.sequences.proofs.Loops.{all-not}
 use Rattle.meaning.specs.Bytes.{u16At}
-use Rattle.meaning.specs.TableFiles.{countsTests, contentTests, headerTests, rowTests, signalsIn, statesIn, verdictByte, successor, isTable, checkedOf, verdictOf}
+use Rattle.meaning.specs.TableFiles.{countsTests, contentTests, headerTests, rowTests, signalsIn, statesIn, verdictByte, successor, isTable, verdictOf}
 use Rattle.meaning.specs.Runs.{countsFit}
 use Rattle.meaning.specs.declared.Verdict.the-variants.{Undecided}
-use Rattle.meaning.specs.declared.Refusal.the-variants.{WrongTable}
-use Rattle.meaning.specs.declared.Checked.the-variants as Checked
 
 pub verdict-else : (v : ℕ) → (v ≡ 1 → ⊥) → (v ≡ 2 → ⊥) → (v ≡ 3 → ⊥) → Undecided ≡ verdictOf v
 verdict-else zero a b c = refl
@@ -42,7 +40,7 @@ after-three true false c l h = never h
 after-three false b c l h = never h
 
 module _ (t : List ℕ) where
-  abbrev rowsFit : Bool
+  abbrev pub rowsFit : Bool
   rowsFit = allBelow (statesIn t) (λ s. every (rowTests t (signalsIn t) (statesIn t) s))
 
   -- a first record that fits names at most four signals
@@ -91,23 +89,3 @@ module _ (t : List ℕ) where
     table-inside s e l b =
         ltb-true (successor t (signalsIn t) s e) (statesIn t)
         (all-holds (2 ^ signalsIn t) (λ k. ltb (successor t (signalsIn t) s k) (statesIn t)) (table-successors s l) e b)
-
-  pub checked-table : (P S : ℕ) → every (headerTests t) ≡ true → P ≡ signalsIn t → S ≡ statesIn t → allBelow S (λ s. every (rowTests t P S s)) ≡ true
-      → Checked.Table P S ≡ checkedOf t
-  unfolding isTable
-  checked-table P S h p q r =
-      let e : rowsFit ≡ true = rw (p, q) at r in
-      rw (h, e, p, q)
-
-  pub checked-rows : (P S : ℕ) → P ≡ signalsIn t → S ≡ statesIn t → allBelow S (λ s. every (rowTests t P S s)) ≡ false
-      → Checked.Refused WrongTable ≡ checkedOf t
-  unfolding isTable
-  checked-rows P S p q r = let e : rowsFit ≡ false = rw (p, q) at r in rw e (go (every (headerTests t)))
-    where
-      go : (b : Bool) → Checked.Refused WrongTable ≡ cond (b && false) (Checked.Table (signalsIn t) (statesIn t)) (Checked.Refused WrongTable)
-      go true = refl
-      go false = refl
-
-  pub checked-header : every (headerTests t) ≡ false → Checked.Refused WrongTable ≡ checkedOf t
-  unfolding isTable
-  checked-header h = rw h

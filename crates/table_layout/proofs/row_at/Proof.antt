@@ -1,11 +1,11 @@
--- `table_file::row_at` meets its contract.
+-- `table_layout::row_at` meets its contract.
 use native.Mathlib.Omega.{arith}
 use mathlib.Core.Path.{ap₂}
 use Prim.Native.Nat.{ℕ, _+_, _*_}
 use native.Mathlib.Nat.{mul-le-mul}
 use borrow.Author.Needs.{needs}
-use Rattle.table_file.proofs.row_at.Statement.{statement}
-use Rattle.table_file.proofs.row_at.Tie as tie
+use Rattle.table_layout.proofs.row_at.Statement.{statement}
+use Rattle.table_layout.proofs.row_at.Tie as tie
 
 wide16-requires : tie.Need-wide16-requires
 wide16-requires c κs = search needs

@@ -1,13 +1,13 @@
--- `table_file::verdict_at` meets its contract.
+-- `table_layout::verdict_at` meets its contract.
 use mathlib.Core.Path.{_≡_, sym, _∙_, ap}
 use Prim.Native.Nat.{ℕ, _+_}
 use denote.Ref.{now}
 use Rattle.meaning.specs.TableFiles.{verdictOf, verdictByte}
 use lib.ListN.{getD}
-use Rattle.table_file.proofs.Form.{verdict-else}
+use Rattle.table_layout.proofs.Form.{verdict-else}
 use borrow.Author.Needs.{needs}
-use Rattle.table_file.proofs.verdict_at.Statement.{statement}
-use Rattle.table_file.proofs.verdict_at.Tie as tie
+use Rattle.table_layout.proofs.verdict_at.Statement.{statement}
+use Rattle.table_layout.proofs.verdict_at.Tie as tie
 
 row-at-requires : tie.Need-row-at-requires
 row-at-requires c κs = search needs

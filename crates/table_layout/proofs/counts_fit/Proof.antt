@@ -1,4 +1,5 @@
--- `table_file::counts_fit` meets its contract.
+-- `table_layout::counts_fit` meets its contract.
+use native.Mathlib.Omega.{arith}
 use mathlib.Core.Path.{_≡_, sym, _∙_, ap}
 use mathlib.Core.Bool.{true}
 use Prim.Native.Nat.{ℕ}
@@ -9,8 +10,8 @@ use lib.ListN.{length}
 use denote.Ref.{now}
 use Rattle.sequences.proofs.Tests.{fails, last}
 use Rattle.meaning.specs.TableFiles.{tableLength, countsTests}
-use Rattle.table_file.proofs.counts_fit.Statement.{statement}
-use Rattle.table_file.proofs.counts_fit.Tie as tie
+use Rattle.table_layout.proofs.counts_fit.Statement.{statement}
+use Rattle.table_layout.proofs.counts_fit.Tie as tie
 
 returns : tie.Need-returns
 returns c =
@@ -30,7 +31,7 @@ returns-3 c =
 returns-4 : tie.Need-returns-4
 returns-4 c =
     let a = c .before .before .before .before .before .args in
-    sym (fails (countsTests (now (a .t)) (a .signals) (a .states)) 3 (lt-leb (a .states) 256 (c .if4 .taken)))
+    sym (fails (countsTests (now (a .t)) (a .signals) (a .states)) 3 (lt-leb (a .states) 256 (omega (arith, c .if4 .taken))))
 
 row-at-requires : tie.Need-row-at-requires
 row-at-requires c κs = search needs
@@ -46,7 +47,7 @@ returns-5 c =
     let h₀ : leb 1 (a .signals) ≡ true = le-leb 1 (a .signals) (first .if1 .left) in
     let h₁ : leb (a .signals) 4 ≡ true = le-leb (a .signals) 4 (second .if2 .left) in
     let h₂ : leb 1 (a .states) ≡ true = le-leb 1 (a .states) (third .if3 .left) in
-    let h₃ : leb (a .states) 256 ≡ true = le-leb (a .states) 256 (fourth .if4 .left) in
+    let h₃ : leb (a .states) 256 ≡ true = le-leb (a .states) 256 (omega (arith, fourth .if4 .left)) in
     rw (h₀, h₁, h₂, h₃)
     (ap (λ (n : ℕ). eqb (length l) n) (c .row-at .ensures .0) ∙ last (eqb (length l) (tableLength (a .signals) (a .states))))
 
