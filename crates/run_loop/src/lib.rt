@@ -2,7 +2,8 @@
 ghost use mathlib.Core.Path.{_≡_};
 ghost use Prim.Native.Nat.{_≤_};
 ghost use lib.ListN.{length};
-ghost use Rattle.run_parts.specs.Parts.{NoneAbove, Copied};
+ghost use Rattle.event_lists.specs.Bounds.{NoneAbove};
+ghost use Rattle.run_parts.specs.Parts.{Copied};
 ghost use Rattle.run_loop.specs.Ends.{notedOf, endIn};
 use meaning::Decided;
 use meaning::Ran;

@@ -7,10 +7,6 @@ use lib.ListN.{length, getD}
 use Rattle.meaning.specs.TableFiles.{verdictOf, verdictByte, successor}
 use Rattle.meaning.specs.Runs.{decides}
 
--- None of the first n events is above a number.
-pub record NoneAbove (n : ℕ) (es : List ℕ) (top : ℕ) : Type 0 where
-  pub under : (i : ℕ) → i < n → getD es i 0 ≤ top
-
 -- whether a state shows a verdict other than undecided
 abbrev pub decidesAt : List ℕ → ℕ → ℕ → Bool
 decidesAt t P s = decides (verdictOf (verdictByte t P s))

@@ -1,12 +1,12 @@
-// What a run reads: the first event of a list that is none, a state's record, and the successors copied into rows.
+// What a run reads: a state's record, and the successors copied into rows.
 ghost use mathlib.Core.Path.{_≡_};
 ghost use mathlib.Core.List.{_++_};
-ghost use Prim.Native.Nat.{_^_, _≤_, _<_};
+ghost use Prim.Native.Nat.{_^_, _≤_};
 ghost use lib.ListN.{length, drop, replicate};
 ghost use Rattle.sequences.specs.Tabulate.{tabulate};
 ghost use Rattle.meaning.specs.TableFiles.{successor};
-ghost use Rattle.meaning.specs.Runs.{firstBad, inTable};
-ghost use Rattle.run_parts.specs.Parts.{NoneAbove, Copied, decidesAt};
+ghost use Rattle.meaning.specs.Runs.{inTable};
+ghost use Rattle.run_parts.specs.Parts.{Copied, decidesAt};
 use events::width;
 use meaning::Verdict;
 use table_layout::row_at;
@@ -16,50 +16,6 @@ use wire::byte_at;
 use wire::u16_at;
 use wire::wide;
 use wire::wide16;
-
-// ---- events
-
-fn larger(a: u8, b: u8) -> u8
-    ensures { λ r. ⌜ (a ≤ r) × (b ≤ r) ⌝ }
-{
-    if a < b {
-        return b;
-    }
-    a
-}
-
-// A number that no event is above.
-fn most(events: &[u8]) -> u8
-    ensures { λ r. ⌜ NoneAbove (length (now (events .entry))) (now (events .entry)) r ⌝ }
-{
-    let mut top: u8 = 0;
-    let mut i: usize = 0;
-    while i < events.len() {
-        top = larger(top, events[i]);
-        i += 1;
-    }
-    top
-}
-
-// The index of the first event that is none, or the length. Most lists have none, which the first test finds without stopping at
-// each.
-pub fn first_bad(signals: u8, events: &[u8]) -> usize
-    requires { ⌜ signals ≤ 4 ⌝ }
-    ensures { λ r. ⌜ (r ≡ firstBad signals (now (events .entry))) × (r ≤ length (now (events .entry))) ⌝ }
-{
-    let n = width(signals);
-    if wide(most(events)) < n {
-        return events.len();
-    }
-    let mut i: usize = 0;
-    while i < events.len() {
-        if n <= wide(events[i]) {
-            return i;
-        }
-        i += 1;
-    }
-    i
-}
 
 // ---- a state's record
 

@@ -22,7 +22,7 @@ use Rattle.meaning.specs.declared.Checked.the-variants as Checked
 use Rattle.meaning.specs.declared.Ran.{Ran}
 use Rattle.meaning.specs.declared.Ran.the-variants as Ran
 use Rattle.table_layout.proofs.Form.{table-counts, table-verdict, table-inside, table-content}
-use Rattle.run_parts.proofs.Laws.{all-events}
+use Rattle.event_lists.proofs.Laws.{all-events}
 
 both : (a b : Bool) → (a && b) ≡ true → (a ≡ true) × (b ≡ true)
 both true true h = (refl, refl)

@@ -5,7 +5,8 @@ use borrow.Author.Needs.{needs}
 use denote.Ref.{now}
 use lib.ListN.{length}
 use Rattle.meaning.specs.Runs.{firstBad}
-use Rattle.run_parts.proofs.Laws.{none-above, copied-none}
+use Rattle.event_lists.proofs.Laws.{none-above}
+use Rattle.run_parts.proofs.Laws.{copied-none}
 use Rattle.table_run.proofs.Laws.{granted, refused, run-bad, run-ends}
 use Rattle.table_run.proofs.run_in.Statement.{statement}
 use Rattle.table_run.proofs.run_in.Tie as tie

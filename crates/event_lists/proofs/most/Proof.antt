@@ -1,14 +1,14 @@
--- `run_parts::most` meets its contract.
+-- `event_lists::most` meets its contract.
 use native.Mathlib.Omega.{arith}
 use borrow.Author.Needs.{needs}
 use mathlib.Core.Path.{_≡_, subst}
 use Prim.Native.Nat.{ℕ, _-_, _≤_}
 use denote.Ref.{now}
 use lib.ListN.{length}
-use Rattle.run_parts.specs.Parts.{NoneAbove}
-use Rattle.run_parts.proofs.Laws.{above-none, above-more}
-use Rattle.run_parts.proofs.most.Statement.{statement}
-use Rattle.run_parts.proofs.most.Tie as tie
+use Rattle.event_lists.specs.Bounds.{NoneAbove}
+use Rattle.event_lists.proofs.Laws.{above-none, above-more}
+use Rattle.event_lists.proofs.most.Statement.{statement}
+use Rattle.event_lists.proofs.most.Tie as tie
 
 abbrev Inv-loop : tie.InvT-loop
 Inv-loop events top₀ i₀ top i = (i ≤ length events) × NoneAbove i events top

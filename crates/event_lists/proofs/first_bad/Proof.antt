@@ -1,4 +1,4 @@
--- `run_parts::first_bad` meets its contract.
+-- `event_lists::first_bad` meets its contract.
 use native.Mathlib.Omega.{arith}
 use borrow.Author.Needs.{needs}
 use mathlib.Core.Path.{_≡_, refl, sym, _∙_}
@@ -8,9 +8,9 @@ use denote.Ref.{now}
 use Rattle.sequences.proofs.Loops.{Missed, missed-none, missed-more, missed-found, missed-end}
 use lib.Dec.{leb}
 use lib.ListN.{length, getD}
-use Rattle.run_parts.proofs.Laws.{above-missed}
-use Rattle.run_parts.proofs.first_bad.Statement.{statement}
-use Rattle.run_parts.proofs.first_bad.Tie as tie
+use Rattle.event_lists.proofs.Laws.{above-missed}
+use Rattle.event_lists.proofs.first_bad.Statement.{statement}
+use Rattle.event_lists.proofs.first_bad.Tie as tie
 
 abbrev Inv-loop : tie.InvT-loop
 Inv-loop signals events n i₀ i = (i ≤ length events) × Missed i (λ k. leb (2 ^ signals) (getD events k 0))
