@@ -1,6 +1,5 @@
 // Builds the rule files of a stream of cases on standard input: a two-byte length and the rule file, a two-byte length of the output, a two-byte
 // count and the events of a run. Writes a line for each case.
-ghost use mathlib.Core.Path.{_≡_};
 ghost use Prim.Native.Nat.{_≤_};
 ghost use lib.ListN.{length};
 use console::fill;

@@ -2,7 +2,7 @@
 use mathlib.Core.Path.{_≡_, refl, sym, subst, subst₂, ap, _∙_}
 use mathlib.Core.Logic.{inl, inr}
 use mathlib.Core.List.{List, _++_}
-use mathlib.Core.Bool.{Bool, true, false, cond}
+use mathlib.Core.Bool.{Bool, true, false}
 use Prim.Native.Nat.{ℕ, _<_}
 use native.Mathlib.Omega.{arith}
 use lib.ListN.{length, take, drop}
@@ -14,7 +14,6 @@ use Rattle.meaning.specs.RuleFiles.{Rule, alphabetOf, propertyOf, Judgement, ju
 use Rattle.meaning.specs.Demands.{Reads, Demands}
 use Rattle.meaning.specs.declared.Built.{Built}
 use Rattle.meaning.specs.declared.Built.the-variants as Built
-use Rattle.meaning.specs.declared.Refusal.the-variants.{ShortOutput}
 use Rattle.ltl.proofs.Instance.{ltlSystem}
 use Rattle.smallest.specs.Table.{Outcome, Table, TooMany}
 use Rattle.smallest.specs.Builder.{Built as BuiltBy}

@@ -8,7 +8,7 @@ use lib.ListN.{length, take, drop}
 use lib.Dec.{leb}
 use Rattle.meaning.specs.Verdicts.{MoreThan}
 use Rattle.meaning.specs.Refusals.{codeOf}
-use Rattle.meaning.specs.RuleFiles.{Rule, alphabetOf, propertyOf, Judgement, judge}
+use Rattle.meaning.specs.RuleFiles.{Rule, alphabetOf, propertyOf, Judgement}
 use Rattle.meaning.specs.Demands.{Reads, Demand-2, Demand-3}
 use Rattle.meaning.specs.declared.Refusal.the-variants.{ShortOutput, TooManyResiduals}
 use Rattle.meaning.specs.declared.Built.{Built}

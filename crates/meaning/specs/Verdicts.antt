@@ -1,5 +1,4 @@
 -- The verdict after a list of events, judged by continuations and never read from a table.
-use mathlib.Core.Path.{_≡_}
 use mathlib.Core.Logic.{_↔_}
 use mathlib.Core.List.{List, _++_}
 use Prim.Native.Nat.{ℕ, _≤_, _<_}

@@ -4,7 +4,7 @@ use mathlib.Core.List.{List}
 use mathlib.Core.Bool.{Bool}
 use Prim.Native.Nat.{ℕ, _^_, _≤_, _<_}
 use native.Mathlib.Omega.{arith}
-use lib.ListN.{length, take, length-take}
+use lib.ListN.{take, length-take}
 use Rattle.meaning.specs.Traces.{over}
 use Rattle.meaning.specs.RuleFiles.{Rule, Judgement}
 use Rattle.meaning.specs.declared.Node.{Node}
@@ -15,7 +15,7 @@ use Rattle.walk.specs.Explore.{Explored, within, beyond}
 use Rattle.moore.specs.Grouping.{Machine}
 use Rattle.smallest.proofs.Extensional.{Agree}
 use Rattle.table_bytes.specs.Written.{tableBytes}
-use Rattle.smallest.specs.Table.{Outcome, Table, TooMany, reducedBytes}
+use Rattle.smallest.specs.Table.{Outcome, Table, reducedBytes}
 use Rattle.smallest.proofs.Accepted.{Signals, Formed}
 use Rattle.ltl.proofs.Nodes.{split-temporals}
 use Rattle.valuation.specs.Valued.{Valuable}

@@ -1,8 +1,7 @@
 // The labels that some continuation has: the core, and what leads to it along the edges between labels.
 ghost use mathlib.Core.Path.{_≡_};
 ghost use mathlib.Core.Bool.{false};
-ghost use mathlib.Core.List.{List};
-ghost use Prim.Native.Nat.{ℕ, _+_, _≤_, _<_};
+ghost use Prim.Native.Nat.{_+_, _≤_, _<_};
 ghost use lib.ListN.{length, getD};
 ghost use Rattle.meaning.specs.Traces.{firstEvents};
 ghost use Rattle.ltl.specs.Sets.{on};

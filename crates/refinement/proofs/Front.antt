@@ -1,7 +1,7 @@
 -- Of a list of groups a round reads those of the n states only: what stands past them does not matter.
-use mathlib.Core.Path.{_≡_, refl, sym, ap, ap₂, _∙_}
+use mathlib.Core.Path.{_≡_, sym, ap, ap₂, _∙_}
 use mathlib.Core.Bool.{Bool, true, false, cond}
-use mathlib.Core.List.{List, _∷_}
+use mathlib.Core.List.{List}
 use Prim.Native.Nat.{ℕ, zero, suc, _+_, _<_}
 use native.Mathlib.Numerals.{add-one}
 use native.Mathlib.Nat.{not-suc-le-zero}
@@ -11,7 +11,7 @@ use lib.ListN.{getD, take}
 use lib.Seq.{getD-take}
 use Rattle.sequences.proofs.Pointwise.{tabulate-same, all-same, least-same}
 use Rattle.meaning.specs.Traces.{firstEvents}
-use Rattle.sequences.specs.Tabulate.{tabulate, allBelow, leastBelow}
+use Rattle.sequences.specs.Tabulate.{leastBelow}
 use Rattle.moore.specs.Grouping.{entry, together, sameStep, nextGroups, sameBelow, rounds}
 use Rattle.refinement.specs.Groups.{RowsBelow}
 

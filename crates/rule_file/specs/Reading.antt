@@ -4,7 +4,6 @@ use Prim.Native.Nat.{_-_}
 use lib.ListN.{length, replicate}
 use Rattle.meaning.specs.RuleFiles.{Judgement, Accepted, Refused}
 use Rattle.meaning.specs.declared.Node.{Node}
-use Rattle.meaning.specs.declared.Refusal.{Refusal}
 use Rattle.meaning.specs.declared.Refusal.the-variants.{Truncated}
 use Rattle.meaning.specs.declared.HeaderReading.{HeaderReading}
 use Rattle.meaning.specs.declared.HeaderReading.the-variants as HeaderReading

@@ -11,7 +11,7 @@ use native.Mathlib.Omega.{arith}
 use lib.ListN.{length, take, drop, length-append}
 use lib.Seq.{take-append-seam}
 use lib.Dec.{leb}
-use borrow.Author.Tests.{le-leb, leb-true}
+use borrow.Author.Tests.{le-leb}
 use Rattle.meaning.specs.RuleFiles.{Rule, Judgement, judge}
 use Rattle.meaning.specs.TableFiles.{isTable}
 use Rattle.meaning.specs.Demands.{Reads}

@@ -5,7 +5,6 @@ use mathlib.Core.Bool.{false}
 use Prim.Native.Nat.{_+_, _*_, _≤_}
 use denote.Ref.{now}
 use lib.ListN.{getD}
-use Rattle.ltl.specs.Sets.{on}
 use Rattle.profile_sets.proofs.Words.{Begun, begun-none, begun-more, begun-small, begun-word}
 use Rattle.profile_sets.proofs.word_of.Statement.{statement}
 use Rattle.profile_sets.proofs.word_of.Tie as tie
