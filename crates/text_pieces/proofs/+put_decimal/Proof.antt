@@ -35,34 +35,34 @@ digit-requires : (t : ℕ) → put-decimal-lts.Need-digit-requires (calls t) (pu
 digit-requires t c κs = search needs
 
 slice-write-out : (t : ℕ) → put-decimal-lts.Need-slice-write-out (calls t) (put-decimal-at t) put-decimal.Post
-slice-write-out t c = omega (arith, ap length (decimal-one (c .before .before .before .args .n) (c .before .if1 .taken)))
+slice-write-out t c = omega (arith, ap length (decimal-one (c .before .before .before .args .n) (omega (arith, c .before .if1 .taken))))
 
 add-result : (t : ℕ) → put-decimal-lts.Need-add-result (calls t) (put-decimal-at t) put-decimal.Post
-add-result t c = omega (arith, ap length (decimal-one (c .before .before .before .args .n) (c .before .if1 .taken)))
+add-result t c = omega (arith, ap length (decimal-one (c .before .before .before .args .n) (omega (arith, c .before .if1 .taken))))
 
 same-length : (t : ℕ) → put-decimal-lts.Need-same-length (calls t) (put-decimal-at t) put-decimal.Post
 same-length t c = search needs
 
 returns : (t : ℕ) → put-decimal-lts.Need-returns (calls t) (put-decimal-at t) put-decimal.Post
-returns t c = decimal-one-put (now (c .before .before .before .args .out)) (c .before .before .before .args .at) (c .before .before .before .args .n) _ (c .before .if1 .taken) (c .digit .ensures)
+returns t c = decimal-one-put (now (c .before .before .before .args .out)) (c .before .before .before .args .at) (c .before .before .before .args .n) _ (omega (arith, c .before .if1 .taken)) (c .digit .ensures)
 
 put-decimal-requires : (t : ℕ) → put-decimal-lts.Need-put-decimal-requires (calls t) (put-decimal-at t) put-decimal.Post
-put-decimal-requires t c κs = (omega arith, omega (arith, decimal-length (c .before .before .before .args .n) (c .before .if1 .left)))
+put-decimal-requires t c κs = (omega arith, omega (arith, decimal-length (c .before .before .before .args .n) (omega (arith, c .before .if1 .left))))
 
 digit-requires-2 : (t : ℕ) → put-decimal-lts.Need-digit-requires-2 (calls t) (put-decimal-at t) put-decimal.Post
 digit-requires-2 t c κs = search needs
 
 slice-write-out-2 : (t : ℕ) → put-decimal-lts.Need-slice-write-out-2 (calls t) (put-decimal-at t) put-decimal.Post
-slice-write-out-2 t c = omega (arith, decimal-length (c .before .before .before .before .before .before .before .args .n) (c .before .before .before .before .before .if1 .left))
+slice-write-out-2 t c = omega (arith, decimal-length (c .before .before .before .before .before .before .before .args .n) (omega (arith, c .before .before .before .before .before .if1 .left)))
 
 add-result-2 : (t : ℕ) → put-decimal-lts.Need-add-result-2 (calls t) (put-decimal-at t) put-decimal.Post
-add-result-2 t c = omega (arith, decimal-length (c .before .before .before .before .before .before .before .args .n) (c .before .before .before .before .before .if1 .left))
+add-result-2 t c = omega (arith, decimal-length (c .before .before .before .before .before .before .before .args .n) (omega (arith, c .before .before .before .before .before .if1 .left)))
 
 same-length-2 : (t : ℕ) → put-decimal-lts.Need-same-length-2 (calls t) (put-decimal-at t) put-decimal.Post
 same-length-2 t c = simp length-set (c .before .before .before .put-decimal .kept .0)
 
 returns-2 : (t : ℕ) → put-decimal-lts.Need-returns-2 (calls t) (put-decimal-at t) put-decimal.Post
-returns-2 t c = decimal-more-put (c .before .before .before .before .before .before .before .args .n) _ (c .before .before .before .before .before .if1 .left) (c .digit2 .ensures) (c .before .before .before .put-decimal .ensures)
+returns-2 t c = decimal-more-put (c .before .before .before .before .before .before .before .args .n) _ (omega (arith, c .before .before .before .before .before .if1 .left)) (c .digit2 .ensures) (c .before .before .before .put-decimal .ensures)
 
 pub +put-decimal-spec : {M : Type 1} → statement M
 +put-decimal-spec = close μ-put-decimal λ t. put-decimal-lts.spec (calls t) (put-decimal-at t) put-decimal.Post
