@@ -13,7 +13,7 @@ use Rattle.meaning.specs.Monitors.{keep}
 use Rattle.moore.specs.Counting.{countBelow}
 use Rattle.moore.specs.Grouping.{entry, together, leads}
 use Rattle.moore.specs.Quotient.{leaders, leader, size, number, closed}
-use Rattle.refinement.specs.Groups.{RowBelow}
+use Rattle.group_slots.specs.Groups.{RowBelow}
 use Rattle.refinement.proofs.Front.{front-at, together-front}
 
 -- ---- equal below the bound

@@ -14,7 +14,7 @@ use Rattle.moore.specs.Quotient.{leader, size, number, closed, verdictByte, ver
 use Rattle.moore.proofs.Counting.{count-le}
 use Rattle.moore.proofs.Grouping.{grouping-grouped, grouping-stable}
 use Rattle.moore.proofs.Quotient.{leader-in, number-in, number-start}
-use Rattle.refinement.specs.Groups.{RowsBelow, Least}
+use Rattle.group_slots.specs.Groups.{RowsBelow, Least}
 use Rattle.refinement.proofs.Laws.{taken-at, rows-fewer}
 use Rattle.refinement.proofs.Front.{front-at}
 use Rattle.grouping.specs.Machines.{ListBelow, Leaders, verdictAt, rowAt}

@@ -7,7 +7,7 @@ use Rattle.sequences.specs.Tabulate.{tabulate}
 use Rattle.meaning.specs.Traces.{Alphabet}
 use Rattle.moore.specs.Grouping.{entry}
 use Rattle.moore.specs.Quotient.{leader, size, closed, verdictByte}
-use Rattle.refinement.specs.Groups.{RowBelow}
+use Rattle.group_slots.specs.Groups.{RowBelow}
 use Rattle.grouping.specs.Reduction.{padded}
 
 -- the first k states of a list are below n, and so are the first w successors of each

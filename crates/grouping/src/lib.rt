@@ -9,13 +9,13 @@ ghost use Rattle.meaning.specs.Traces.{over, firstEvents};
 ghost use Rattle.moore.specs.Counting.{countBelow};
 ghost use Rattle.moore.specs.Grouping.{Machine, leads};
 ghost use Rattle.moore.specs.Quotient.{number, closed};
-ghost use Rattle.refinement.specs.Groups.{RowBelow, Least};
+ghost use Rattle.group_slots.specs.Groups.{RowBelow, Least};
 ghost use Rattle.grouping.specs.Machines.{ListBelow, Leaders, verdictAt, rowAt};
 ghost use Rattle.grouping.specs.Reduction.{Reduction};
 use events::width;
+use group_slots::joined;
+use group_slots::successor;
 use refinement::groups;
-use refinement::joined;
-use refinement::successor;
 use wire::wide16;
 
 // How many groups are met once a state is: one more if it is the least of its group.

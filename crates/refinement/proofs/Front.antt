@@ -13,9 +13,8 @@ use Rattle.sequences.proofs.Pointwise.{tabulate-same, all-same, least-same}
 use Rattle.meaning.specs.Traces.{firstEvents}
 use Rattle.sequences.specs.Tabulate.{leastBelow}
 use Rattle.moore.specs.Grouping.{entry, together, sameStep, nextGroups, sameBelow, rounds}
-use Rattle.refinement.specs.Groups.{RowsBelow}
+use Rattle.group_slots.specs.Groups.{RowsBelow}
 
--- ---- equal below the bound
 -- ---- the front of a list of groups
 module _ (n : ℕ) (group : List ℕ) where
   pub front-at : (i : ℕ) → i < n → getD (take n group) i 0 ≡ getD group i 0

@@ -1,18 +1,17 @@
 -- Laws of the loops of a round: where each begins, after a turn, and at its end.
 use mathlib.Core.Path.{_≡_, sym, ap, _∙_, subst}
-use mathlib.Core.Bool.{Bool, true, false, cond}
+use mathlib.Core.Bool.{Bool}
 use mathlib.Core.List.{List}
-use Prim.Native.Nat.{ℕ, _+_, _≤_, _<_}
+use Prim.Native.Nat.{ℕ, _≤_, _<_}
 use native.Mathlib.Omega.{arith}
 use lib.ListN.{getD, take, drop}
 use lib.Seq.{take-at, getD-take}
-use borrow.Author.Tests.{ne-eqb}
 use Rattle.sequences.specs.Tabulate.{tabulate, leastBelow}
-use Rattle.sequences.proofs.Loops.{Filled, filled-to, length-tab, getD-tab, Missed}
+use Rattle.sequences.proofs.Loops.{Filled, filled-to, length-tab, getD-tab}
 use Rattle.sequences.proofs.Pigeonhole.{least-below}
 use Rattle.meaning.specs.Traces.{Alphabet}
-use Rattle.moore.specs.Grouping.{entry, together, allEvents, sameStep, firstGroups, nextGroups}
-use Rattle.refinement.specs.Groups.{RowsBelow, Least}
+use Rattle.moore.specs.Grouping.{together, sameStep, firstGroups, nextGroups}
+use Rattle.group_slots.specs.Groups.{RowsBelow, Least}
 
 -- ---- a list that a loop filled
 module _ {A : Type 0} where
@@ -26,23 +25,7 @@ module _ {A : Type 0} where
 pub rows-fewer : {k w n : ℕ} {rows : List (List ℕ)} (j m : ℕ) → RowsBelow k w n rows → j ≤ k → n ≤ m → RowsBelow j w m rows
 rows-fewer j m h l g = record { row = λ s b. record { to = λ e c. let x = h .row s (omega arith) .to e c in omega arith } }
 
--- ---- a round
-module _ (Σ : Alphabet) (rows : List (List ℕ)) (group : List ℕ) where
-  pub step-not : (j i : ℕ) → together group j i ≡ false → sameStep Σ rows group j i ≡ false
-  step-not j i h = ap (λ (b : Bool). cond b (allEvents Σ (λ e. together group (entry rows j e) (entry rows i e))) false) h
-
-  pub step-is : (j i : ℕ) (b : Bool) → together group j i ≡ true → b ≡ allEvents Σ (λ e. together group (entry rows j e) (entry rows i e)) → b ≡ sameStep Σ rows group j i
-  step-is j i b h e = e ∙ sym (ap (λ (b : Bool). cond b (allEvents Σ (λ e. together group (entry rows j e) (entry rows i e))) false) h)
-
-  -- no state before the name of a group is in it
-  pub missed-before : (i j : ℕ) → Least (i + 1) group → j ≡ getD group i 0 → Missed j (λ k. sameStep Σ rows group k i)
-  missed-before i j h e = record {
-    none = λ k l. step-not k i (ne-eqb (getD group k 0) (getD group i 0) (λ q.
-        let a = h .least i (omega arith) in
-        let b = h .least k (omega arith) in
-        omega arith));
-  }
-
+-- ---- the names of groups
 least-le : (n : ℕ) (p : ℕ → Bool) → leastBelow n p ≤ n
 least-le n p = least-below n p .bound
 

@@ -1,3 +1,2 @@
 pub mod Laws
 pub mod Front
-pub mod Slots

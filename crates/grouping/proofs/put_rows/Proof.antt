@@ -7,7 +7,7 @@ use mathlib.Core.List.{[]}
 use denote.Ref.{now}
 use lib.ListN.{getD}
 use Rattle.sequences.proofs.Loops.{Filled, filled-none, filled-more, filled-to}
-use Rattle.refinement.specs.Groups.{RowBelow}
+use Rattle.group_slots.specs.Groups.{RowBelow}
 use Rattle.grouping.specs.Machines.{rowAt}
 use Rattle.grouping.proofs.put_rows.Statement.{statement}
 use Rattle.grouping.proofs.put_rows.Tie as tie

@@ -8,7 +8,7 @@ use denote.Ref.{now}
 use lib.ListN.{getD}
 use Rattle.meaning.specs.Traces.{firstEvents}
 use Rattle.sequences.proofs.Loops.{Filled, filled-none, filled-more, filled-to}
-use Rattle.refinement.specs.Groups.{RowBelow}
+use Rattle.group_slots.specs.Groups.{RowBelow}
 use Rattle.grouping.specs.Machines.{verdictAt}
 use Rattle.grouping.proofs.put_verdicts.Statement.{statement}
 use Rattle.grouping.proofs.put_verdicts.Tie as tie

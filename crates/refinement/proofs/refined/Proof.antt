@@ -6,7 +6,7 @@ use Prim.Native.Nat.{_-_, _≤_}
 use lib.ListN.{take}
 use Rattle.meaning.specs.Traces.{firstEvents}
 use Rattle.moore.specs.Grouping.{rounds}
-use Rattle.refinement.specs.Groups.{Least}
+use Rattle.group_slots.specs.Groups.{Least}
 use Rattle.refinement.proofs.Laws.{rows-fewer, next-least}
 use Rattle.refinement.proofs.Front.{rounds-stop, rounds-step}
 use Rattle.refinement.proofs.refined.Statement.{statement}

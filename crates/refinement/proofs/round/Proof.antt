@@ -6,9 +6,9 @@ use Rattle.meaning.specs.Traces.{firstEvents}
 use Rattle.sequences.specs.Tabulate.{leastBelow}
 use Rattle.sequences.proofs.Loops.{Filled, filled-none, filled-more}
 use Rattle.moore.specs.Grouping.{sameStep, nextGroups}
-use Rattle.refinement.specs.Slots.{Slotted}
+use Rattle.group_slots.specs.Slots.{Slotted}
 use Rattle.refinement.proofs.Laws.{filled-take, rows-fewer}
-use Rattle.refinement.proofs.Slots.{left-below, in-slot, slotted-none, slotted-more}
+use Rattle.group_slots.proofs.Slots.{left-below, in-slot, slotted-none, slotted-more}
 use Rattle.refinement.proofs.round.Statement.{statement}
 use Rattle.refinement.proofs.round.Tie as tie
 

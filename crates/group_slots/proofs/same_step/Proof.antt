@@ -9,9 +9,9 @@ use denote.Ref.{now}
 use Rattle.meaning.specs.Traces.{firstEvents}
 use Rattle.sequences.proofs.Loops.{Passed, passed-none, passed-more, passed-all, all-not}
 use Rattle.moore.specs.Grouping.{entry, together}
-use Rattle.refinement.proofs.Laws.{step-not, step-is}
-use Rattle.refinement.proofs.same_step.Statement.{statement}
-use Rattle.refinement.proofs.same_step.Tie as tie
+use Rattle.group_slots.proofs.Comparing.{step-not, step-is}
+use Rattle.group_slots.proofs.same_step.Statement.{statement}
+use Rattle.group_slots.proofs.same_step.Tie as tie
 
 abbrev Inv-loop : tie.InvT-loop
 Inv-loop rows group events j i e₀ e = (e ≤ events) × Passed e (λ k. together group (entry rows j k) (entry rows i k))

@@ -15,7 +15,7 @@ use Rattle.sequences.proofs.Loops.{Filled, length-tab, getD-tab, Missed, missed
 use Rattle.moore.specs.Grouping.{entry, sameStep}
 use Rattle.moore.proofs.Tests.{bool-cases, same-name}
 use Rattle.moore.proofs.Grouping.{step→, step-equivalence}
-use Rattle.refinement.specs.Slots.{mixed, slotOf, Slotted, InSlot, LeftBelow}
+use Rattle.group_slots.specs.Slots.{mixed, slotOf, Slotted, InSlot, LeftBelow}
 
 -- ---- mixing
 pub mixed-none : (f : ℕ → ℕ) (s t : ℕ) → t ≡ s → t ≡ mixed 0 f s

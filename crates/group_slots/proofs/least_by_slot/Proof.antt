@@ -3,9 +3,9 @@ use native.Mathlib.Omega.{arith}
 use borrow.Author.Needs.{needs}
 use mathlib.Core.Path.{sym, _∙_}
 use denote.Ref.{now}
-use Rattle.refinement.proofs.Slots.{left-none, left-same}
-use Rattle.refinement.proofs.least_by_slot.Statement.{statement}
-use Rattle.refinement.proofs.least_by_slot.Tie as tie
+use Rattle.group_slots.proofs.Slots.{left-none, left-same}
+use Rattle.group_slots.proofs.least_by_slot.Statement.{statement}
+use Rattle.group_slots.proofs.least_by_slot.Tie as tie
 
 cast-result : tie.Need-cast-result
 cast-result c = search needs

@@ -6,10 +6,10 @@ use Prim.Native.Nat.{ℕ, _-_, _%_, _≤_, _<_}
 use denote.Ref.{now}
 use lib.ListN.{getD}
 use Rattle.moore.specs.Grouping.{entry}
-use Rattle.refinement.specs.Slots.{mixed}
-use Rattle.refinement.proofs.Slots.{mixed-none, mixed-more, mixed-end}
-use Rattle.refinement.proofs.slot_of.Statement.{statement}
-use Rattle.refinement.proofs.slot_of.Tie as tie
+use Rattle.group_slots.specs.Slots.{mixed}
+use Rattle.group_slots.proofs.Slots.{mixed-none, mixed-more, mixed-end}
+use Rattle.group_slots.proofs.slot_of.Statement.{statement}
+use Rattle.group_slots.proofs.slot_of.Tie as tie
 
 abbrev Inv-loop : tie.InvT-loop
 Inv-loop rows group events i slot₀ e₀ slot e = (e ≤ events) × (slot ≡ mixed e (λ k. getD group (entry rows i k) 0) (getD group i 0 % 1024)) × (slot < 1024)

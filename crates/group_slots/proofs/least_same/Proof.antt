@@ -7,9 +7,9 @@ use denote.Ref.{now}
 use Rattle.meaning.specs.Traces.{firstEvents}
 use Rattle.sequences.proofs.Loops.{Missed, missed-more, missed-found, missed-end}
 use Rattle.moore.specs.Grouping.{sameStep}
-use Rattle.refinement.proofs.Laws.{missed-before}
-use Rattle.refinement.proofs.least_same.Statement.{statement}
-use Rattle.refinement.proofs.least_same.Tie as tie
+use Rattle.group_slots.proofs.Comparing.{missed-before}
+use Rattle.group_slots.proofs.least_same.Statement.{statement}
+use Rattle.group_slots.proofs.least_same.Tie as tie
 
 abbrev Inv-loop : tie.InvT-loop
 Inv-loop rows group events i j₀ j = (j ≤ i) × Missed j (λ k. sameStep (firstEvents events) rows group k i)
