@@ -42,7 +42,7 @@ put-row-requires c κs =
     let at-loop-test = c .before .before .before .before .before in
     let at-loop = at-loop-test .before in
     let start = at-loop .before .before in
-    (omega arith, omega (arith, c .before .row-at .ensures .0, row-within (start .args .signals) (start .args .states) (at-loop .loop .s) (at-loop-test .loop-test .taken), at-loop .loop .inv .1))
+    (omega arith, omega (arith, c .before .row-at .ensures .0, row-within (start .args .signals) (start .args .states) (at-loop .loop .s) (omega (arith, at-loop-test .loop-test .taken)), at-loop .loop .inv .1))
 
 add-s : tie.Need-add-s Inv-loop μ-loop
 add-s c = search needs
