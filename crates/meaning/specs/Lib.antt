@@ -5,6 +5,8 @@ pub mod Verdicts
 pub mod Monitors
 pub mod Refusals
 pub mod RuleFiles
+pub mod Grammar
+pub mod RuleTexts
 pub mod TableFiles
 pub mod Runs
 pub mod Demands

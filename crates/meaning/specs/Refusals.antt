@@ -1,7 +1,7 @@
--- Document 01's table "Refusing".
+-- Document 01's table "Refusing", and the numbers that document 02 adds.
 use Prim.Native.Nat.{ℕ}
 use Rattle.meaning.specs.declared.Refusal.{Refusal}
-use Rattle.meaning.specs.declared.Refusal.the-variants.{Truncated, WrongLength, WrongKind, WrongSignals, WrongCount, WrongOperand, OutOfRange, EighthTemporal, TrailingBytes, ShortOutput, TooManyResiduals, WrongEvent, WrongState, WrongTable}
+use Rattle.meaning.specs.declared.Refusal.the-variants.{Truncated, WrongLength, WrongKind, WrongSignals, WrongCount, WrongOperand, OutOfRange, EighthTemporal, TrailingBytes, ShortOutput, TooManyResiduals, WrongEvent, WrongState, WrongTable, WrongText, TooManyNodes}
 
 -- "Returned" and "Place", of each case
 abbrev pub codeOf : Refusal → ℕ × ℕ
@@ -19,3 +19,5 @@ codeOf TooManyResiduals = (11, 0)
 codeOf (WrongEvent p) = (12, p)
 codeOf WrongState = (13, 0)
 codeOf WrongTable = (14, 0)
+codeOf (WrongText p) = (15, p)
+codeOf TooManyNodes = (16, 0)

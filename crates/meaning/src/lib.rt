@@ -10,7 +10,7 @@ pub enum Verdict {
     Moot,
 }
 
-// Document 01's refusals, in the order of their numbers, each with its place where that is not always 0.
+// The refusals of documents 01 and 02, in the order of their numbers, each with its place where that is not always 0.
 pub enum Refusal {
     Truncated(usize),
     WrongLength(usize),
@@ -26,6 +26,8 @@ pub enum Refusal {
     WrongEvent(usize),
     WrongState,
     WrongTable,
+    WrongText(usize),
+    TooManyNodes,
 }
 
 impl Refusal {
@@ -47,6 +49,8 @@ impl Refusal {
             Refusal::WrongEvent(_) => 12,
             Refusal::WrongState => 13,
             Refusal::WrongTable => 14,
+            Refusal::WrongText(_) => 15,
+            Refusal::TooManyNodes => 16,
         }
     }
 
@@ -68,6 +72,8 @@ impl Refusal {
             Refusal::WrongEvent(p) => p,
             Refusal::WrongState => 0,
             Refusal::WrongTable => 0,
+            Refusal::WrongText(p) => p,
+            Refusal::TooManyNodes => 0,
         }
     }
 }
@@ -94,6 +100,12 @@ pub enum HeaderReading {
 // The reading of one node's record.
 pub enum Reading {
     Node(Node),
+    Refused(Refusal),
+}
+
+// What writing a text as a rule file returns: the file's length in bytes, or the refusal.
+pub enum Written {
+    Rule(usize),
     Refused(Refusal),
 }
 
