@@ -1,0 +1,6 @@
+pub mod Follow
+pub mod Descending
+pub mod Parsing
+pub mod Fitting
+pub mod Faults
+pub mod Texts
