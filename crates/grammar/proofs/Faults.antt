@@ -107,7 +107,7 @@ unfolding run
 run-append [] v q = refl
 run-append (b ∷ u) v q = run-append u v (step q b .state)
 
-run-dead : (s : List ℕ) → run dead s ≡ dead
+pub run-dead : (s : List ℕ) → run dead s ≡ dead
 unfolding run
 run-dead [] = refl
 run-dead (b ∷ s) = run-dead s
@@ -145,10 +145,11 @@ not-viable s e w =
 pub fault-at : (s : List ℕ) → FaultAt s (passed (operand 0) s)
 fault-at s =
     let h = halts s (operand 0) tt in
-    record
-    { within = h .inside
-    ; before = λ k l. viable-front (suc k) s (passed (operand 0) s) l (viable s)
-    ; here = λ l. not-viable (take (suc (passed (operand 0) s)) s) (h .gone l) }
+    record {
+      within = h .inside;
+      before = λ k l. viable-front (suc k) s (passed (operand 0) s) l (viable s);
+      here = λ l. not-viable (take (suc (passed (operand 0) s)) s) (h .gone l);
+    }
 
 not-earlier : {s : List ℕ} {p q : ℕ} → FaultAt s p → FaultAt s q → p < q → ⊥
 not-earlier {s} {p} {q} f g l = f .here (omega (arith, g .within)) (g .before p l)

@@ -157,36 +157,68 @@ digit-of : (d n : ℕ) (s ts : List ℕ) → n < 4 → Spells ts s → Shut d ts
 digit-of d n s ts h t k = record { number = n; bytes = s; rest = ts; few = h; s-is = refl; ts-is = refl; spells = t; on = k }
 
 backs-digit : (d : ℕ) → Each (Back (digit d)) (rows (digit d))
-backs-digit d =
-    (λ s ts r. digit-of d 0 s ts (omega arith) (r .0) (r .1), (λ s ts r. digit-of d 1 s ts (omega arith) (r .0) (r .1),
-    (λ s ts r. digit-of d 2 s ts (omega arith) (r .0) (r .1), (λ s ts r. digit-of d 3 s ts (omega arith) (r .0) (r .1), tt))))
+backs-digit d = (
+  λ s ts r. digit-of d 0 s ts (omega arith) (r .0) (r .1),
+  (
+    λ s ts r. digit-of d 1 s ts (omega arith) (r .0) (r .1),
+    (λ s ts r. digit-of d 2 s ts (omega arith) (r .0) (r .1), (λ s ts r. digit-of d 3 s ts (omega arith) (r .0) (r .1), tt)),
+  ),
+)
 
 backs-operand : (d : ℕ) → Each (Back (operand d)) (rows (operand d))
-backs-operand d =
-    (λ s ts r. (space (r .0), r .1),
-    (λ s ts r. (sign {x = 6} (omega arith) (r .0), prefix-on {x = 6} (omega arith) (omega arith) (r .1)),
-    (λ s ts r. (sign {x = 7} (omega arith) (r .0), prefix-on {x = 7} (omega arith) (omega arith) (r .1)),
-    (λ s ts r. (sign {x = 8} (omega arith) (r .0), prefix-on {x = 8} (omega arith) (omega arith) (r .1)),
-    (λ s ts r. (sign {x = 9} (omega arith) (r .0), prefix-on {x = 9} (omega arith) (omega arith) (r .1)),
-    (λ s ts r. (sign {x = 10} (omega arith) (r .0), open-on refl (r .1)),
-    (λ s ts r. digit-back d s ts r,
-    (λ s ts r. (rw (r .s-is) (sign {x = 4} (omega arith) (r .rest .0)), leaf-on {x = 4} (omega arith) (r .rest .1)),
-    (λ s ts r. (rw (r .s-is) (sign {x = 5} (omega arith) (r .rest .0)), leaf-on {x = 5} (omega arith) (r .rest .1)), tt)))))))))
+backs-operand d = (
+  λ s ts r. (space (r .0), r .1),
+  (
+    λ s ts r. (sign {x = 6} (omega arith) (r .0), prefix-on {x = 6} (omega arith) (omega arith) (r .1)),
+    (
+      λ s ts r. (sign {x = 7} (omega arith) (r .0), prefix-on {x = 7} (omega arith) (omega arith) (r .1)),
+      (
+        λ s ts r. (sign {x = 8} (omega arith) (r .0), prefix-on {x = 8} (omega arith) (omega arith) (r .1)),
+        (
+          λ s ts r. (sign {x = 9} (omega arith) (r .0), prefix-on {x = 9} (omega arith) (omega arith) (r .1)),
+          (
+            λ s ts r. (sign {x = 10} (omega arith) (r .0), open-on refl (r .1)),
+            (
+              λ s ts r. digit-back d s ts r,
+              (
+                λ s ts r. (rw (r .s-is) (sign {x = 4} (omega arith) (r .rest .0)), leaf-on {x = 4} (omega arith) (r .rest .1)),
+                (λ s ts r. (rw (r .s-is) (sign {x = 5} (omega arith) (r .rest .0)), leaf-on {x = 5} (omega arith) (r .rest .1)), tt),
+              ),
+            ),
+          ),
+        ),
+      ),
+    ),
+  ),
+)
 
 closed-back : (d : ℕ) (s ts : List ℕ) → Rest (closed d) s ts → Spells (11 ∷ ts) (41 ∷ s) × Shut d (11 ∷ ts)
 closed-back zero s ts r = absurd r
 closed-back (suc d) s ts r = (sign {x = 11} (omega arith) (r .0), close-on refl (r .1))
 
 backs-operator : (d : ℕ) → Each (Back (operator d)) (rows (operator d))
-backs-operator d =
-    (λ s ts r. (space (r .0), r .1),
-    (λ s ts r. closed-back d s ts r,
-    (λ s ts r. (sign {x = 12} (omega arith) (r .0), sign-on {n = 0} refl (omega arith) (r .1)),
-    (λ s ts r. (sign {x = 13} (omega arith) (r .0), sign-on {n = 1} refl (omega arith) (r .1)),
-    (λ s ts r. (sign {x = 14} (omega arith) (r .0), sign-on {n = 2} refl (omega arith) (r .1)),
-    (λ s ts r. (sign {x = 15} (omega arith) (r .0), sign-on {n = 3} refl (omega arith) (r .1)),
-    (λ s ts r. (rw (r .s-is) (sign {x = 16} (omega arith) (r .rest .0)), sign-on {n = 4} refl (omega arith) (r .rest .1)),
-    (λ s ts r. (rw (r .s-is) (sign {x = 17} (omega arith) (r .rest .0)), sign-on {n = 5} refl (omega arith) (r .rest .1)), tt))))))))
+backs-operator d = (
+  λ s ts r. (space (r .0), r .1),
+  (
+    λ s ts r. closed-back d s ts r,
+    (
+      λ s ts r. (sign {x = 12} (omega arith) (r .0), sign-on {n = 0} refl (omega arith) (r .1)),
+      (
+        λ s ts r. (sign {x = 13} (omega arith) (r .0), sign-on {n = 1} refl (omega arith) (r .1)),
+        (
+          λ s ts r. (sign {x = 14} (omega arith) (r .0), sign-on {n = 2} refl (omega arith) (r .1)),
+          (
+            λ s ts r. (sign {x = 15} (omega arith) (r .0), sign-on {n = 3} refl (omega arith) (r .1)),
+            (
+              λ s ts r. (rw (r .s-is) (sign {x = 16} (omega arith) (r .rest .0)), sign-on {n = 4} refl (omega arith) (r .rest .1)),
+              (λ s ts r. (rw (r .s-is) (sign {x = 17} (omega arith) (r .rest .0)), sign-on {n = 5} refl (omega arith) (r .rest .1)), tt),
+            ),
+          ),
+        ),
+      ),
+    ),
+  ),
+)
 
 backs-within : (b : ℕ) (w : List ℕ) (q : State) → Each (Back (within b w q)) (rows (within b w q))
 backs-within b [] q = (λ s ts r. record { bytes = s; s-is = refl; rest = r }, tt)

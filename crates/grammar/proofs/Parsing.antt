@@ -34,21 +34,26 @@ record Found (n : ℕ) (us : List ℕ) (a : Tree) : Type 0 where
   goes : (m : ℕ) → n ≡ suc m → rightward m ≡ false → (r : List ℕ) (t : Tree) (r′ : List ℕ) → Loose m r → More m a r t r′ → Level n (us ++ r) t r′
 
 found-up : {n : ℕ} {us : List ℕ} {a : Tree} → Found n us a → Found (suc n) us a
-found-up {n} {us} {a} p = record
-    { stops = λ r l. level-up (p .stops r (tighten l)) (still l)
-    ; goes = λ m e g r t r′ l q. let f : n ≡ m = omega arith in level-up (p .stops r (rw f l)) (rw f q) }
+found-up {n} {us} {a} p = record {
+  stops = λ r l. level-up (p .stops r (tighten l)) (still l);
+  goes = λ m e g r t r′ l q. let f : n ≡ m = omega arith in level-up (p .stops r (rw f l)) (rw f q);
+}
 
 found-left : {n : ℕ} {us vs : List ℕ} {a b : Tree} → rightward n ≡ false → Found (suc n) us a → Found n vs b → Found (suc n) (us ++ ((12 + n) ∷ vs)) (bin (12 + n) a b)
 found-left {n} {us} {vs} {a} {b} f p q =
     let on : (r : List ℕ) (t : Tree) (r′ : List ℕ) → Loose n r → More n (bin (12 + n) a b) r t r′ → Level (suc n) ((us ++ ((12 + n) ∷ vs)) ++ r) t r′ =
-          λ r t r′ l m. level-at (sym (append-assoc us ((12 + n) ∷ vs) r)) (p .goes n refl f ((12 + n) ∷ (vs ++ r)) t r′ (looser {m = n} refl (le-refl n)) (more-left f (q .stops r l) m)) in
-    record { stops = λ r l. on r _ r (tighten l) (still l)
-           ; goes = λ m e g r t r′ l h. let i : n ≡ m = omega arith in on r t r′ (rw i l) (subst (λ (j : ℕ). More j (bin (12 + n) a b) r t r′) (sym i) h) }
+    λ r t r′ l m. level-at (sym (append-assoc us ((12 + n) ∷ vs) r)) (p .goes n refl f ((12 + n) ∷ (vs ++ r)) t r′ (looser {m = n} refl (le-refl n)) (more-left f (q .stops r l) m)) in
+    record {
+      stops = λ r l. on r _ r (tighten l) (still l);
+      goes = λ m e g r t r′ l h. let i : n ≡ m = omega arith in on r t r′ (rw i l) (subst (λ (j : ℕ). More j (bin (12 + n) a b) r t r′) (sym i) h);
+    }
 
 found-right : {n : ℕ} {us vs : List ℕ} {a b : Tree} → rightward n ≡ true → Found n us a → Found (suc n) vs b → Found (suc n) (us ++ ((12 + n) ∷ vs)) (bin (12 + n) a b)
 found-right {n} {us} {vs} f p q =
-    record { stops = λ r l. level-at (sym (append-assoc us ((12 + n) ∷ vs) r)) (level-up (p .stops ((12 + n) ∷ (vs ++ r)) (looser {m = n} refl (le-refl n))) (more-right f (q .stops r l)))
-           ; goes = λ m e g r t r′ l h. (let i : n ≡ m = omega arith in absurd (true≢false (sym f ∙ (rw i g)))) }
+    record {
+      stops = λ r l. level-at (sym (append-assoc us ((12 + n) ∷ vs) r)) (level-up (p .stops ((12 + n) ∷ (vs ++ r)) (looser {m = n} refl (le-refl n))) (more-right f (q .stops r l)));
+      goes = λ m e g r t r′ l h. (let i : n ≡ m = omega arith in absurd (true≢false (sym f ∙ (rw i g))));
+    }
 
 found-plain : {us : List ℕ} {a : Tree} → ((r : List ℕ) → Loose 0 r → Level 0 (us ++ r) a r) → Found 0 us a
 found-plain s = record { stops = s; goes = λ m e g r t r′ l h. absurd (omega arith) }
@@ -125,11 +130,16 @@ sound-prefix : {d x : ℕ} {ts : List ℕ} → 6 ≤ x → x < 10 → Sound 0 d 
 sound-prefix {d} {x} {ts} l u s = record { tree = pre x (s .tree); used = x ∷ s .used; rest = s .rest; level = level-pre l u (s .level); split = ap (λ (t : List ℕ). x ∷ t) (s .split); reads = prefix l u (s .reads); on = s .on; loose = s .loose }
 
 sound-round : {d x : ℕ} {ts : List ℕ} → x ≡ 10 → Sound 6 (suc d) ts → Sound 0 d (x ∷ ts)
-sound-round {d} {x} {ts} e s = closes (Sound 0 d (x ∷ ts)) (s .on) (s .loose) (λ r q c. subst (λ (j : ℕ). Sound 0 d (j ∷ ts)) (sym e) (record
-    { tree = s .tree; used = 10 ∷ (s .used ++ (11 ∷ [])); rest = r
-    ; level = level-round (subst (λ (l : List ℕ). Level 6 ts (s .tree) l) q (s .level))
-    ; split = ap (λ (l : List ℕ). 10 ∷ l) (s .split ∙ ap (λ (l : List ℕ). s .used ++ l) q ∙ sym (append-assoc (s .used) (11 ∷ []) r))
-    ; reads = brackets (s .reads); on = c; loose = loose-0 c }))
+sound-round {d} {x} {ts} e s = closes (Sound 0 d (x ∷ ts)) (s .on) (s .loose) (λ r q c. subst (λ (j : ℕ). Sound 0 d (j ∷ ts)) (sym e) (record {
+  tree = s .tree;
+  used = 10 ∷ (s .used ++ (11 ∷ []));
+  rest = r;
+  level = level-round (subst (λ (l : List ℕ). Level 6 ts (s .tree) l) q (s .level));
+  split = ap (λ (l : List ℕ). 10 ∷ l) (s .split ∙ ap (λ (l : List ℕ). s .used ++ l) q ∙ sym (append-assoc (s .used) (11 ∷ []) r));
+  reads = brackets (s .reads);
+  on = c;
+  loose = loose-0 c;
+}))
 
 -- no sign of the level follows
 sound-stop : {n d : ℕ} {us : List ℕ} {a : Tree} {r : List ℕ} → Parses (suc n) us a → Shut d r → Loose (suc n) r → SoundMore n d us a r
@@ -137,21 +147,42 @@ sound-stop {n} {d} {us} {a} {r} p s l = record { tree = a; used = []; rest = r; 
 
 -- one does, of a level that groups to the left: an operand, and then more
 sound-left : {n d : ℕ} {us : List ℕ} {a : Tree} {r : List ℕ} {ts : List ℕ} → rightward n ≡ false → r ≡ (12 + n) ∷ ts → (s : Sound n d ts)
-  → SoundMore n d (us ++ ((12 + n) ∷ s .used)) (bin (12 + n) a (s .tree)) (s .rest) → SoundMore n d us a r
-sound-left {n} {d} {us} {a} {r} {ts} f e s m = subst (λ (l : List ℕ). SoundMore n d us a l) (sym e) (record
-    { tree = m .tree; used = (12 + n) ∷ (s .used ++ m .used); rest = m .rest; more = more-left f (s .level) (m .more)
-    ; split = ap (λ (l : List ℕ). (12 + n) ∷ l) (s .split ∙ ap (λ (l : List ℕ). s .used ++ l) (m .split) ∙ sym (append-assoc (s .used) (m .used) (m .rest)))
-    ; reads = subst (λ (v : List ℕ). Parses (suc n) v (m .tree)) (append-assoc us ((12 + n) ∷ s .used) (m .used)) (m .reads); on = m .on; loose = m .loose })
+    → SoundMore n d (us ++ ((12 + n) ∷ s .used)) (bin (12 + n) a (s .tree)) (s .rest) → SoundMore n d us a r
+sound-left {n} {d} {us} {a} {r} {ts} f e s m = subst (λ (l : List ℕ). SoundMore n d us a l) (sym e) (record {
+  tree = m .tree;
+  used = (12 + n) ∷ (s .used ++ m .used);
+  rest = m .rest;
+  more = more-left f (s .level) (m .more);
+  split = ap (λ (l : List ℕ). (12 + n) ∷ l) (s .split ∙ ap (λ (l : List ℕ). s .used ++ l) (m .split) ∙ sym (append-assoc (s .used) (m .used) (m .rest)));
+  reads = subst (λ (v : List ℕ). Parses (suc n) v (m .tree)) (append-assoc us ((12 + n) ∷ s .used) (m .used)) (m .reads);
+  on = m .on;
+  loose = m .loose;
+})
 
 -- one does, of a level that groups to the right
 sound-right : {n d : ℕ} {us : List ℕ} {a : Tree} {r : List ℕ} {ts : List ℕ} → rightward n ≡ true → Parses n us a → r ≡ (12 + n) ∷ ts → Sound (suc n) d ts → SoundMore n d us a r
-sound-right {n} {d} {us} {a} {r} {ts} f p e s = subst (λ (l : List ℕ). SoundMore n d us a l) (sym e) (record
-    { tree = bin (12 + n) a (s .tree); used = (12 + n) ∷ s .used; rest = s .rest; more = more-right f (s .level); split = ap (λ (l : List ℕ). (12 + n) ∷ l) (s .split)
-    ; reads = right f p (s .reads); on = s .on; loose = s .loose })
+sound-right {n} {d} {us} {a} {r} {ts} f p e s = subst (λ (l : List ℕ). SoundMore n d us a l) (sym e) (record {
+  tree = bin (12 + n) a (s .tree);
+  used = (12 + n) ∷ s .used;
+  rest = s .rest;
+  more = more-right f (s .level);
+  split = ap (λ (l : List ℕ). (12 + n) ∷ l) (s .split);
+  reads = right f p (s .reads);
+  on = s .on;
+  loose = s .loose;
+})
 
 sound-up : {n d : ℕ} {ts : List ℕ} (s : Sound n d ts) → SoundMore n d (s .used) (s .tree) (s .rest) → Sound (suc n) d ts
-sound-up {n} {d} {ts} s m = record { tree = m .tree; used = s .used ++ m .used; rest = m .rest; level = level-up (s .level) (m .more)
-    ; split = s .split ∙ ap (λ (l : List ℕ). s .used ++ l) (m .split) ∙ sym (append-assoc (s .used) (m .used) (m .rest)); reads = m .reads; on = m .on; loose = m .loose }
+sound-up {n} {d} {ts} s m = record {
+  tree = m .tree;
+  used = s .used ++ m .used;
+  rest = m .rest;
+  level = level-up (s .level) (m .more);
+  split = s .split ∙ ap (λ (l : List ℕ). s .used ++ l) (m .split) ∙ sym (append-assoc (s .used) (m .used) (m .rest));
+  reads = m .reads;
+  on = m .on;
+  loose = m .loose;
+}
 
 length-of : {r : List ℕ} {x : ℕ} {ts : List ℕ} → r ≡ x ∷ ts → length r ≡ suc (length ts)
 length-of e = ap (λ (l : List ℕ). length l) e
@@ -174,7 +205,7 @@ mutual
   onward zero n d f us a r b p s l h = absurd (omega arith)
   onward (suc k) n d f us a r b p s l h = stops-or (SoundMore n d us a r) s l (λ m. sound-stop p s m)
       (λ ts e o. let t = sound k n d ts (omega arith) (omega (arith, length-of e)) o in
-                 sound-left f e t (onward k n d f (us ++ ((12 + n) ∷ t .used)) (bin (12 + n) a (t .tree)) (t .rest) b (left f p (t .reads)) (t .on) (t .loose) (omega (arith, length-of e, t .level .shorter))))
+      sound-left f e t (onward k n d f (us ++ ((12 + n) ∷ t .used)) (bin (12 + n) a (t .tree)) (t .rest) b (left f p (t .reads)) (t .on) (t .loose) (omega (arith, length-of e, t .level .shorter))))
 
 at-end : {r : List ℕ} → Shut 0 r → Loose 6 r → r ≡ []
 at-end done l = refl

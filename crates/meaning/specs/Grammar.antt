@@ -13,11 +13,11 @@ use lib.Dec.{eqb}
 abbrev pub spelling : ℕ → List ℕ
 spelling x =
     getD
-    ((115 ∷ 48 ∷ []) ∷ (115 ∷ 49 ∷ []) ∷ (115 ∷ 50 ∷ []) ∷ (115 ∷ 51 ∷ []) -- 0 to 3: s0 s1 s2 s3
-    ∷ (116 ∷ 114 ∷ 117 ∷ 101 ∷ []) ∷ (102 ∷ 97 ∷ 108 ∷ 115 ∷ 101 ∷ []) -- 4, 5: true false
-    ∷ (33 ∷ []) ∷ (88 ∷ []) ∷ (70 ∷ []) ∷ (71 ∷ []) -- 6 to 9: ! X F G
-    ∷ (40 ∷ []) ∷ (41 ∷ []) -- 10, 11: ( )
-    ∷ (85 ∷ []) ∷ (38 ∷ []) ∷ (94 ∷ []) ∷ (124 ∷ []) ∷ (45 ∷ 62 ∷ []) ∷ (60 ∷ 45 ∷ 62 ∷ []) ∷ []) -- 12 to 17: U & ^ | -> <->
+    ((115 ∷ 48 ∷ []) ∷ (115 ∷ 49 ∷ []) ∷ (115 ∷ 50 ∷ []) ∷ (115 ∷ 51 ∷ [])  -- 0 to 3: s0 s1 s2 s3
+    ∷ (116 ∷ 114 ∷ 117 ∷ 101 ∷ []) ∷ (102 ∷ 97 ∷ 108 ∷ 115 ∷ 101 ∷ [])  -- 4, 5: true false
+    ∷ (33 ∷ []) ∷ (88 ∷ []) ∷ (70 ∷ []) ∷ (71 ∷ [])  -- 6 to 9: ! X F G
+    ∷ (40 ∷ []) ∷ (41 ∷ [])  -- 10, 11: ( )
+    ∷ (85 ∷ []) ∷ (38 ∷ []) ∷ (94 ∷ []) ∷ (124 ∷ []) ∷ (45 ∷ 62 ∷ []) ∷ (60 ∷ 45 ∷ 62 ∷ []) ∷ [])  -- 12 to 17: U & ^ | -> <->
     x []
 
 -- "Spaces may stand before, between and after signs": the bytes s spell the signs ts
@@ -46,9 +46,9 @@ pub data Parses : ℕ → List ℕ → Tree → Type 0 where
   brackets : {ts : List ℕ} {t : Tree} → Parses 6 ts t → Parses 0 (10 ∷ (ts ++ (11 ∷ []))) t
   tighter : {n : ℕ} {ts : List ℕ} {t : Tree} → Parses n ts t → Parses (suc n) ts t
   left : {n : ℕ} {us vs : List ℕ} {a b : Tree} → rightward n ≡ false → Parses (suc n) us a → Parses n vs b
-    → Parses (suc n) (us ++ ((12 + n) ∷ vs)) (bin (12 + n) a b)
+      → Parses (suc n) (us ++ ((12 + n) ∷ vs)) (bin (12 + n) a b)
   right : {n : ℕ} {us vs : List ℕ} {a b : Tree} → rightward n ≡ true → Parses n us a → Parses (suc n) vs b
-    → Parses (suc n) (us ++ ((12 + n) ∷ vs)) (bin (12 + n) a b)
+      → Parses (suc n) (us ++ ((12 + n) ∷ vs)) (bin (12 + n) a b)
 
 -- ---- texts
 
