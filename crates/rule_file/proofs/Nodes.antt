@@ -23,14 +23,14 @@ use Rattle.meaning.specs.declared.Reading.the-variants as Reading
 use Rattle.rule_file.specs.Reading.{blank, padded, readOf}
 use Rattle.rule_file.specs.declared.answer.Outcome.the-variants as Outcome
 
-temporals-more : (ns : List Node) (n : Node) → temporals (ns ++ (n ∷ [])) ≡ temporals ns + cond (temporal (n .kind)) 1 0
+pub temporals-more : (ns : List Node) (n : Node) → temporals (ns ++ (n ∷ [])) ≡ temporals ns + cond (temporal (n .kind)) 1 0
 temporals-more [] n = omega arith
 temporals-more (m ∷ ns) n = omega (arith, temporals-more ns n)
 
 -- ---- one step of the judgement
 
 module _ (b : List ℕ) (P p : ℕ) (earlier : List Node) where
-  nodes-more : (k : ℕ) (n : Node) → readingOf b P p (length earlier) (temporals earlier) ≡ Reading.Node n
+  pub nodes-more : (k : ℕ) (n : Node) → readingOf b P p (length earlier) (temporals earlier) ≡ Reading.Node n
       → nodesFrom (suc k) b P p earlier ≡ nodesFrom k b P (p + 4 + bodyLength (n .kind)) (earlier ++ (n ∷ []))
   unfolding nodesFrom
   nodes-more k n e = rw (e, nodesFrom)
@@ -43,7 +43,7 @@ module _ (b : List ℕ) (P p : ℕ) (earlier : List Node) where
   unfolding nodesFrom
   nodes-over l = rw (lt-ltb p (length b) l)
 
-  nodes-end : length b ≤ p → nodesFrom 0 b P p earlier ≡ Accepted (record { signals = P; nodes = earlier })
+  pub nodes-end : length b ≤ p → nodesFrom 0 b P p earlier ≡ Accepted (record { signals = P; nodes = earlier })
   unfolding nodesFrom
   nodes-end l = rw (le-ltb p (length b) l)
 

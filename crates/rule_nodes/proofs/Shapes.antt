@@ -8,11 +8,11 @@ use native.Mathlib.Omega.{arith}
 use Rattle.rule_nodes.specs.Shapes.{shape, shapeOf}
 
 -- P at n numbers, from lo on
-abbrev Each : (ℕ → Type 0) → ℕ → ℕ → Type 0
+abbrev pub Each : (ℕ → Type 0) → ℕ → ℕ → Type 0
 Each P lo zero = Unit {0}
 Each P lo (suc n) = P lo × Each P (suc lo) n
 
-within : (P : ℕ → Type 0) (lo n : ℕ) → Each P lo n → (k : ℕ) → lo ≤ k → k < lo + n → P k
+pub within : (P : ℕ → Type 0) (lo n : ℕ) → Each P lo n → (k : ℕ) → lo ≤ k → k < lo + n → P k
 within P lo zero e k l u = absurd (omega arith)
 within P lo (suc n) e k l u = go (eq-or-lt-of-le l) (within P (suc lo) n (e .1) k)
   where

@@ -1,0 +1,30 @@
+-- The rules that a rule file can say.
+use mathlib.Core.Path.{_≡_}
+use mathlib.Core.List.{List, [], _∷_}
+use mathlib.Core.Bool.{true, false}
+use Prim.Native.Nat.{ℕ, suc, _≤_, _<_}
+use lib.ListN.{length}
+use Rattle.meaning.specs.RuleFiles.{Rule, bodyLength, operandsFit, temporals}
+use Rattle.meaning.specs.RuleTexts.{anyOutOfRange}
+use Rattle.meaning.specs.declared.Node.{Node}
+
+-- the node with number i: of a kind, with earlier nodes as operands, and 0 where its body has no byte
+pub record Formed (i : ℕ) (n : Node) : Type 0 where
+  pub kind : n .kind ≤ 13
+  pub operands : operandsFit i n ≡ true
+  pub unused-a : bodyLength (n .kind) < 1 → n .a ≡ 0
+  pub unused-b : bodyLength (n .kind) < 2 → n .b ≡ 0
+
+-- each of the nodes, the first of them with number i
+abbrev pub AllFormed : ℕ → List Node → Type 0
+AllFormed i [] = Unit {0}
+AllFormed i (n ∷ ns) = Formed i n × AllFormed (suc i) ns
+
+pub record WellFormed (r : Rule) : Type 0 where
+  pub signals-low : 1 ≤ r .signals
+  pub signals-high : r .signals ≤ 4
+  pub count-low : 1 ≤ length (r .nodes)
+  pub count-high : length (r .nodes) ≤ 64
+  pub formed : AllFormed 0 (r .nodes)
+  pub in-range : anyOutOfRange (r .signals) (r .nodes) ≡ false
+  pub temporal-few : temporals (r .nodes) ≤ 7
