@@ -13,13 +13,14 @@ use Rattle.meaning.specs.RuleFiles.{Rule, Accepted, bodyLength, operandsFit, ra
 use Rattle.meaning.specs.RuleTexts.{nodeBytes, nodesBytes, ruleBytes, anyOutOfRange}
 use Rattle.meaning.specs.declared.Node.{Node}
 use Rattle.meaning.specs.declared.Refusal.{Refusal}
-use Rattle.meaning.specs.declared.Refusal.the-variants.{WrongSignals, WrongCount, WrongOperand, OutOfRange, EighthTemporal}
+use Rattle.meaning.specs.declared.Refusal.the-variants.{WrongOperand, OutOfRange, EighthTemporal}
 use Rattle.meaning.specs.declared.HeaderReading.the-variants as HeaderReading
 use Rattle.meaning.specs.declared.Reading.{Reading}
 use Rattle.meaning.specs.declared.Reading.the-variants as Reading
 use Rattle.rule_nodes.specs.Shapes.{nodeOf}
 use Rattle.rule_nodes.proofs.Shapes.{Each, within}
 use Rattle.rule_records.proofs.Checks.{Cleared, failsAt, first-none}
+use Rattle.rule_records.proofs.Records.{headerChecks}
 use Rattle.rule_file.proofs.Nodes.{temporals-more, nodes-more, nodes-end, judged}
 use Rattle.rule_bytes.specs.WellFormed.{Formed, AllFormed, WellFormed}
 
@@ -34,9 +35,8 @@ header-back : (P N : ℕ) (rest : List ℕ) → 1 ≤ P → P ≤ 4 → 1 ≤ N 
 unfolding headerOf
 header-back P N rest a b c d =
     let file : List ℕ = 4 ∷ 0 ∷ 0 ∷ 1 ∷ P ∷ N ∷ rest in
-    first-none HeaderReading.Refused (HeaderReading.Header (record { signals = P; nodes = N }))
-    (frameChecks file 0 true 2 ++ ((not (leb 1 P && leb P 4), WrongSignals) ∷ (not (leb 1 N && leb N 64), WrongCount) ∷ []))
-    (cleared _ (
+    first-none HeaderReading.Refused (HeaderReading.Header (record { signals = P; nodes = N })) (headerChecks file)
+    (cleared (headerChecks file) (
       le-ltb (length file - 0) 2 (omega arith),
       (
         refl,

@@ -3,9 +3,9 @@ use mathlib.Core.Path.{_≡_}
 use mathlib.Core.List.{List, [], _∷_}
 use mathlib.Core.Bool.{true, false}
 use Prim.Native.Nat.{ℕ, suc, _≤_, _<_}
-use lib.ListN.{length}
+use lib.ListN.{length, getD}
 use Rattle.meaning.specs.RuleFiles.{Rule, bodyLength, operandsFit, temporals}
-use Rattle.meaning.specs.RuleTexts.{anyOutOfRange}
+use Rattle.meaning.specs.RuleTexts.{node, anyOutOfRange}
 use Rattle.meaning.specs.declared.Node.{Node}
 
 -- the node with number i: of a kind, with earlier nodes as operands, and 0 where its body has no byte
@@ -19,6 +19,10 @@ pub record Formed (i : ℕ) (n : Node) : Type 0 where
 abbrev pub AllFormed : ℕ → List Node → Type 0
 AllFormed i [] = Unit {0}
 AllFormed i (n ∷ ns) = Formed i n × AllFormed (suc i) ns
+
+-- each is of a kind that there is
+pub record KindsFit (ns : List Node) : Type 0 where
+  pub kind : (i : ℕ) → i < length ns → getD ns i (node 0 0 0) .kind ≤ 13
 
 pub record WellFormed (r : Rule) : Type 0 where
   pub signals-low : 1 ≤ r .signals
