@@ -28,8 +28,11 @@ treeFormula (bin x s t) =
 -- ---- the rule file
 
 -- the kind of a sign's node, by the table of kinds: s0 s1 s2 s3 true false, ! X F G, no node for brackets, U & ^ | -> <->
+abbrev pub kinds : List ℕ
+kinds = 2 ∷ 2 ∷ 2 ∷ 2 ∷ 1 ∷ 0 ∷ 4 ∷ 10 ∷ 12 ∷ 13 ∷ 0 ∷ 0 ∷ 11 ∷ 5 ∷ 9 ∷ 6 ∷ 7 ∷ 8 ∷ []
+
 abbrev pub kindOf : ℕ → ℕ
-kindOf x = getD (2 ∷ 2 ∷ 2 ∷ 2 ∷ 1 ∷ 0 ∷ 4 ∷ 10 ∷ 12 ∷ 13 ∷ 0 ∷ 0 ∷ 11 ∷ 5 ∷ 9 ∷ 6 ∷ 7 ∷ 8 ∷ []) x 0
+kindOf x = getD kinds x 0
 
 abbrev pub node : ℕ → ℕ → ℕ → Node
 node kind a b = record { kind = kind; a = a; b = b }
