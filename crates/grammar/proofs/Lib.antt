@@ -4,3 +4,4 @@ pub mod Parsing
 pub mod Fitting
 pub mod Faults
 pub mod Texts
+pub mod Trees

@@ -1,3 +1,4 @@
 pub mod Machine
 pub mod Descent
 pub mod Reading
+pub mod Signs

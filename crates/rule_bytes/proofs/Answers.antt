@@ -15,7 +15,7 @@ use Rattle.meaning.specs.declared.Refusal.the-variants.{WrongSignals, OutOfRang
 use Rattle.meaning.specs.declared.Written.{Written}
 use Rattle.meaning.specs.declared.Written.the-variants as Written
 use Rattle.rule_records.proofs.Checks.{Cleared, first-cleared}
-use Rattle.rule_bytes.specs.Signs.{Signs}
+use Rattle.grammar.specs.Signs.{Signs}
 use Rattle.rule_bytes.proofs.RoundTrip.{reads-back}
 use Rattle.rule_bytes.proofs.Trees.{tree-rule}
 

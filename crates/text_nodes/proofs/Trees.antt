@@ -14,7 +14,8 @@ use Rattle.sequences.proofs.Loops.{length-tab, getD-tab}
 use Rattle.meaning.specs.Grammar.{Tree, leaf, pre, bin, Parses, atom, prefix, brackets, tighter, left, right}
 use Rattle.meaning.specs.RuleTexts.{node, kindOf, size, nodesOf}
 use Rattle.meaning.specs.declared.Node.{Node}
-use Rattle.rule_bytes.specs.Signs.{Signs}
+use Rattle.grammar.specs.Signs.{Signs}
+use Rattle.grammar.proofs.Trees.{nodes-length}
 use Rattle.grammar.specs.Descent.{Got}
 use Rattle.grammar.specs.Reading.{treeOf}
 use Rattle.descent.specs.Laying.{Laid, put, lay, laidAs, Read}
@@ -99,12 +100,6 @@ lays-then {o} {c} {ns} {s} {ms} {u} p q = record {
         let m : j < length ns + length ms = simp length-append at l in
         subst (λ (i : ℕ). nodeIn (u .out) i ≡ getD (ns ++ ms) j blank) e (q .here k (omega arith) ∙ sym (getD-append-add ns ms k blank) ∙ ap (λ (i : ℕ). getD (ns ++ ms) i blank) f)
 
-pub length-nodes : (t : Tree) (k : ℕ) → length (nodesOf k t) ≡ size t
-unfolding nodesOf size
-length-nodes (leaf x) k = refl
-length-nodes (pre x t) k = simp length-append (omega (arith, length-nodes t k))
-length-nodes (bin x s t) k = simp length-append (omega (arith, length-nodes s k, length-nodes t (k + size s)))
-
 -- an operator after what was laid, with its operands a and b
 lays-sign : {o : List ℕ} {c : ℕ} {ns : List Node} {s : Laid} (x a b a′ b′ : ℕ) → Lays o c ns s → 6 ≤ x → a ≡ a′ → b ≡ b′ → s .count < 64 → 3 * s .count + 3 ≤ length o
     → Lays o c (ns ++ (node (kindOf x) a′ b′ ∷ [])) (put (s .out) (s .count) x a b)
@@ -117,12 +112,12 @@ unfolding lay nodesOf size
 lays (leaf x) o c g l h = lays-put o c x 0 0 (omega arith) (omega arith)
 lays (pre x t) o c g l h =
     let p = lays t o c (g .2) (omega arith) (omega arith) in
-    let n = length-nodes t c in
+    let n = nodes-length c t in
     lays-sign x (lay t o c .root) 0 (c + size t - 1) 0 p (g .0) (omega (arith, p .root, p .count)) refl (omega (arith, p .count)) (omega (arith, p .count))
 lays (bin x s t) o c g l h =
     let p = lays s o c (g .2) (omega arith) (omega arith) in
-    let m = length-nodes s c in
-    let n = length-nodes t (c + size s) in
+    let m = nodes-length c s in
+    let n = nodes-length (c + size s) t in
     let u = lay s o c in
     let e : u .count ≡ c + size s = omega (arith, p .count) in
     let q : Lays (u .out) (u .count) (nodesOf (c + size s) t) (lay t (u .out) (u .count)) =
@@ -137,7 +132,7 @@ pub record Whole (t : Tree) (s : Laid) : Type 0 where
 pub whole : (t : Tree) (o : List ℕ) → Signs t → size t ≤ 64 → 192 ≤ length o → Whole t (lay t o 0)
 whole t o g l h =
     let p = lays t o 0 g (omega arith) (omega arith) in
-    let n = length-nodes t 0 in
+    let n = nodes-length 0 t in
     record {
       count = omega (arith, p .count);
       nodes = ext-getD blank (tabulate (size t) (nodeIn (lay t o 0 .out))) (nodesOf 0 t) (length-tab (size t) (nodeIn (lay t o 0 .out)) ∙ sym n)

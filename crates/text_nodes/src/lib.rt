@@ -5,7 +5,7 @@ ghost use lib.ListN.{length, take};
 ghost use Rattle.sequences.specs.Tabulate.{tabulate};
 ghost use Rattle.meaning.specs.RuleTexts.{kindOf, size, nodesOf};
 ghost use Rattle.grammar.specs.Reading.{treeOf};
-ghost use Rattle.rule_bytes.specs.Signs.{Signs};
+ghost use Rattle.grammar.specs.Signs.{Signs};
 ghost use Rattle.text_nodes.specs.Occurrences.{mark, occurrences, nodeOf, nodeIn};
 use descent::level;
 use meaning::Node;
