@@ -50,7 +50,7 @@ header-back P N rest a b c d =
 -- ---- a node's record
 
 -- a body has at most two bytes
-body-few : (k : ℕ) → k ≤ 13 → bodyLength k ≤ 2
+pub body-few : (k : ℕ) → k ≤ 13 → bodyLength k ≤ 2
 body-few k h = leb-true (bodyLength k) 2 (within (λ k. leb (bodyLength k) 2 ≡ true) 0 14 (search depth 20) k (omega arith) (omega arith))
 
 -- the bytes of a body of m bytes, 0 where it has none
