@@ -10,6 +10,7 @@ pub mod record;
 pub mod refusal;
 pub mod rng;
 pub mod rule;
+pub mod rule_text;
 pub mod search;
 pub mod table;
 pub mod vectors;
