@@ -9,10 +9,11 @@ const HELP: &str = "\
 usage: oracle vectors DIR
        oracle prints DIR RULEFILE..
 
-Writes the test vectors for rule files, table files and built tables:
+Writes the test vectors for rule files, table files, built tables and rule texts:
   DIR/rule_vectors/stdin    DIR/rule_vectors/stdout
   DIR/table_vectors/stdin   DIR/table_vectors/stdout
   DIR/build_vectors/stdin   DIR/build_vectors/stdout
+  DIR/text_vectors/stdin    DIR/text_vectors/stdout
 Missing folders are made. Every run writes the same bytes. Built tables are
 certified by a search for traces first, and a summary of it is printed; if one
 fails, nothing is written and the exit status is 1.

@@ -9,6 +9,8 @@ pub mod rule_samples;
 mod table_cases;
 pub mod table_faults;
 pub mod table_samples;
+mod text_cases;
+pub mod text_samples;
 
 use std::fs;
 use std::path::Path;
@@ -28,6 +30,7 @@ pub fn write_all(folder: &Path) -> Result<Summary, String> {
     write_stream(&folder.join("rule_vectors"), &rule_cases::all())?;
     write_stream(&folder.join("table_vectors"), &table_cases::all())?;
     write_stream(&folder.join("build_vectors"), &build_cases)?;
+    write_stream(&folder.join("text_vectors"), &text_cases::all())?;
     Ok(summary)
 }
 
@@ -93,5 +96,8 @@ mod tests {
         stream.clear();
         case.append_to(&mut stream);
         assert_eq!(stream, [2, 0, 5, 0, 2, 1, 1, 0, 1]);
+        stream.clear();
+        text_cases::TextCase { text: b"s0".to_vec(), signals: 3, room: 258 }.append_to(&mut stream);
+        assert_eq!(stream, [2, 0, b's', b'0', 3, 2, 1]);
     }
 }

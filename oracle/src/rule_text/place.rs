@@ -1,17 +1,19 @@
 //! How far a text can still be made to fit.
 //!
-//! A beginning is tried with a few endings, and some ending fits if any does. For let a text fit that begins
-//! with it. The cut falls between two signs, or within one: then finish that sign as the text does; there
-//! are only the signs that begin with what is there. Now the beginning has whole signs, the first of a
-//! text that fits. In the reading of that text, drop what stands behind the cut:
-//! - an operand that lies wholly behind it: where a sign before the cut needs it, it becomes `s0`; otherwise it
-//!   goes, together with the sign before it that is gone as well;
-//! - a closing bracket behind it whose opening one stands before it stays.
+//! A beginning is tried with a few endings, and one of them fits if any text does that begins so. For let
+//! such a text fit. The beginning stops between two signs, or within one: then finish that sign as the text
+//! does; it is one of the signs that begin with what is there. So the beginning has whole signs, the first
+//! ones of a text that fits. Take the reading of that text and drop the signs behind the beginning, but for
+//! closing brackets whose opening ones stand in it:
+//! - of a pair of brackets, a prefix with its operand, or two operands with a sign between them, that was
+//!   cut within an operand, what is left of the operand is an operand again, so the whole is one;
+//! - where the cut falls just behind an opening bracket, a prefix or a binary sign, an operand is missing,
+//!   and `s0` stands for it; that is at most once, at the cut;
+//! - where it falls just behind an operand, with a binary sign dropped, the operand alone is left.
 //!
-//! At most one operand becomes `s0`, that which begins at the cut: each other that is needed begins before the
-//! cut. So what follows the beginning is the end of a sign, then `s0` or nothing, and then closing brackets,
-//! at most as many as the beginning has opening ones. Which of the texts with brackets in their right places
-//! and operands between their signs fit does not depend on how tightly signs bind, only their reading does.
+//! So what follows the beginning is the end of a sign, then `s0` or nothing, then closing brackets, at most
+//! as many as the beginning has opening ones. How tightly signs bind plays no part in this: it decides which
+//! reading a text has, and not whether it has one.
 //!
 //! A beginning of a beginning that can fit can fit as well, so the longest is found by halving.
 
