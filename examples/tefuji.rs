@@ -6,6 +6,13 @@
 /// The functions as the library has them. The rest of this file is all that a program needs.
 pub mod library {
     extern "C" {
+        pub fn tefuji_write(
+            text: *const u8,
+            text_length: usize,
+            signals: u8,
+            rule: *mut u8,
+            rule_length: usize,
+        ) -> u64;
         pub fn tefuji_build(
             rule: *const u8,
             rule_length: usize,
@@ -37,13 +44,16 @@ pub mod library {
     }
 }
 
+/// The longest rule file in bytes that `write` writes.
+pub const RULE_MAX: usize = 357;
+
 /// The largest table in bytes.
 pub const TABLE_MAX: usize = 9479;
 
 /// The bytes that `text` needs.
 pub const TEXT_ROOM: usize = 32768;
 
-/// A refusal: its number, 1 to 14, and its place. What was lent keeps every byte.
+/// A refusal: its number, 1 to 16, and its place. What was lent keeps every byte.
 #[derive(Clone, Copy, Debug, PartialEq, Eq)]
 pub struct Refusal {
     pub number: u8,
@@ -87,6 +97,15 @@ fn reached(answer: u64) -> Reached {
         _ => Verdict::Moot,
     };
     Reached { state: answer as u16, verdict }
+}
+
+/// Reads a rule text over so many signals, writes its rule file into the front of `rule`, and returns the file's length.
+pub fn write(text: &[u8], signals: u8, rule: &mut [u8]) -> Result<usize, Refusal> {
+    // Both slices are good for their lengths during the call, and a `&mut` overlaps nothing.
+    let answer = unsafe {
+        library::tefuji_write(text.as_ptr(), text.len(), signals, rule.as_mut_ptr(), rule.len())
+    };
+    answered(answer).map(|length| length as usize)
 }
 
 /// Builds the smallest table of a rule file into the front of `table` and returns its length.

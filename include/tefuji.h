@@ -1,4 +1,4 @@
-/* Tefuji: from a rule in linear temporal logic to the smallest monitor table, and runs over it.
+/* Tefuji: from a rule in linear temporal logic, typed or as a file, to the smallest monitor table, and runs over it.
  *
  * Every function takes any bytes and any numbers and always returns; it keeps nothing and allocates nothing. All state is the caller's:
  * the table's bytes and a state number. The functions may be called from several threads at once.
@@ -6,7 +6,7 @@
  * Pointers. Each goes with its length in bytes and must be good for that many bytes; it must not be null, not even where the length is 0.
  * A buffer that is written must not overlap one that is read. A buffer that is only read is not changed.
  *
- * Answers. An answer is one number. Below 2^56 it is what was asked for. From there on it is a refusal: the top byte is its number, 1 to 14,
+ * Answers. An answer is one number. Below 2^56 it is what was asked for. From there on it is a refusal: the top byte is its number, 1 to 16,
  * and the lower 56 bits are its place. On a refusal every byte that was lent keeps its value.
  *
  *   number  when                                                          place
@@ -19,11 +19,17 @@
  *   7       a signal, mask or count is out of range                       start of the record
  *   8       an eighth temporal node                                       start of its record
  *   9       bytes after the last node                                     the first such byte
- *   10      the output is shorter than the table (or the text's room)     0
+ *   10      the output is shorter than the table, the rule file, or the   0
+ *           room that tefuji_text needs
  *   11      more than 256 different remaining properties                  0
  *   12      an event is not below 2^signals                               its index, from 0
  *   13      a state is not below the number of states                     0
  *   14      the bytes are not a table, or not one of the counts given     0
+ *   15      the rule text does not fit, or has over 1,024 bytes           see tefuji_write
+ *   16      the rule text has more than 64 nodes                          0
+ *
+ * tefuji_write refuses by 4, 7 and 8 as well, for the signals it is given, a signal of the text that is not below them, and an eighth
+ * temporal sign; there every place but that of 15 is 0.
  *
  * Stack: where nothing is said, at most 1 KiB.
  *
@@ -43,11 +49,26 @@ extern "C" {
 #define TEFUJI_TABLE_MAX 9479
 #define TEFUJI_TEXT_ROOM 32768
 
+/* The longest rule file in bytes that tefuji_write writes: the header, 31 nodes with two operands, and 33 others, 64 in all. (A rule
+ * file made otherwise, with shared nodes, may have up to 390.) */
+#define TEFUJI_RULE_MAX 357
+
 /* A count of events that says "none". */
 #define TEFUJI_NONE UINT64_MAX
 
 /* Verdicts. Violated: no continuation satisfies the rule. Satisfied: all do. Moot: neither, and no further event will tell. */
 enum { TEFUJI_UNDECIDED = 0, TEFUJI_SATISFIED = 1, TEFUJI_VIOLATED = 2, TEFUJI_MOOT = 3 };
+
+/* Reads a rule text over so many signals and writes its rule file, which tefuji_build takes, into the front of `rule`. Bytes past the file
+ * keep their values. A text names the signals s0 to s3, true and false. It has the prefixes ! (not), X (next), F (eventually) and
+ * G (always), which bind tightest, round brackets, and the binary signs, tightest first: U (until), & (and), ^ (exclusive or), | (or),
+ * -> (implies), <-> (equals). U and -> group to the right, the others to the left. Spaces (byte 32 alone) may stand before, between and
+ * after signs. The file has one node for each occurrence, left operand first, the operator after its operands.
+ * Answers the file's length in bytes, or refuses by 15, then 4, 16, 7, 8, 10.
+ * 15: the text does not fit. Its place is the first byte where no further text, of any length, could make the part up to and including
+ * it fit, or the length if the text merely stops. A text of more than 1,024 bytes is refused by 15 at 1,024, whatever stands in it.
+ * Needs less than 512 KiB of stack (measured: docs/BENCHMARKS.md). */
+uint64_t tefuji_write(const uint8_t *text, size_t text_length, uint8_t signals, uint8_t *rule, size_t rule_length);
 
 /* Builds the smallest table of a rule file into the front of `table`. Bytes past the table keep their values.
  * Answers the table's length in bytes, or refuses by 1 to 9, then 11, then 10. Needs less than 48 KiB of stack (measured: docs/BENCHMARKS.md). */
