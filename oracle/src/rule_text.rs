@@ -63,9 +63,13 @@ fn push_in_order(chart: &Chart, number: usize, nodes: &mut Vec<TextNode>) -> usi
 /// Writes the rule file of a text to the front of `output` and returns its length. Bytes past the file keep
 /// their values; a refusal changes none.
 pub fn write(text: &[u8], signals: u8, output: &mut [u8]) -> Result<usize, Refusal> {
-    let file = file_of(text, signals)?;
+    put(&file_of(text, signals)?, output)
+}
+
+/// Puts a file to the front of `output`, if there is room for it.
+pub fn put(file: &[u8], output: &mut [u8]) -> Result<usize, Refusal> {
     let front = output.get_mut(..file.len()).ok_or(Refusal::new(10, 0))?;
-    front.copy_from_slice(&file);
+    front.copy_from_slice(file);
     Ok(file.len())
 }
 

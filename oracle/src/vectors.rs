@@ -11,6 +11,7 @@ pub mod table_faults;
 pub mod table_samples;
 mod text_cases;
 pub mod text_samples;
+pub mod text_watched;
 
 use std::fs;
 use std::path::Path;
