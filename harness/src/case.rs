@@ -10,6 +10,7 @@ pub struct Case {
 
 /// A byte list is printed in hexadecimal.
 pub enum Input {
+    Write { text: Vec<u8>, signals: u8, rooms: Vec<Room>, paint: u8 },
     Build { rule: Vec<u8>, rooms: Vec<Room>, paint: u8 },
     Check { table: Vec<u8> },
     Run { table: Vec<u8>, state: u16, events: Vec<u8>, cell: u64 },
@@ -24,8 +25,8 @@ pub struct Step {
     pub event: u8,
 }
 
-/// The length of an output, beside that of the table. Where the rule has no table, it is as if the
-/// table had 64 bytes.
+/// The length of an output, beside that of the table or the rule file. Where there is none, it is as if a
+/// table had 64 bytes, and a rule file 24.
 #[derive(Clone, Copy, Debug)]
 pub enum Room {
     Empty,
@@ -35,10 +36,24 @@ pub enum Room {
     Largest,
 }
 
+impl Room {
+    /// The length where `exact` is just enough, and `largest` enough for any.
+    pub fn length(self, exact: usize, largest: usize) -> usize {
+        match self {
+            Room::Empty => 0,
+            Room::ShortBy(bytes) => exact.saturating_sub(bytes),
+            Room::Exact => exact,
+            Room::LongerBy(bytes) => exact + bytes,
+            Room::Largest => largest,
+        }
+    }
+}
+
 impl Input {
     /// What is called.
     pub fn kind(&self) -> &'static str {
         match self {
+            Input::Write { .. } => "write",
             Input::Build { .. } => "build",
             Input::Check { .. } => "check",
             Input::Run { .. } => "run",
@@ -52,6 +67,10 @@ impl fmt::Display for Case {
     fn fmt(&self, out: &mut fmt::Formatter<'_>) -> fmt::Result {
         writeln!(out, "{}, {}", self.input.kind(), self.origin)?;
         match &self.input {
+            Input::Write { text, signals, rooms, paint } => {
+                writeln!(out, "text {}, {signals} signals", Hex(text))?;
+                write!(out, "outputs {rooms:?}, painted {paint}")
+            }
             Input::Build { rule, rooms, paint } => {
                 write!(out, "rule {}\noutputs {rooms:?}, painted {paint}", Hex(rule))
             }

@@ -7,6 +7,7 @@ mod build;
 mod run;
 mod step;
 mod text;
+mod write;
 
 use std::fmt::{self, Debug};
 
@@ -37,6 +38,9 @@ pub type Compared = Result<(), Difference>;
 pub fn case(case: &Case, tally: &mut Tally) -> Compared {
     tally.add_case(case.input.kind(), case.origin);
     match &case.input {
+        Input::Write { text, signals, rooms, paint } => {
+            write::compare(text, *signals, rooms, *paint, tally)
+        }
         Input::Build { rule, rooms, paint } => build::compare(rule, rooms, *paint, tally),
         Input::Check { table } => check(table, tally),
         Input::Run { table, state, events, cell } => {

@@ -5,6 +5,7 @@ mod planned;
 mod rules;
 mod spoil;
 mod tables;
+mod texts;
 
 use oracle::rng::Rng;
 
@@ -12,6 +13,7 @@ use crate::case::{Case, Input, Room};
 use crate::tefuji::TEXT_ROOM;
 use rules::Rules;
 use tables::Tables;
+use texts::Texts;
 
 /// Bytes and the name of the way in which they were made.
 pub struct Made {
@@ -29,20 +31,22 @@ impl Made {
 pub struct Generator {
     rules: Rules,
     tables: Tables,
+    texts: Texts,
 }
 
 impl Generator {
     pub fn new(rng: &mut Rng) -> Self {
-        Generator { rules: Rules::new(rng), tables: Tables::new(rng) }
+        Generator { rules: Rules::new(rng), tables: Tables::new(rng), texts: Texts::new() }
     }
 
     pub fn case(&self, rng: &mut Rng) -> Case {
-        match rng.below(100) {
+        match rng.below(112) {
             0..=34 => self.build(rng),
             35..=49 => self.check(rng),
             50..=74 => self.run(rng),
             75..=89 => self.step(rng),
-            _ => self.text(rng),
+            90..=99 => self.text(rng),
+            _ => self.write(rng),
         }
     }
 
@@ -103,6 +107,14 @@ impl Generator {
         };
         let paint = rng.byte_below(256);
         Case { origin, input: Input::Text { table, length, paint } }
+    }
+
+    fn write(&self, rng: &mut Rng) -> Case {
+        let Made { origin, bytes: text } = self.texts.any(rng);
+        let signals = texts::signals(rng);
+        let rooms = vec![Room::Empty, Room::ShortBy(1), Room::Exact, one_room(rng)];
+        let paint = rng.byte_below(256);
+        Case { origin, input: Input::Write { text, signals, rooms, paint } }
     }
 
     fn mostly_good(&self, rng: &mut Rng) -> Made {

@@ -3,8 +3,10 @@
 use std::collections::BTreeMap;
 use std::fmt;
 
-const KINDS: [&str; 5] = ["build", "check", "run", "step", "text"];
-const REFUSALS: std::ops::RangeInclusive<u8> = 1..=14;
+const KINDS: [&str; 6] = ["write", "build", "check", "run", "step", "text"];
+const REFUSALS: std::ops::RangeInclusive<u8> = 1..=16;
+/// The refusals of write, which have others' numbers and places of its own.
+const WRITE_REFUSALS: [u8; 6] = [15, 4, 16, 7, 8, 10];
 
 /// How far a step with counts that need not be the table's comes.
 const STRAYS: [&str; 5] = [
@@ -20,6 +22,7 @@ pub struct Tally {
     origins: BTreeMap<(&'static str, &'static str), u64>,
     accepted: BTreeMap<&'static str, u64>,
     refused: BTreeMap<u8, u64>,
+    refused_by_write: BTreeMap<u8, u64>,
     stray_steps: BTreeMap<&'static str, u64>,
 }
 
@@ -30,9 +33,13 @@ impl Tally {
 
     /// Adds an answer in which both sides agree: a refusal's number, or none.
     pub fn add_answer(&mut self, kind: &'static str, refused_by: Option<u8>) {
-        match refused_by {
-            Some(number) => *self.refused.entry(number).or_default() += 1,
-            None => *self.accepted.entry(kind).or_default() += 1,
+        let Some(number) = refused_by else {
+            *self.accepted.entry(kind).or_default() += 1;
+            return;
+        };
+        *self.refused.entry(number).or_default() += 1;
+        if kind == "write" {
+            *self.refused_by_write.entry(number).or_default() += 1;
         }
     }
 
@@ -47,9 +54,11 @@ impl Tally {
         let numbers = REFUSALS.filter(|number| !self.refused.contains_key(number));
         let kinds = kinds.map(|kind| format!("an answer of {kind} other than a refusal"));
         let numbers = numbers.map(|number| format!("refusal {number}"));
+        let written = WRITE_REFUSALS.iter().filter(|n| !self.refused_by_write.contains_key(n));
+        let written = written.map(|number| format!("refusal {number} of write"));
         let strays = STRAYS.iter().filter(|came| !self.stray_steps.contains_key(*came));
         let strays = strays.map(|came| format!("a step with other counts, {came}"));
-        kinds.chain(numbers).chain(strays).collect()
+        kinds.chain(numbers).chain(written).chain(strays).collect()
     }
 
     fn write_kind(&self, out: &mut fmt::Formatter<'_>, kind: &str) -> fmt::Result {
@@ -67,9 +76,15 @@ impl fmt::Display for Tally {
         for kind in KINDS {
             self.write_kind(out, kind)?;
         }
-        let refused = self.refused.iter().map(|(number, count)| format!("{number}: {count}"));
-        write!(out, "refused {}; ", refused.collect::<Vec<_>>().join(", "))?;
+        write!(out, "refused {}; ", listed(&self.refused))?;
+        write!(out, "of these by write {}; ", listed(&self.refused_by_write))?;
         let strays = self.stray_steps.iter().map(|(came, count)| format!("{came} {count}"));
         write!(out, "steps with other counts: {}", strays.collect::<Vec<_>>().join(", "))
     }
+}
+
+/// Numbers and how often each was met.
+fn listed(counts: &BTreeMap<u8, u64>) -> String {
+    let counts = counts.iter().map(|(number, count)| format!("{number}: {count}"));
+    counts.collect::<Vec<_>>().join(", ")
 }

@@ -15,19 +15,9 @@ pub fn compare(rule: &[u8], rooms: &[Room], paint: u8, tally: &mut Tally) -> Com
     let built = builder::build(rule, &mut [0; TABLE_MAX]);
     let table_length = built.unwrap_or(NO_TABLE);
     for room in rooms {
-        compare_into(rule, length_of(*room, table_length), paint, tally)?;
+        compare_into(rule, room.length(table_length, TABLE_MAX), paint, tally)?;
     }
     Ok(())
-}
-
-fn length_of(room: Room, table_length: usize) -> usize {
-    match room {
-        Room::Empty => 0,
-        Room::ShortBy(bytes) => table_length.saturating_sub(bytes),
-        Room::Exact => table_length,
-        Room::LongerBy(bytes) => table_length + bytes,
-        Room::Largest => TABLE_MAX,
-    }
 }
 
 /// Builds into an output of this length, in which every byte is `paint`.

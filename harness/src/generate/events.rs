@@ -107,7 +107,7 @@ fn fitting(table: &[u8], signals: u8) -> Option<u64> {
 /// A step with counts that need not be the table's.
 pub fn stray(rng: &mut Rng, table: &[u8]) -> (u64, Step) {
     let any = number(rng);
-    let refusal = rng.below(15) as u64 * (1 << 56) + rng.below(300) as u64;
+    let refusal = rng.below(17) as u64 * (1 << 56) + rng.below(300) as u64;
     let mut step = step(rng, table);
     let fit: Vec<u64> = (1..=4).filter_map(|signals| fitting(table, signals)).collect();
     let counts = match rng.below(12) {
