@@ -14,3 +14,4 @@ pub mod rule_text;
 pub mod search;
 pub mod table;
 pub mod vectors;
+pub mod writes;
