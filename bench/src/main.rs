@@ -1,16 +1,19 @@
-//! What building, opening and running cost in the proved library, beside plain Rust that does the same job. `bench/run` builds and runs it.
+//! What writing, building, opening and running cost in the proved library, beside plain Rust that does the same job. `bench/run` builds and runs it.
 mod building;
 mod clock;
+mod plain_writer;
 mod running;
 mod stack;
 #[path = "../../examples/tefuji.rs"]
 mod tefuji;
+mod writing;
 
 use clock::Work;
 
 fn main() {
     let is_smoke = std::env::args().nth(1).as_deref() == Some("smoke");
     let work = if is_smoke { Work::smoke() } else { Work::full() };
+    writing::report(&work);
     building::report(&work);
     running::report(&work);
     stack::report();

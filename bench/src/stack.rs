@@ -6,6 +6,7 @@ use std::ptr;
 use oracle::vectors::rule_samples::shared_nexts;
 
 use crate::tefuji::{self, Opened};
+use crate::writing;
 
 /// How far down the stack is painted.
 const DEPTH: usize = 1 << 20;
@@ -52,6 +53,11 @@ fn measure() {
     let mut text = vec![0; tefuji::TEXT_ROOM];
     let opened = Opened::open(table).expect("a table");
     println!("\n| call (at most {FRAMES}: not told apart) | stack, bytes |\n|---|---|");
+    let mut file = vec![0; tefuji::RULE_MAX];
+    for text in [writing::typical()].iter().chain(&writing::longest()) {
+        let name = format!("write, {}", text.name);
+        print(&name, || _ = black_box(tefuji::write(&text.bytes, 2, &mut file)));
+    }
     print("build, 244 states", || _ = black_box(tefuji::build(&rule, &mut spare)));
     print("check", || _ = black_box(Opened::open(table)));
     print("run, 10 events", || _ = black_box(tefuji::run(table, 0, &events[..10])));
