@@ -1,9 +1,9 @@
 //! Inputs of the program that prints tables, each with what it must print.
 //!
 //! The program takes the first 4,096 bytes of its input as a rule file, builds
-//! the table with room for every table, and prints it. So of the fourteen refusals
-//! four cannot happen: 10, since the room is enough; 12 and 13, since nothing is
-//! run; 14, since only a built table is opened.
+//! the table with room for every table, and prints it. So of the sixteen refusals
+//! six cannot happen: 10, since the room is enough; 12 and 13, since nothing is
+//! run; 14, since only a built table is opened; 15 and 16, since no text is read.
 
 use std::collections::BTreeSet;
 use std::fmt::Write;

@@ -205,7 +205,7 @@ fn repeat_part(rng: &mut Rng, text: &mut Vec<u8>, place: usize) {
 
 fn random_sign(rng: &mut Rng) -> &'static str {
     let all: Vec<&str> = signs::all().collect();
-    *rng.pick(&all)
+    all[rng.below(all.len())]
 }
 
 /// Signs in any order.
