@@ -1,4 +1,4 @@
--- Answers as one number. Below 2^56 it is what was asked for; a refusal has its number, 1 to 14, in the top byte, and its place below that.
+-- Answers as one number. Below 2^56 it is what was asked for; a refusal has its number, from 1 up, in the top byte, and its place below that.
 use mathlib.Core.Bool.{cond}
 use mathlib.Core.List.{List, [], _∷_}
 use Prim.Native.Nat.{ℕ, _+_, _-_, _*_, _^_, _/_, _%_}
@@ -8,6 +8,8 @@ use Rattle.meaning.specs.TableFiles.{verdictNumber}
 use Rattle.meaning.specs.declared.Refusal.{Refusal}
 use Rattle.meaning.specs.declared.Built.{Built}
 use Rattle.meaning.specs.declared.Built.the-variants as Built
+use Rattle.meaning.specs.declared.Written.{Written}
+use Rattle.meaning.specs.declared.Written.the-variants as Written
 use Rattle.meaning.specs.declared.Checked.{Checked}
 use Rattle.meaning.specs.declared.Checked.the-variants as Checked
 use Rattle.meaning.specs.declared.Decided.{Decided}
@@ -24,6 +26,11 @@ placeCode p = cond (ltb p (2 ^ 56)) p (2 ^ 56 - 1)
 
 abbrev pub refusalCode : Refusal → ℕ
 refusalCode r = codeOf r .0 * 2 ^ 56 + placeCode (codeOf r .1)
+
+-- the length of the rule file in bytes
+abbrev pub writtenCode : Written → ℕ
+writtenCode (Written.Rule n) = n
+writtenCode (Written.Refused r) = refusalCode r
 
 -- the length of the table in bytes
 abbrev pub builtCode : Built → ℕ

@@ -2,13 +2,14 @@
 ghost use mathlib.Core.Path.{_≡_};
 ghost use Prim.Native.Nat.{_<_, _^_};
 ghost use Rattle.meaning.specs.TableFiles.{verdictNumber};
-ghost use Rattle.codes.specs.Codes.{placeCode, refusalCode, builtCode, countsCode, ranCode, countCode, countAfter, textCode};
+ghost use Rattle.codes.specs.Codes.{placeCode, refusalCode, writtenCode, builtCode, countsCode, ranCode, countCode, countAfter, textCode};
 use meaning::Built;
 use meaning::Checked;
 use meaning::Decided;
 use meaning::Ran;
 use meaning::Refusal;
 use meaning::Verdict;
+use meaning::Written;
 use text_pieces::Text;
 
 fn place_code(place: usize) -> u64
@@ -25,6 +26,15 @@ pub fn refusal_code(why: Refusal) -> u64
 {
     let number = why.number() as u64;
     number * 72057594037927936 + place_code(why.place())
+}
+
+pub fn written_code(written: Written) -> u64
+    ensures { λ r. ⌜ r ≡ writtenCode written ⌝ }
+{
+    match written {
+        Written::Rule(n) => n as u64,
+        Written::Refused(why) => refusal_code(why),
+    }
 }
 
 pub fn built_code(built: Built) -> u64

@@ -7,13 +7,23 @@ ghost use Rattle.meaning.specs.Runs.{runOf};
 ghost use Rattle.building.specs.Build.{answerOf, outputAfter, Right};
 ghost use Rattle.codes.specs.Codes.{builtCode, countsCode, ranCode, countAfter, stepOf, textCode};
 ghost use Rattle.table_text.specs.Text.{textAnswer, textAfter};
+ghost use Rattle.tefuji.specs.Writing.{Written};
 use codes::built_code;
 use codes::count_after;
 use codes::counts_code;
 use codes::ran_code;
 use codes::refusal_code;
 use codes::text_code;
+use codes::written_code;
 use meaning::Refusal;
+
+// Writes the rule file of a text into the front of a buffer. Answers the file's length.
+#[no_mangle]
+pub extern "C" fn tefuji_write(text: &[u8], signals: u8, rule: &mut [u8]) -> u64
+    ensures { λ r. ⌜ Written (now (text .entry)) signals (now (rule .entry)) r (now (rule .exit)) ⌝ }
+{
+    written_code(rule_text::write(text, signals, rule))
+}
 
 // Builds the smallest table of a rule file into the front of a buffer. Answers the table's length.
 #[no_mangle]
