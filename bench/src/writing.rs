@@ -35,6 +35,14 @@ fn fullest() -> Text {
 pub fn longest() -> Vec<Text> {
     vec![
         text("511 pairs of brackets", between("(", ")", 511, "s0")),
+        text(
+            "63 prefixes and 479 pairs of brackets",
+            between("(", ")", 479, &between("!", "", 63, "s0")),
+        ),
+        text(
+            "31 signs to the right, each with 13 pairs of brackets",
+            between(&("s0U".to_owned() + &"(".repeat(13)), &")".repeat(13), 31, "s0"),
+        ),
         text("1,024 opening brackets, refused", "(".repeat(1024)),
         text("1,022 prefixes, refused", between("!", "", 1022, "s0")),
         text("340 pairs of brackets with prefixes, refused", between("(!", ")", 340, "s0")),

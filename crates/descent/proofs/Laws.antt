@@ -10,7 +10,8 @@ use lib.Seq.{drop-cons}
 use Rattle.meaning.specs.Grammar.{Tree, leaf, pre, bin, rightward}
 use Rattle.grammar.specs.Descent.{Level, More}
 use Rattle.grammar.proofs.Descending.{level-leaf, level-other, level-inside, level-over, level-up, more-end, more-none, more-left, more-right}
-use Rattle.descent.specs.Laying.{Laid, put, lay, laidAs, Read, Onward, Moved}
+use native.Mathlib.Decide.{decLt}
+use Rattle.descent.specs.Laying.{Laid, put, lay, laidAs, Read, Onward, Moved, Skips}
 use Rattle.descent.specs.declared.Cursor.{Cursor}
 
 pub set-past : (s : List ℕ) (i v : ℕ) → length s ≤ i → set s i v ≡ s
@@ -32,32 +33,32 @@ module _ (s : List ℕ) where
   past : (i : ℕ) → length s ≤ i → drop i s ≡ []
   past i h = drop-of-length-le s h
 
-  pub read-over : {n i : ℕ} {o : List ℕ} {c : ℕ} {o′ : List ℕ} {r : Cursor} → n ≡ 0 → length s ≤ i → i ≤ length s → put o c 4 0 0 ≡ laidAs o′ r → r .at ≡ i → Read s n i o c o′ r
+  pub read-over : {i : ℕ} {o : List ℕ} {c : ℕ} {o′ : List ℕ} {r : Cursor} → length s ≤ i → i ≤ length s → put o c 4 0 0 ≡ laidAs o′ r → r .at ≡ i → Read s 0 i o c o′ r
   unfolding lay
-  read-over {n} {i} {o} {c} {o′} {r} z h u e a = record {
+  read-over {i} {o} {c} {o′} {r} h u e a = record {
     tree = leaf 4;
-    level = rw (z, a, past i h) level-over;
+    level = rw (a, past i h) level-over;
     laid = e;
     ahead = omega arith;
     within = omega arith;
   }
 
-  pub read-leaf : {n i : ℕ} {o : List ℕ} {c : ℕ} {o′ : List ℕ} {r : Cursor} → n ≡ 0 → i < length s → getD s i 0 < 6 → put o c (getD s i 0) 0 0 ≡ laidAs o′ r → r .at ≡ i + 1 → Read s n i o c o′ r
+  pub read-leaf : {i : ℕ} {o : List ℕ} {c : ℕ} {o′ : List ℕ} {r : Cursor} → i < length s → getD s i 0 < 6 → put o c (getD s i 0) 0 0 ≡ laidAs o′ r → r .at ≡ i + 1 → Read s 0 i o c o′ r
   unfolding lay
-  read-leaf {n} {i} {o} {c} {o′} {r} z h l e a = record {
+  read-leaf {i} {o} {c} {o′} {r} h l e a = record {
     tree = leaf (getD s i 0);
-    level = rw (z, a) (level-here h (level-leaf l));
+    level = rw a (level-here h (level-leaf l));
     laid = e;
     ahead = omega arith;
     within = omega arith;
   }
 
-  pub read-pre : {n i : ℕ} {o : List ℕ} {c : ℕ} {o₁ : List ℕ} {d : Cursor} {o′ : List ℕ} {r : Cursor} → n ≡ 0 → i < length s → 6 ≤ getD s i 0 → (getD s i 0 ≡ 10 → ⊥)
-      → Read s 0 (i + 1) o c o₁ d → put o₁ (d .count) (getD s i 0) (d .root) 0 ≡ laidAs o′ r → r .at ≡ d .at → Read s n i o c o′ r
+  pub read-pre : {i : ℕ} {o : List ℕ} {c : ℕ} {o₁ : List ℕ} {d : Cursor} {o′ : List ℕ} {r : Cursor} → i < length s → 6 ≤ getD s i 0 → (getD s i 0 ≡ 10 → ⊥)
+      → Read s 0 (i + 1) o c o₁ d → put o₁ (d .count) (getD s i 0) (d .root) 0 ≡ laidAs o′ r → r .at ≡ d .at → Read s 0 i o c o′ r
   unfolding lay
-  read-pre {n} {i} {o} {c} {o₁} {d} {o′} {r} z h l u p e a = record {
+  read-pre {i} {o} {c} {o₁} {d} {o′} {r} h l u p e a = record {
     tree = pre (getD s i 0) (p .tree);
-    level = rw (z, a) (level-here h (level-other l u (p .level)));
+    level = rw a (level-here h (level-other l u (p .level)));
     laid = rw (p .laid) e;
     ahead = omega (arith, p .ahead);
     within = omega (arith, p .within);
@@ -66,20 +67,20 @@ module _ (s : List ℕ) where
   level-ten : {i : ℕ} {t : Tree} {r : List ℕ} → i < length s → getD s i 0 ≡ 10 → Level 6 (drop (i + 1) s) t r → Level 0 (drop i s) t (drop 1 r)
   level-ten {i} h e l = level-here h (rw e (level-inside l))
 
-  pub read-in : {n i : ℕ} {o : List ℕ} {c : ℕ} {o′ : List ℕ} {d : Cursor} → n ≡ 0 → i < length s → getD s i 0 ≡ 10 → Read s 6 (i + 1) o c o′ d → d .at < length s
-      → Read s n i o c o′ (record { at = d .at + 1; count = d .count; root = d .root })
-  read-in {n} {i} {o} {c} {o′} {d} z h e p l = record {
+  pub read-in : {i : ℕ} {o : List ℕ} {c : ℕ} {o′ : List ℕ} {d : Cursor} → i < length s → getD s i 0 ≡ 10 → Read s 6 (i + 1) o c o′ d → d .at < length s
+      → Read s 0 i o c o′ (record { at = d .at + 1; count = d .count; root = d .root })
+  read-in {i} {o} {c} {o′} {d} h e p l = record {
     tree = p .tree;
-    level = rw z (subst (λ (v : List ℕ). Level 0 (drop i s) (p .tree) v) (ap (λ (v : List ℕ). drop 1 v) (from s (d .at) l)) (level-ten h e (p .level)));
+    level = (subst (λ (v : List ℕ). Level 0 (drop i s) (p .tree) v) (ap (λ (v : List ℕ). drop 1 v) (from s (d .at) l)) (level-ten h e (p .level)));
     laid = p .laid;
     ahead = omega (arith, p .ahead);
     within = omega (arith, p .within);
   }
 
-  pub read-in-end : {n i : ℕ} {o : List ℕ} {c : ℕ} {o′ : List ℕ} {d : Cursor} → n ≡ 0 → i < length s → getD s i 0 ≡ 10 → Read s 6 (i + 1) o c o′ d → length s ≤ d .at → Read s n i o c o′ d
-  read-in-end {n} {i} {o} {c} {o′} {d} z h e p l = record {
+  pub read-in-end : {i : ℕ} {o : List ℕ} {c : ℕ} {o′ : List ℕ} {d : Cursor} → i < length s → getD s i 0 ≡ 10 → Read s 6 (i + 1) o c o′ d → length s ≤ d .at → Read s 0 i o c o′ d
+  read-in-end {i} {o} {c} {o′} {d} h e p l = record {
     tree = p .tree;
-    level = rw z (subst (λ (v : List ℕ). Level 0 (drop i s) (p .tree) v) (ap (λ (v : List ℕ). drop 1 v) (past (d .at) l) ∙ sym (past (d .at) l)) (level-ten h e (p .level)));
+    level = (subst (λ (v : List ℕ). Level 0 (drop i s) (p .tree) v) (ap (λ (v : List ℕ). drop 1 v) (past (d .at) l) ∙ sym (past (d .at) l)) (level-ten h e (p .level)));
     laid = p .laid;
     ahead = omega (arith, p .ahead);
     within = omega (arith, p .within);
@@ -137,3 +138,33 @@ module _ (s : List ℕ) where
     ahead = omega (arith, p .ahead, w .ahead);
     within = w .within;
   }
+
+  -- what was read and laid as c₀ says, at level 0, is read and laid as c says, at level m
+  pub record Climbed (m : ℕ) (c₀ : Cursor) (o₀ o : List ℕ) (c : Cursor) : Type 0 where
+    pub from : {i : ℕ} {o₁ : List ℕ} {k : ℕ} → Read s 0 i o₁ k o₀ c₀ → Read s m i o₁ k o c
+
+  pub climbed-none : {c : Cursor} {o : List ℕ} → Climbed 0 c o o c
+  climbed-none = record { from = λ p. p }
+
+  pub climbed-more : {m : ℕ} {c₀ : Cursor} {o₀ o : List ℕ} {c : Cursor} {o′ : List ℕ} {d : Cursor} → Climbed m c₀ o₀ o c → Moved s m c o o′ d → Climbed (m + 1) c₀ o₀ o′ d
+  climbed-more {m} p q = record { from = λ r. read-up (add-one m) (p .from r) q }
+
+  -- a sign that is not there goes on with nothing
+  still : {n : ℕ} {c : Cursor} {o : List ℕ} → c .at ≤ length s → (c .at < length s → getD s (c .at) 0 ≡ 12 + n → ⊥) → Moved s n c o o c
+  still {n} {c} {o} u f = go (decLt (c .at) (length s))
+    where
+      go : Dec (c .at < length s) → Moved s n c o o c
+      go (yes h) = moved-none h (f h)
+      go (no h) = moved-end (omega arith) u
+
+  pub climbed-skip : {m n r : ℕ} {c₀ : Cursor} {o₀ o : List ℕ} {c : Cursor} → c .at ≤ length s → Climbed m c₀ o₀ o c → Skips s (c .at) m n r → Climbed r c₀ o₀ o c
+  climbed-skip {m} {n} {r} {c₀} {o₀} {o} {c} u p k = subst (λ (j : ℕ). Climbed j c₀ o₀ o c) (let l = k .low in omega arith) (go (r - m) m p (λ j l h. k .none j l (omega (arith, k .low))))
+    where
+      go : (d m : ℕ) → Climbed m c₀ o₀ o c → ((j : ℕ) → m ≤ j → j < m + d → c .at < length s → getD s (c .at) 0 ≡ 12 + j → ⊥) → Climbed (m + d) c₀ o₀ o c
+      go zero m p f = subst (λ (j : ℕ). Climbed j c₀ o₀ o c) (omega arith) p
+      go (suc d) m p f =
+          let e : m + 1 + d ≡ m + suc d = omega arith in
+          subst (λ (j : ℕ). Climbed j c₀ o₀ o c) e (go d (m + 1) (climbed-more p (still u (f m (omega arith) (omega arith)))) (λ j l h. f j (omega arith) (omega arith)))
+
+  pub climbed-all : {m n : ℕ} {c₀ : Cursor} {o₀ o : List ℕ} {c : Cursor} {i : ℕ} {o₁ : List ℕ} {k : ℕ} → m ≡ n → Climbed m c₀ o₀ o c → Read s 0 i o₁ k o₀ c₀ → Read s n i o₁ k o c
+  climbed-all {o = o} {c} {i} {o₁} {k} e p r = subst (λ (j : ℕ). Read s j i o₁ k o c) e (p .from r)

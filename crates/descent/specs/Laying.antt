@@ -3,7 +3,7 @@ use mathlib.Core.Path.{_≡_}
 use mathlib.Core.Bool.{cond}
 use mathlib.Core.List.{List}
 use Prim.Native.Nat.{ℕ, _+_, _*_, _≤_, _<_}
-use lib.ListN.{length, drop, set}
+use lib.ListN.{length, getD, drop, set}
 use lib.Dec.{ltb}
 use Rattle.meaning.specs.Grammar.{Tree, leaf, pre, bin}
 use Rattle.grammar.specs.Descent.{Level, More}
@@ -46,3 +46,9 @@ pub record Moved (signs : List ℕ) (n : ℕ) (c : Cursor) (o : List ℕ) (o′ 
   pub from : (a : Tree) (o₀ : List ℕ) (c₀ : ℕ) → lay a o₀ c₀ ≡ laidAs o c → Onward signs n c a o₀ c₀ o′ r
   pub ahead : c .at ≤ r .at
   pub within : r .at ≤ length signs
+
+-- of the binary signs from m up, none below r stands at a place
+pub record Skips (signs : List ℕ) (place m n r : ℕ) : Type 0 where
+  pub low : m ≤ r
+  pub high : r ≤ n
+  pub none : (j : ℕ) → m ≤ j → j < r → place < length signs → getD signs place 0 ≡ 12 + j → ⊥

@@ -3,7 +3,7 @@ ghost use mathlib.Core.Path.{_≡_};
 ghost use Prim.Native.Nat.{ℕ, _+_, _≤_, _<_};
 ghost use lib.ListN.{length, set};
 ghost use Rattle.meaning.specs.Grammar.{rightward};
-ghost use Rattle.descent.specs.Laying.{put, laidAs, Read, Moved};
+ghost use Rattle.descent.specs.Laying.{put, laidAs, Read, Moved, Skips};
 
 // How far the signs were read, how many occurrences were laid, and the number of the last tree's root.
 pub struct Cursor {
@@ -46,39 +46,66 @@ fn rightwards(n: u8) -> bool
     if n == 0 { true } else { n == 4 }
 }
 
-// Reads an expression of level n and lays its tree. Signs that are none are taken as they come, so that it always returns.
+// The binary sign at a place, if it is one from m up and below n; else n. Signs are by number from 0.
+fn going_on(signs: &[u8], at: usize, m: u8, n: u8) -> u8
+    requires { ⌜ (m ≤ n) × (n ≤ 6) ⌝ }
+    ensures { λ r. ⌜ Skips (now (signs .entry)) at m n r ⌝ }
+{
+    if at < signs.len() {
+        let x = signs[at];
+        if x < 12 + m {
+            return n;
+        }
+        if x - 12 < n {
+            return x - 12;
+        }
+    }
+    n
+}
+
+// Reads an operand, a prefix and what it stands before, or an expression in brackets, and lays its tree. Signs that are none of these are taken as
+// they come, so that it always returns.
+fn tight(signs: &[u8], at: usize, out: &mut [u8], count: usize) -> Cursor
+    requires { ⌜ at ≤ length (now signs) ⌝ }
+    ensures { λ r. ⌜ Read (now (signs .entry)) 0 at (now (out .entry)) count (now (out .exit)) r ⌝ }
+{
+    if at < signs.len() {
+        let x = signs[at];
+        if x == 10 {
+            let c = level(signs, 6, at + 1, out, count);
+            let e = c.at;
+            if e < signs.len() {
+                Cursor {
+                    at: e + 1,
+                    count: c.count,
+                    root: c.root,
+                }
+            } else {
+                c
+            }
+        } else if x < 6 {
+            emit(out, at + 1, count, x, 0, 0)
+        } else {
+            let c = tight(signs, at + 1, out, count);
+            emit(out, c.at, c.count, x, c.root, 0)
+        }
+    } else {
+        emit(out, at, count, 4, 0, 0)
+    }
+}
+
+// Reads an expression of level n and lays its tree: the tightest, and then what goes on by looser and looser signs.
 pub fn level(signs: &[u8], n: u8, at: usize, out: &mut [u8], count: usize) -> Cursor
     requires { ⌜ (n ≤ 6) × (at ≤ length (now signs)) ⌝ }
     ensures { λ r. ⌜ Read (now (signs .entry)) n at (now (out .entry)) count (now (out .exit)) r ⌝ }
 {
-    if n == 0 {
-        if at < signs.len() {
-            let x = signs[at];
-            if x == 10 {
-                let c = level(signs, 6, at + 1, out, count);
-                let e = c.at;
-                if e < signs.len() {
-                    Cursor {
-                        at: e + 1,
-                        count: c.count,
-                        root: c.root,
-                    }
-                } else {
-                    c
-                }
-            } else if x < 6 {
-                emit(out, at + 1, count, x, 0, 0)
-            } else {
-                let c = level(signs, 0, at + 1, out, count);
-                emit(out, c.at, c.count, x, c.root, 0)
-            }
-        } else {
-            emit(out, at, count, 4, 0, 0)
-        }
-    } else {
-        let c = level(signs, n - 1, at, out, count);
-        more(signs, n - 1, c, out)
+    let mut c = tight(signs, at, out, count);
+    let mut m = going_on(signs, c.at, 0, n);
+    while m < n {
+        c = more(signs, m, c, out);
+        m = going_on(signs, c.at, m + 1, n);
     }
+    c
 }
 
 // Goes on from a tree that was laid, by the binary signs of level n + 1.
