@@ -5,3 +5,4 @@ pub mod Fitting
 pub mod Faults
 pub mod Texts
 pub mod Trees
+pub mod Examples

@@ -5,6 +5,7 @@ use mathlib.Core.Bool.{Bool, true, false, _||_}
 use Prim.Native.Nat.{ℕ, suc, _+_, _≤_, _<_}
 use lib.ListN.{length, take, getD}
 use lib.Dec.{eqb}
+use Rattle.meaning.specs.Bytes.{ascii}
 
 -- ---- signs
 
@@ -13,11 +14,10 @@ use lib.Dec.{eqb}
 abbrev pub spelling : ℕ → List ℕ
 spelling x =
     getD
-    ((115 ∷ 48 ∷ []) ∷ (115 ∷ 49 ∷ []) ∷ (115 ∷ 50 ∷ []) ∷ (115 ∷ 51 ∷ [])  -- 0 to 3: s0 s1 s2 s3
-    ∷ (116 ∷ 114 ∷ 117 ∷ 101 ∷ []) ∷ (102 ∷ 97 ∷ 108 ∷ 115 ∷ 101 ∷ [])  -- 4, 5: true false
-    ∷ (33 ∷ []) ∷ (88 ∷ []) ∷ (70 ∷ []) ∷ (71 ∷ [])  -- 6 to 9: ! X F G
-    ∷ (40 ∷ []) ∷ (41 ∷ [])  -- 10, 11: ( )
-    ∷ (85 ∷ []) ∷ (38 ∷ []) ∷ (94 ∷ []) ∷ (124 ∷ []) ∷ (45 ∷ 62 ∷ []) ∷ (60 ∷ 45 ∷ 62 ∷ []) ∷ [])  -- 12 to 17: U & ^ | -> <->
+    (ascii "s0" ∷ ascii "s1" ∷ ascii "s2" ∷ ascii "s3" ∷ ascii "true" ∷ ascii "false"  -- 0 to 5
+    ∷ ascii "!" ∷ ascii "X" ∷ ascii "F" ∷ ascii "G"  -- 6 to 9
+    ∷ ascii "(" ∷ ascii ")"  -- 10, 11
+    ∷ ascii "U" ∷ ascii "&" ∷ ascii "^" ∷ ascii "|" ∷ ascii "->" ∷ ascii "<->" ∷ [])  -- 12 to 17
     x []
 
 -- "Spaces may stand before, between and after signs": the bytes s spell the signs ts
