@@ -24,7 +24,8 @@ use Rattle.profile_sets.specs.Arrays.{tablesIn}
 use Rattle.exploration.proofs.Explored.{explored-same}
 use Rattle.exploration.specs.Answers.{exploreKeys, ExploredAs, Explores}
 use Rattle.building.specs.Build.{outcomeOf, answerTo, outputOf, answerOf, outputAfter}
-use Rattle.monitor.specs.Parts.{Finished, ruleIn}
+use Rattle.rule_file.specs.Reading.{ruleIn}
+use Rattle.monitor.specs.Parts.{Finished}
 use Rattle.monitor.proofs.Walking.{tablesFor, classList, closes, goes-beyond, machine-in, agrees}
 use Rattle.monitor.proofs.Writing.{bytes-are, answer-is, output-is}
 

@@ -13,7 +13,7 @@ use Rattle.rule_file.specs.declared.answer.Read.{Read}
 use Rattle.rule_file.specs.declared.answer.Outcome.{Outcome}
 use Rattle.rule_file.specs.declared.answer.Outcome.the-variants as Outcome
 use Rattle.smallest.proofs.Accepted.{Formed, accepted-formed}
-use Rattle.monitor.specs.Parts.{ruleIn}
+use Rattle.rule_file.specs.Reading.{ruleIn}
 
 front : (r : Rule) → ruleIn (r .signals) (length (r .nodes)) (padded (r .nodes)) ≡ r
 front r = ap (λ (ns : List Node). record { signals = r .signals; nodes = ns }) (take-append-seam (r .nodes) (replicate (64 - length (r .nodes)) blank))

@@ -2,10 +2,7 @@
 use mathlib.Core.Path.{_≡_}
 use mathlib.Core.List.{List}
 use Prim.Native.Nat.{ℕ}
-use lib.ListN.{take}
 use Rattle.meaning.specs.Traces.{over}
-use Rattle.meaning.specs.RuleFiles.{Rule}
-use Rattle.meaning.specs.declared.Node.{Node}
 use Rattle.meaning.specs.declared.Built.{Built}
 use Rattle.table_bytes.specs.Written.{writtenOf, tableAfter}
 use Rattle.grouping.specs.Reduction.{Reduction}
@@ -20,7 +17,3 @@ pub record Finished (P n : ℕ) (rows : List (List ℕ)) (classes before : List 
   pub reduction : Reduction (over P) n rows classes bytes₀ to₀ groups bytes to
   pub answer : r ≡ writtenOf P groups before
   pub output : after ≡ tableAfter P groups bytes to before
-
--- the rule of the first `count` nodes
-abbrev pub ruleIn : ℕ → ℕ → List Node → Rule
-ruleIn P count nodes = record { signals = P; nodes = take count nodes }

@@ -1,8 +1,8 @@
 -- What reading a rule file returns.
 use mathlib.Core.List.{List, _++_}
-use Prim.Native.Nat.{_-_}
-use lib.ListN.{length, replicate}
-use Rattle.meaning.specs.RuleFiles.{Judgement, Accepted, Refused}
+use Prim.Native.Nat.{ℕ, _-_}
+use lib.ListN.{length, take, replicate}
+use Rattle.meaning.specs.RuleFiles.{Rule, Judgement, Accepted, Refused}
 use Rattle.meaning.specs.declared.Node.{Node}
 use Rattle.meaning.specs.declared.Refusal.the-variants.{Truncated}
 use Rattle.meaning.specs.declared.HeaderReading.{HeaderReading}
@@ -14,6 +14,10 @@ use Rattle.rule_file.specs.declared.answer.Outcome.the-variants as Outco
 
 abbrev pub blank : Node
 blank = record { kind = 0; a = 0; b = 0 }
+
+-- the rule of the first `count` nodes
+abbrev pub ruleIn : ℕ → ℕ → List Node → Rule
+ruleIn P count nodes = record { signals = P; nodes = take count nodes }
 
 -- the nodes, and blank ones after them
 abbrev pub padded : List Node → List Node

@@ -23,7 +23,7 @@ use Rattle.meaning.specs.RuleFiles.{Rule}
 use Rattle.grammar.specs.Signs as Trees
 use Rattle.rule_bytes.specs.WellFormed.{KindsFit}
 use Rattle.rule_bytes.proofs.Trees.{tree-kinds}
-use Rattle.rule_writer.specs.RuleIn.{ruleIn}
+use Rattle.rule_file.specs.Reading.{ruleIn}
 use Rattle.rule_text.specs.Writing.{Writes}
 
 -- ---- the pass

@@ -24,7 +24,8 @@ use Rattle.rule_file.proofs.Nodes.{temporals-more}
 use Rattle.text_pieces.specs.Put.{Put}
 use Rattle.text_pieces.proofs.Laws.{put-more, put-is, put-front}
 use Rattle.rule_bytes.specs.WellFormed.{KindsFit}
-use Rattle.rule_writer.specs.RuleIn.{ruleIn, Wrote}
+use Rattle.rule_file.specs.Reading.{ruleIn}
+use Rattle.rule_writer.specs.Writing.{Wrote}
 
 -- ---- the last node of a list
 

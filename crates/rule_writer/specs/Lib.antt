@@ -1,1 +1,1 @@
-pub mod RuleIn
+pub mod Writing

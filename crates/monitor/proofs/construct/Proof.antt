@@ -3,7 +3,7 @@ use native.Mathlib.Omega.{arith}
 use borrow.Author.Needs.{needs}
 use denote.Ref.{now}
 use Rattle.profile_sets.proofs.Tables.{tabled}
-use Rattle.monitor.specs.Parts.{ruleIn}
+use Rattle.rule_file.specs.Reading.{ruleIn}
 use Rattle.monitor.proofs.Construction.{walks, valuable, closed-machine, closed-answers, over-answers}
 use Rattle.monitor.proofs.construct.Statement.{statement}
 use Rattle.monitor.proofs.construct.Tie as tie

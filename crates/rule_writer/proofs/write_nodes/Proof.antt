@@ -6,7 +6,8 @@ use denote.Ref.{now}
 use lib.ListN.{take}
 use borrow.Author.Needs.{needs}
 use Rattle.rule_bytes.specs.WellFormed.{KindsFit}
-use Rattle.rule_writer.specs.RuleIn.{ruleIn, Wrote}
+use Rattle.rule_file.specs.Reading.{ruleIn}
+use Rattle.rule_writer.specs.Writing.{Wrote}
 use Rattle.rule_writer.proofs.write_nodes.Statement.{statement}
 use Rattle.rule_writer.proofs.write_nodes.Tie as tie
 

@@ -3,7 +3,7 @@ use native.Mathlib.Omega.{arith}
 use mathlib.Core.Path.{sym, _∙_}
 use denote.Ref.{now}
 use borrow.Author.Needs.{needs}
-use Rattle.rule_writer.specs.RuleIn.{ruleIn}
+use Rattle.rule_file.specs.Reading.{ruleIn}
 use Rattle.rule_writer.proofs.Laws.{wrote-range, wrote-temporal, wrote-short, wrote-file, file-put}
 use Rattle.rule_writer.proofs.write_rule.Statement.{statement}
 use Rattle.rule_writer.proofs.write_rule.Tie as tie
