@@ -1,5 +1,5 @@
 -- What the answer says of the text: a written file is that of the one tree with which the text fits, and 15 falls on exactly the texts outside the grammar.
-use mathlib.Core.Path.{_≡_, refl, sym, ap, _∙_, subst}
+use mathlib.Core.Path.{_≡_, refl, sym, ap, ap₂, _∙_, subst}
 use mathlib.Core.Logic.{_⊎_, inl, inr, _↔_, ⊎-elim}
 use mathlib.Core.Bool.{Bool, true, false, cond, not, _&&_}
 use mathlib.Core.List.{List, [], _∷_, _++_}
@@ -18,6 +18,7 @@ use Rattle.meaning.specs.declared.Refusal.the-variants.{WrongSignals, OutOfRang
 use Rattle.meaning.specs.declared.Written.{Written}
 use Rattle.meaning.specs.declared.Written.the-variants as Written
 use Rattle.grammar.proofs.Fitting.{one-tree}
+use Rattle.grammar.proofs.Texts.{parsed-unique}
 use Rattle.grammar.proofs.Trees.{signs-of}
 use Rattle.rule_bytes.proofs.Trees.{tree-formula}
 use Rattle.rule_bytes.proofs.Answers.{AcceptedFile, accepted}
@@ -94,3 +95,10 @@ module _ (s : List ℕ) where
 pub right : (s : List ℕ) (P : ℕ) (before : List ℕ) (r : Written) (after : List ℕ) → Writes s P before r after → Right s P after r
 right s P before (Written.Rule n) after w = rw (w .output) (written-right s P before n (w .parsed) (w .reads) (w .answer-is))
 right s P before (Written.Refused x) after w = refused-right s P (length before) x (w .parsed) (w .reads) (w .answer-is)
+
+-- the contract leaves nothing open: there is one answer, and one output
+pub fixed : (s : List ℕ) (P : ℕ) (before : List ℕ) (r : Written) (after : List ℕ) (r′ : Written) (after′ : List ℕ) → Writes s P before r after → Writes s P before r′ after′ → (r ≡ r′) × (after ≡ after′)
+fixed s P before r after r′ after′ w w′ =
+    let e = parsed-unique s (w .parsed) (w′ .parsed) (w .reads) (w′ .reads) in
+    let a : r ≡ r′ = w .answer-is ∙ ap (writeAnswer s P (length before)) e ∙ sym (w′ .answer-is) in
+    (a, w .output ∙ ap₂ (λ (x : Written) (q : Parsed). outputOf x (fileOf P q) before) a e ∙ sym (w′ .output))

@@ -12,7 +12,7 @@ use Rattle.meaning.specs.Demands.{Reads}
 use Rattle.meaning.specs.declared.Written.{Written}
 use Rattle.meaning.specs.declared.Written.the-variants as Written
 
--- The answer and the output, with what reading the text finds. A text is read in exactly one way (grammar.Texts), so both are fixed.
+-- The answer and the output, with what reading the text finds. A text is read in exactly one way (grammar.Texts), so both are fixed (Rights.fixed).
 pub record Writes (text : List ℕ) (P : ℕ) (before : List ℕ) (answer : Written) (after : List ℕ) : Type 0 where
   pub parsed : Parsed
   pub reads : ParsedAs text parsed

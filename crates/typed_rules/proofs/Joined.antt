@@ -44,20 +44,21 @@ typed-table {text} {P} {t} {table} b =
     let r : Rule = ruleOf P t in
     let two = our-demands .demand-2 (b .file) r (b .reads) in
     let three = our-demands .demand-3 (b .file) r table (b .reads) (b .built) in
-    record
-    { tree = t
-    ; table-of = b
-    ; verdicts = λ w h v. subst (λ (L : Property). (shows (monitorOf table) w ≡ v) ↔ Judged (over P) L w v) e (two .verdicts table (b .built) w h v)
-    ; few = subst (λ (L : Property). ¬ MoreThan (over P) L 256) e (two .not-both table (b .built))
-    ; form = three .form
-    ; signals = three .signals
-    ; order = three .order
-    ; smallest = subst (λ (L : Property). (m : Monitor) → Over (over P) m → ShowsVerdicts (over P) L m → statesIn table ≤ m .states) e (three .smallest)
-    ; unique = subst (λ (L : Property). (m : Monitor) → Over (over P) m → ShowsVerdicts (over P) L m → m .states ≡ statesIn table → Renumbered (over P) (monitorOf table) m) e (three .unique)
-    ; canonical = λ text′ t′ table′ b′.
-        subst (λ (L : Property). (table ≡ table′) ↔ ((w : List ℕ) → Word (over P) w → (v : Verdict) → Judged (over P) L w v ↔ Judged (over P) (typed t′) w v)) e
-        (subst (λ (L : Property). (table ≡ table′) ↔ ((w : List ℕ) → Word (over P) w → (v : Verdict) → Judged (over P) (propertyOf r) w v ↔ Judged (over P) L w v)) (table-formula b′)
-        (three .canonical (b′ .file) (ruleOf P t′) table′ (b′ .reads) (b′ .built) refl)) }
+    record {
+      tree = t;
+      table-of = b;
+      verdicts = λ w h v. subst (λ (L : Property). (shows (monitorOf table) w ≡ v) ↔ Judged (over P) L w v) e (two .verdicts table (b .built) w h v);
+      few = subst (λ (L : Property). ¬ MoreThan (over P) L 256) e (two .not-both table (b .built));
+      form = three .form;
+      signals = three .signals;
+      order = three .order;
+      smallest = subst (λ (L : Property). (m : Monitor) → Over (over P) m → ShowsVerdicts (over P) L m → statesIn table ≤ m .states) e (three .smallest);
+      unique = subst (λ (L : Property). (m : Monitor) → Over (over P) m → ShowsVerdicts (over P) L m → m .states ≡ statesIn table → Renumbered (over P) (monitorOf table) m) e (three .unique);
+      canonical = λ text′ t′ table′ b′.
+          subst (λ (L : Property). (table ≡ table′) ↔ ((w : List ℕ) → Word (over P) w → (v : Verdict) → Judged (over P) L w v ↔ Judged (over P) (typed t′) w v)) e
+          (subst (λ (L : Property). (table ≡ table′) ↔ ((w : List ℕ) → Word (over P) w → (v : Verdict) → Judged (over P) (propertyOf r) w v ↔ Judged (over P) L w v)) (table-formula b′)
+          (three .canonical (b′ .file) (ruleOf P t′) table′ (b′ .reads) (b′ .built) refl));
+    }
 
 -- The join. Whatever the text, its file and the buffers: where the text was written as a file of n bytes, building these bytes answers and leaves what
 -- the demands say of what was typed.
@@ -68,12 +69,13 @@ joined s P before n after w out after′ (Built.Table m) h =
     typed-table (record { file = take n after; fits = t .fits; reads = t .reads; built = h .built })
 joined s P before n after w out after′ (Built.Refused x) h =
     let t = rights.right s P before (Written.Rule n) after w in
-    record
-    { tree = t .tree
-    ; file = take n after
-    ; fits = t .fits
-    ; why = subst (λ (L : Property). ((codeOf x .0 ≡ 11) × MoreThan (over P) L 256) ⊎ ((codeOf x .0 ≡ 10) × (¬ MoreThan (over P) L 256) × build.NoRoom (take n after) (length out)))
-        (property-is P (t .tree) (t .formula)) (h (ruleOf P (t .tree)) (t .reads)) }
+    record {
+      tree = t .tree;
+      file = take n after;
+      fits = t .fits;
+      why = subst (λ (L : Property). ((codeOf x .0 ≡ 11) × MoreThan (over P) L 256) ⊎ ((codeOf x .0 ≡ 10) × (¬ MoreThan (over P) L 256) × build.NoRoom (take n after) (length out)))
+          (property-is P (t .tree) (t .formula)) (h (ruleOf P (t .tree)) (t .reads));
+    }
 
 -- and a builder's own answer and output are right
 pub joined-built : (s : List ℕ) (P : ℕ) (before : List ℕ) (n : ℕ) (after : List ℕ) → text.Writes s P before (Written.Rule n) after

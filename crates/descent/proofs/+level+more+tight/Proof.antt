@@ -86,9 +86,11 @@ level-loop-less t c = let at-test = c .before .before .before .before .before in
 level-loop-again : (t : ℕ) → level-lts.Need-loop-again (level-calls t) (level-at t) level.Post level-Inv-loop level-μ-loop
 level-loop-again t c =
     let at-more = c .before .before .before in
-    let at-loop = at-more .before .before .before in
-    (c .going-on2 .ensures .high, at-more .more .kept .1 .1 .1 .0 ∙ at-loop .loop .inv .1,
-    climbed-skip _ (at-more .more .ensures .within) (climbed-more _ (at-loop .loop .inv .2) (at-more .more .ensures)) (c .going-on2 .ensures))
+    let at-loop = at-more .before .before .before in (
+      c .going-on2 .ensures .high,
+      at-more .more .kept .1 .1 .1 .0 ∙ at-loop .loop .inv .1,
+      climbed-skip _ (at-more .more .ensures .within) (climbed-more _ (at-loop .loop .inv .2) (at-more .more .ensures)) (c .going-on2 .ensures),
+    )
 
 level-same-length : (t : ℕ) → level-lts.Need-same-length (level-calls t) (level-at t) level.Post level-Inv-loop level-μ-loop
 level-same-length t c = let at-loop = c .before in at-loop .loop .inv .1 ∙ at-loop .before .before .before .before .tight .kept .1 .1 .0
