@@ -67,7 +67,7 @@ enum { TEFUJI_UNDECIDED = 0, TEFUJI_SATISFIED = 1, TEFUJI_VIOLATED = 2, TEFUJI_M
  * Answers the file's length in bytes, or refuses by 15, then 4, 16, 7, 8, 10.
  * 15: the text does not fit. Its place is the first byte where no further text, of any length, could make the part up to and including
  * it fit, or the length if the text merely stops. A text of more than 1,024 bytes is refused by 15 at 1,024, whatever stands in it.
- * Needs less than 512 KiB of stack (measured: docs/BENCHMARKS.md). */
+ * Needs less than 128 KiB of stack, on the deepest text (measured: docs/BENCHMARKS.md); a text as people type it some 3 KiB. */
 uint64_t tefuji_write(const uint8_t *text, size_t text_length, uint8_t signals, uint8_t *rule, size_t rule_length);
 
 /* Builds the smallest table of a rule file into the front of `table`. Bytes past the table keep their values.
