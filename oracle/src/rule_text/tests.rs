@@ -1,5 +1,6 @@
 //! Readings and refusals worked out by hand, and the endings held against all endings of short texts.
 
+use crate::vectors::text_watched::{MISFITS, STOPPING};
 use std::collections::BTreeSet;
 
 use super::place::can_fit;
@@ -182,86 +183,14 @@ fn spaces_are_never_needed_and_never_matter_between_signs() {
 
 #[test]
 fn a_text_that_merely_stops_is_refused_at_its_length() {
-    for text in [
-        "",
-        " ",
-        "   ",
-        "s",
-        "t",
-        "tru",
-        "f",
-        "fals",
-        "!",
-        "X",
-        "F",
-        "G",
-        "! ",
-        "(",
-        "((",
-        "(s0",
-        "(s0 ",
-        "((s0)",
-        "s0 U",
-        "s0 & ",
-        "s0-",
-        "s0 ->",
-        "s0<",
-        "s0 <-",
-        "s0 <->",
-        "s0 -> s",
-        "(s0 U (s1 & fa",
-    ] {
+    for text in STOPPING {
         assert_eq!(misfit(text), text.len(), "{text:?}");
     }
 }
 
 #[test]
 fn a_text_is_refused_at_the_first_byte_that_cannot_stand_there() {
-    for (text, place) in [
-        (")", 0),
-        ("()", 1),
-        ("( )", 2),
-        ("s0)", 2),
-        ("(s0))", 4),
-        ("(s0)(s1)", 4),
-        ("s4", 1),
-        ("s 0", 1),
-        ("S0", 0),
-        ("s0 s1", 3),
-        ("s0s1", 2),
-        ("s01", 2),
-        ("s0 X s1", 3),
-        ("s0!", 2),
-        ("s0 true", 3),
-        ("truefalse", 4),
-        ("tr ue", 2),
-        ("tRue", 1),
-        ("falsee", 5),
-        ("&s0", 0),
-        ("U", 0),
-        ("->", 0),
-        ("- >", 0),
-        ("<-", 0),
-        ("<->", 0),
-        ("s0 - > s1", 4),
-        ("s0 < -> s1", 4),
-        ("s0 <- > s1", 5),
-        ("s0 <-s1", 5),
-        ("s0 <> s1", 4),
-        ("s0 -- s1", 4),
-        ("s0 ->> s1", 5),
-        ("s0 && s1", 4),
-        ("s0 U U s1", 5),
-        ("X & s0", 2),
-        ("!)", 1),
-        ("(s0 U )", 6),
-        ("s0 = s1", 3),
-        ("s0\t", 2),
-        ("s0\n", 2),
-        ("\ns0", 0),
-        ("s0\0", 2),
-        ("(s0 & s1)) -> s", 9),
-    ] {
+    for (text, place) in MISFITS {
         assert_eq!(misfit(text), place, "{text:?}");
     }
     for byte in (0..=255).filter(|byte| !b" stf!XFG(".contains(byte)) {

@@ -36,7 +36,13 @@ returns-10 : tie.Need-returns-10
 returns-10 c = rw (c .before .match .keys10) (c .at-byte7 .ensures)
 
 returns-11 : tie.Need-returns-11
-returns-11 c = let e : c .before .before .args .mode ≡ 10 = last-mode _ (c .before .before .pre .1) (c .before .match .rest .0 .0 .0 .0 .0 .0 .0 .0 .0 .1) (c .before .match .rest .0 .0 .0 .0 .0 .0 .0 .0 .1) (c .before .match .rest .0 .0 .0 .0 .0 .0 .0 .1) (c .before .match .rest .0 .0 .0 .0 .0 .0 .1) (c .before .match .rest .0 .0 .0 .0 .0 .1) (c .before .match .rest .0 .0 .0 .0 .1) (c .before .match .rest .0 .0 .0 .1) (c .before .match .rest .0 .0 .1) (c .before .match .rest .0 .1) (c .before .match .rest .1) in rw e (c .at-byte8 .ensures)
+returns-11 c =
+    let r = c .before .match .rest in
+    let e : c .before .before .args .mode ≡ 10 =
+    last-mode _ (c .before .before .pre .1)
+    (r .0 .0 .0 .0 .0 .0 .0 .0 .0 .1) (r .0 .0 .0 .0 .0 .0 .0 .0 .1) (r .0 .0 .0 .0 .0 .0 .0 .1) (r .0 .0 .0 .0 .0 .0 .1) (r .0 .0 .0 .0 .0 .1)
+    (r .0 .0 .0 .0 .1) (r .0 .0 .0 .1) (r .0 .0 .1) (r .0 .1) (r .1) in
+    rw e (c .at-byte8 .ensures)
 
 pub advance-spec : {M : Type 1} → statement M
 advance-spec =

@@ -34,7 +34,23 @@ returns-9 : tie.Need-returns-9
 returns-9 c = record { is = rw (c .match .keys9); known = omega arith; near = omega arith }
 
 returns-10 : tie.Need-returns-10
-returns-10 c = record { is = rw (ne-eqb _ _ (c .match .rest .0 .0 .0 .0 .0 .0 .0 .0 .1), ne-eqb _ _ (c .match .rest .0 .0 .0 .0 .0 .0 .0 .1), ne-eqb _ _ (c .match .rest .0 .0 .0 .0 .0 .0 .1), ne-eqb _ _ (c .match .rest .0 .0 .0 .0 .0 .1), ne-eqb _ _ (c .match .rest .0 .0 .0 .0 .1), ne-eqb _ _ (c .match .rest .0 .0 .0 .1), ne-eqb _ _ (c .match .rest .0 .0 .1), ne-eqb _ _ (c .match .rest .0 .1), ne-eqb _ _ (c .match .rest .1)); known = omega arith; near = omega arith }
+returns-10 c =
+    let r = c .match .rest in
+    record {
+      is = rw (
+        ne-eqb _ _ (r .0 .0 .0 .0 .0 .0 .0 .0 .1),
+        ne-eqb _ _ (r .0 .0 .0 .0 .0 .0 .0 .1),
+        ne-eqb _ _ (r .0 .0 .0 .0 .0 .0 .1),
+        ne-eqb _ _ (r .0 .0 .0 .0 .0 .1),
+        ne-eqb _ _ (r .0 .0 .0 .0 .1),
+        ne-eqb _ _ (r .0 .0 .0 .1),
+        ne-eqb _ _ (r .0 .0 .1),
+        ne-eqb _ _ (r .0 .1),
+        ne-eqb _ _ (r .1),
+      );
+      known = omega arith;
+      near = omega arith;
+    }
 
 pub at-operand-spec : {M : Type 1} → statement M
 at-operand-spec =
