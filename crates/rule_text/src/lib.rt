@@ -40,7 +40,8 @@ fn room() -> [u8; 1024]
 }
 
 // Writes the rule file of a text at the front of `rule`. The answer is the file's length, or the refusal: 15, 4, 16, 7, 8, then 10. Bytes past the file,
-// and on a refusal all bytes, keep their values.
+// and on a refusal all bytes, keep their values. Both are fixed (proofs/Rights, `fixed`), and building the file has demands 2 and 3 of what was typed
+// (crate typed_rules, `joined`).
 pub fn write(text: &[u8], signals: u8, rule: &mut [u8]) -> Written
     ensures answer { λ r. ⌜ Writes (now (text .entry)) signals (now (rule .entry)) r (now (rule .exit)) ⌝ }
     ensures right { λ r. ⌜ Right (now (text .entry)) signals (now (rule .exit)) r ⌝ }

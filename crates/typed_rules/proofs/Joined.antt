@@ -35,15 +35,15 @@ property-is : (P : ℕ) (t : Tree) → ruleFormula (ruleOf P t) ≡ treeFormula 
 unfolding propertyOf typed
 property-is P t e = ap {B = Property} (λ (f : Formula) (ρ : Lasso). Holds ρ 0 f) e
 
-table-formula : {text : List ℕ} {P : ℕ} {t : Tree} {table : List ℕ} → TableOf text P t table → propertyOf (ruleOf P t) ≡ typed t
+table-formula : {text file : List ℕ} {P : ℕ} {t : Tree} {table : List ℕ} → TableOf text P file t table → propertyOf (ruleOf P t) ≡ typed t
 table-formula {P = P} {t} b = property-is P t (tree-formula P t (signs-of (b .fits .parses) (omega arith)))
 
-typed-table : {text : List ℕ} {P : ℕ} {t : Tree} {table : List ℕ} → TableOf text P t table → TypedTable text P table
-typed-table {text} {P} {t} {table} b =
+typed-table : {text file : List ℕ} {P : ℕ} {t : Tree} {table : List ℕ} → TableOf text P file t table → TypedTable text P file table
+typed-table {text} {file} {P} {t} {table} b =
     let e = table-formula b in
     let r : Rule = ruleOf P t in
-    let two = our-demands .demand-2 (b .file) r (b .reads) in
-    let three = our-demands .demand-3 (b .file) r table (b .reads) (b .built) in
+    let two = our-demands .demand-2 file r (b .reads) in
+    let three = our-demands .demand-3 file r table (b .reads) (b .built) in
     record {
       tree = t;
       table-of = b;
@@ -54,30 +54,30 @@ typed-table {text} {P} {t} {table} b =
       order = three .order;
       smallest = subst (λ (L : Property). (m : Monitor) → Over (over P) m → ShowsVerdicts (over P) L m → statesIn table ≤ m .states) e (three .smallest);
       unique = subst (λ (L : Property). (m : Monitor) → Over (over P) m → ShowsVerdicts (over P) L m → m .states ≡ statesIn table → Renumbered (over P) (monitorOf table) m) e (three .unique);
-      canonical = λ text′ t′ table′ b′.
+      canonical = λ text′ file′ t′ table′ b′.
           subst (λ (L : Property). (table ≡ table′) ↔ ((w : List ℕ) → Word (over P) w → (v : Verdict) → Judged (over P) L w v ↔ Judged (over P) (typed t′) w v)) e
           (subst (λ (L : Property). (table ≡ table′) ↔ ((w : List ℕ) → Word (over P) w → (v : Verdict) → Judged (over P) (propertyOf r) w v ↔ Judged (over P) L w v)) (table-formula b′)
-          (three .canonical (b′ .file) (ruleOf P t′) table′ (b′ .reads) (b′ .built) refl));
+          (three .canonical file′ (ruleOf P t′) table′ (b′ .reads) (b′ .built) refl));
     }
 
 -- The join. Whatever the text, its file and the buffers: where the text was written as a file of n bytes, building these bytes answers and leaves what
 -- the demands say of what was typed.
 pub joined : (s : List ℕ) (P : ℕ) (before : List ℕ) (n : ℕ) (after : List ℕ) → text.Writes s P before (Written.Rule n) after
-    → (out after′ : List ℕ) (b : Built) → build.Right (take n after) out after′ b → TypedRight s P (length out) after′ b
+    → (out after′ : List ℕ) (b : Built) → build.Right (take n after) out after′ b → TypedRight s P (take n after) (length out) after′ b
 joined s P before n after w out after′ (Built.Table m) h =
     let t = rights.right s P before (Written.Rule n) after w in
-    typed-table (record { file = take n after; fits = t .fits; reads = t .reads; built = h .built })
+    typed-table (record { fits = t .fits; reads = t .reads; built = h .built })
 joined s P before n after w out after′ (Built.Refused x) h =
     let t = rights.right s P before (Written.Rule n) after w in
     record {
       tree = t .tree;
-      file = take n after;
       fits = t .fits;
+      reads = t .reads;
       why = subst (λ (L : Property). ((codeOf x .0 ≡ 11) × MoreThan (over P) L 256) ⊎ ((codeOf x .0 ≡ 10) × (¬ MoreThan (over P) L 256) × build.NoRoom (take n after) (length out)))
           (property-is P (t .tree) (t .formula)) (h (ruleOf P (t .tree)) (t .reads));
     }
 
 -- and a builder's own answer and output are right
 pub joined-built : (s : List ℕ) (P : ℕ) (before : List ℕ) (n : ℕ) (after : List ℕ) → text.Writes s P before (Written.Rule n) after
-    → (out : List ℕ) → TypedRight s P (length out) (build.outputAfter (judge (take n after)) out) (build.answerOf (judge (take n after)) out)
+    → (out : List ℕ) → TypedRight s P (take n after) (length out) (build.outputAfter (judge (take n after)) out) (build.answerOf (judge (take n after)) out)
 joined-built s P before n after w out = joined s P before n after w out (build.outputAfter (judge (take n after)) out) (build.answerOf (judge (take n after)) out) (right (take n after) out)

@@ -26,16 +26,15 @@ unfoldable pub typed : Tree → Property
 typed t ρ = Holds ρ 0 (treeFormula t)
 
 -- the text fits with the tree, the file says its rule over P signals, and this is the file's table
-pub record TableOf (text : List ℕ) (P : ℕ) (tree : Tree) (table : List ℕ) : Type 0 where
-  pub file : List ℕ
+pub record TableOf (text : List ℕ) (P : ℕ) (file : List ℕ) (tree : Tree) (table : List ℕ) : Type 0 where
   pub fits : Fits text tree
   pub reads : Reads file (ruleOf P tree)
   pub built : BuiltBy ltlSystem file table
 
 -- demands 2 and 3 of the table, field by field as they stand there, with the typed formula in place of a file's
-pub record TypedTable (text : List ℕ) (P : ℕ) (table : List ℕ) : Type 0 where
+pub record TypedTable (text : List ℕ) (P : ℕ) (file table : List ℕ) : Type 0 where
   pub tree : Tree
-  pub table-of : TableOf text P tree table
+  pub table-of : TableOf text P file tree table
   pub verdicts : (w : List ℕ) → Word (over P) w → (v : Verdict) → (shows (monitorOf table) w ≡ v) ↔ Judged (over P) (typed tree) w v
   pub few : ¬ MoreThan (over P) (typed tree) 256
   pub form : isTable table ≡ true
@@ -43,17 +42,18 @@ pub record TypedTable (text : List ℕ) (P : ℕ) (table : List ℕ) : Type 0 wh
   pub order : BreadthFirst (over P) (monitorOf table)
   pub smallest : (m : Monitor) → Over (over P) m → ShowsVerdicts (over P) (typed tree) m → statesIn table ≤ m .states
   pub unique : (m : Monitor) → Over (over P) m → ShowsVerdicts (over P) (typed tree) m → m .states ≡ statesIn table → Renumbered (over P) (monitorOf table) m
-  pub canonical : (text′ : List ℕ) (tree′ : Tree) (table′ : List ℕ) → TableOf text′ P tree′ table′
+  pub canonical : (text′ file′ : List ℕ) (tree′ : Tree) (table′ : List ℕ) → TableOf text′ P file′ tree′ table′
       → (table ≡ table′) ↔ ((w : List ℕ) → Word (over P) w → (v : Verdict) → Judged (over P) (typed tree) w v ↔ Judged (over P) (typed tree′) w v)
 
--- "a well-formed rule is refused only if it can leave more than 256 different remaining properties": by 11 exactly then, else by 10 for want of room
-pub record TypedRefused (text : List ℕ) (P room number : ℕ) : Type 0 where
+-- "a well-formed rule is refused only if it can leave more than 256 different remaining properties": by 11 exactly then, else by 10, where the
+-- file's table is longer than the buffer
+pub record TypedRefused (text : List ℕ) (P : ℕ) (file : List ℕ) (room number : ℕ) : Type 0 where
   pub tree : Tree
-  pub file : List ℕ
   pub fits : Fits text tree
+  pub reads : Reads file (ruleOf P tree)
   pub why : ((number ≡ 11) × MoreThan (over P) (typed tree) 256) ⊎ ((number ≡ 10) × (¬ MoreThan (over P) (typed tree) 256) × NoRoom file room)
 
--- what building the written file answers, with the output after it
-abbrev pub TypedRight : List ℕ → ℕ → ℕ → List ℕ → Built → Type 0
-TypedRight text P room after (Built.Table n) = TypedTable text P (take n after)
-TypedRight text P room after (Built.Refused r) = TypedRefused text P room (codeOf r .0)
+-- what building the file that was written for a text answers, given so much room, with the output after it
+abbrev pub TypedRight : List ℕ → ℕ → List ℕ → ℕ → List ℕ → Built → Type 0
+TypedRight text P file room after (Built.Table n) = TypedTable text P file (take n after)
+TypedRight text P file room after (Built.Refused r) = TypedRefused text P file room (codeOf r .0)
