@@ -49,8 +49,8 @@ extern "C" {
 #define TEFUJI_TABLE_MAX 9479
 #define TEFUJI_TEXT_ROOM 32768
 
-/* The longest rule file in bytes that tefuji_write writes: the header, 31 nodes with two operands, and 33 others, 64 in all. (A rule
- * file made otherwise, with shared nodes, may have up to 390.) */
+/* The longest rule file in bytes that tefuji_write writes: the header, 31 nodes with two operands, and 33 others, 64 in all. With as much
+ * lent it never refuses by 10, whatever the text. (A rule file made otherwise, with shared nodes, may have up to 390.) */
 #define TEFUJI_RULE_MAX 357
 
 /* A count of events that says "none". */

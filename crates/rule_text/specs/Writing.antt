@@ -31,3 +31,8 @@ pub record Typed (text : List ℕ) (P : ℕ) (file : List ℕ) : Type 0 where
 abbrev pub Right : List ℕ → ℕ → List ℕ → Written → Type 0
 Right text P after (Written.Rule n) = Typed text P (take n after)
 Right text P after (Written.Refused r) = (codeOf r .0 ≡ 15) ↔ ((1024 < length text) ⊎ ((t : Tree) → ¬ Fits text t))
+
+-- room for every file that is written: the first record's 6 bytes, 31 nodes with two operands and 33 others. A text is never refused by 10 with as
+-- much (Rights.room-enough).
+abbrev pub longestFile : ℕ
+longestFile = 357

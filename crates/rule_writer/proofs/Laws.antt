@@ -24,6 +24,7 @@ use Rattle.rule_file.proofs.Nodes.{temporals-more}
 use Rattle.text_pieces.specs.Put.{Put}
 use Rattle.text_pieces.proofs.Laws.{put-more, put-is, put-front}
 use Rattle.rule_bytes.specs.WellFormed.{KindsFit}
+use Rattle.rule_bytes.proofs.Lengths.{bytes-append, bytes-one, file-length}
 use Rattle.rule_file.specs.Reading.{ruleIn}
 use Rattle.rule_writer.specs.Writing.{Wrote}
 
@@ -33,15 +34,6 @@ range-snoc : (P : ℕ) (ns : List Node) (n : Node) → anyOutOfRange P (ns ++ (n
 unfolding anyOutOfRange
 range-snoc P [] n = or-false (not (rangesFit P n))
 range-snoc P (m ∷ ns) n = ap (λ (b : Bool). not (rangesFit P m) || b) (range-snoc P ns n) ∙ sym (or-assoc (not (rangesFit P m)) (anyOutOfRange P ns) (not (rangesFit P n)))
-
-bytes-append : (ns ms : List Node) → nodesBytes (ns ++ ms) ≡ nodesBytes ns ++ nodesBytes ms
-unfolding nodesBytes
-bytes-append [] ms = refl
-bytes-append (n ∷ ns) ms = ap (λ (b : List ℕ). nodeBytes n ++ b) (bytes-append ns ms) ∙ sym (append-assoc (nodeBytes n) (nodesBytes ns) (nodesBytes ms))
-
-bytes-one : (n : Node) → nodesBytes (n ∷ []) ≡ nodeBytes n
-unfolding nodesBytes
-bytes-one n = append-nil (nodeBytes n)
 
 -- ---- the node at an index of an array
 
@@ -98,10 +90,6 @@ record-bytes n x e =
     ∙ ap (λ (k : ℕ). k ∷ 0 ∷ x .kind ∷ 0 ∷ take m (x .a ∷ x .b ∷ [])) (omega arith)
 
 -- ---- the answers
-
-pub file-length : (r : Rule) → length (ruleBytes r) ≡ 6 + length (nodesBytes (r .nodes))
-unfolding ruleBytes
-file-length r = omega arith
 
 module _ (r : Rule) (out : List ℕ) where
   refused : (x : Refusal) → ruleAnswer (length out) r ≡ Written.Refused x → Wrote r out (Written.Refused x) out
