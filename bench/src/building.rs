@@ -6,6 +6,7 @@ use oracle::builder;
 use oracle::random_rules::Shape;
 use oracle::rng::Rng;
 use oracle::rule::Rule;
+use oracle::vectors::rule_samples::{counted_until, flap_pair};
 use oracle::vectors::rule_samples::{document_rules, nexts, p3, shared_nexts};
 
 use crate::clock::Work;
@@ -70,6 +71,12 @@ pub fn report(work: &Work) {
         let rule = Rule { signals, ..nexts(7) };
         let events = 1 << signals;
         Cost::of(work, &rule).print(&format!("seven nexts, {signals} signals, {events} events"));
+    }
+    for (name, rule) in [
+        ("always exactly one of two signals", flap_pair()),
+        ("always one or two of four signals imply next two or three until none", counted_until()),
+    ] {
+        Cost::of(work, &rule).print(name);
     }
     let shape = Shape { signals: 1..=4, temporal: 4..=7, nodes: 24 };
     let mut rng = Rng::new(SEED);

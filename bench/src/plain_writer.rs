@@ -150,7 +150,7 @@ impl<'a> Reader<'a> {
     }
 }
 
-/// How many bytes of body a node has.
+/// How many bytes of body a node of a text has.
 fn body(kind: u8) -> usize {
     match kind {
         0 | 1 => 0,

@@ -1,4 +1,5 @@
-//! Truth of a rule on a lasso, straight from document 01's "Meaning of a rule".
+//! Truth of a rule on a lasso, straight from document 01's "Meaning of a rule" and document
+//! 02's count between two bounds.
 //!
 //! A lasso is a finite list of events, the stem, followed by a non-empty list
 //! repeated for ever, the loop. Its positions are those of stem and loop; the
@@ -50,9 +51,10 @@ impl Evaluation {
         assert!(events.len() <= POSITIONS, "a lasso has at most {POSITIONS} positions");
         self.length = events.len();
         for &(number, node) in &self.atoms {
+            let counts = u32::from(node.second)..=node.upper().into();
             let test = |event: u8| match node.kind {
                 kind::SIGNAL => event >> node.first & 1 != 0,
-                _ => (event & node.first).count_ones() >= node.second.into(),
+                _ => counts.contains(&(event & node.first).count_ones()),
             };
             let truth = positions_where(events.len(), |position| test(events[position]));
             self.truth[number] = truth;
@@ -166,7 +168,7 @@ mod tests {
     use super::*;
     use crate::random_rules::Shape;
     use crate::rng::Rng;
-    use crate::vectors::rule_samples::{rule, NodeBytes, P, Q};
+    use crate::vectors::rule_samples::{rule, NodeBytes, COUNT_COLUMNS, P, Q};
 
     const NOT_P: NodeBytes = (kind::NOT, 0, 0);
 
@@ -198,14 +200,13 @@ mod tests {
 
     #[test]
     fn at_least_counts_the_signals_of_the_mask() {
-        let column =
-            |mask, count| [0, 1, 2, 3].map(|event| now((kind::AT_LEAST, mask, count), event));
-        assert_eq!(column(3, 0), [true; 4]);
-        assert_eq!(column(0, 0), [true; 4]);
-        assert_eq!(column(3, 1), [false, true, true, true]);
-        assert_eq!(column(3, 2), [false, false, false, true]);
-        assert_eq!(column(2, 1), [false, false, true, true]);
-        assert_eq!(column(3, 3), [false; 4]);
+        for (node, column) in COUNT_COLUMNS {
+            let alone = rule(2, &[node]);
+            let by_words = [0, 1, 2, 3].map(|event| satisfies(&alone, &[event, 0], 1));
+            let by_position = [0, 1, 2, 3].map(|event| plain(&alone, &[event, 0], 1, 0, 0));
+            assert_eq!(by_words.map(u8::from), column, "{node}");
+            assert_eq!(by_position.map(u8::from), column, "{node}");
+        }
     }
 
     #[test]
@@ -280,7 +281,9 @@ mod tests {
             kind::TRUE => true,
             kind::SIGNAL => events[position] >> a & 1 == 1,
             kind::AT_LEAST => {
-                (0..4).filter(|signal| events[position] & a & 1 << signal != 0).count() >= b.into()
+                let is_on = |signal: &u8| events[position] & a & 1 << signal != 0;
+                let count = (0..4).filter(is_on).count();
+                usize::from(b) <= count && count <= node.upper().into()
             }
             kind::NOT => !at(a, position),
             kind::AND => at(a, position) && at(b, position),

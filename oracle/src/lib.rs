@@ -1,6 +1,6 @@
-//! A second reading of document 01 and of the request for rule texts, written apart
-//! from the watcher: readers, a search for traces, a builder of tables, and the maker
-//! of the test vectors.
+//! A second reading of document 01 and of the requests for rule texts and for counts
+//! between two bounds, written apart from the watcher: readers, a search for traces, a
+//! builder of tables, and the maker of the test vectors.
 
 pub mod builder;
 pub mod certify;

@@ -67,6 +67,32 @@ fn table_of(rule: &Rule) -> Option<Monitor> {
     Monitor::open(&output[..length]).ok()
 }
 
+/// Any "at least", of the signals in any mask, half of them with an upper count.
+pub fn any_count(rng: &mut Rng, signals: u8) -> FormulaNode {
+    let (mask, least) = (rng.byte_below(1 << signals), rng.byte_below(5));
+    match rng.chance(50) {
+        true => FormulaNode::new(kind::AT_LEAST, mask, least),
+        false => FormulaNode::between(mask, least, rng.byte_below(5)),
+    }
+}
+
+/// An "at least" of the signals in any mask, mostly with an upper count, seldom one that no event
+/// meets.
+pub fn likely_count(rng: &mut Rng, signals: u8) -> FormulaNode {
+    if rng.chance(15) {
+        return any_count(rng, signals);
+    }
+    let mask = 1 + rng.byte_below((1 << signals) - 1);
+    let all = mask.count_ones() as usize;
+    if rng.chance(35) {
+        return FormulaNode::new(kind::AT_LEAST, mask, rng.between(1, all) as u8);
+    }
+    // An upper count of all the signals of the mask adds nothing to the lower one.
+    let least = rng.between(0, all);
+    let most = rng.between(least, least.max(all - 1));
+    FormulaNode::between(mask, least as u8, most as u8)
+}
+
 const TEMPORAL_KINDS: [u8; 4] = [kind::NEXT, kind::UNTIL, kind::EVENTUALLY, kind::ALWAYS];
 
 /// A rule that is being drawn, with the nodes that none uses so far.
@@ -82,15 +108,16 @@ impl Drawing {
             true => *rng.pick(&TEMPORAL_KINDS),
             false => self.plain_kind(rng),
         };
-        let (first, second) = match kind {
-            kind::FALSE | kind::TRUE => (0, 0),
-            kind::SIGNAL => (rng.byte_below(self.signals.into()), 0),
-            kind::AT_LEAST => (rng.byte_below(1 << self.signals), self.count(rng)),
-            kind::NOT | kind::NEXT | kind::EVENTUALLY | kind::ALWAYS => (self.operand(rng), 0),
-            _ => (self.operand(rng), self.operand(rng)),
+        let new = |first, second| FormulaNode::new(kind, first, second);
+        let node = match kind {
+            kind::FALSE | kind::TRUE => new(0, 0),
+            kind::SIGNAL => new(rng.byte_below(self.signals.into()), 0),
+            kind::AT_LEAST => likely_count(rng, self.signals),
+            kind::NOT | kind::NEXT | kind::EVENTUALLY | kind::ALWAYS => new(self.operand(rng), 0),
+            _ => new(self.operand(rng), self.operand(rng)),
         };
         self.unused.push(self.nodes.len() as u8);
-        self.nodes.push(FormulaNode::new(kind, first, second));
+        self.nodes.push(node);
     }
 
     /// Leaves while few nodes wait to be used, operators while many do.
@@ -107,14 +134,6 @@ impl Drawing {
         match rng.chance(25) {
             true => kind::NOT,
             false => kind::AND + rng.byte_below(5),
-        }
-    }
-
-    /// A count for "at least", seldom one that no event meets.
-    fn count(&self, rng: &mut Rng) -> u8 {
-        match rng.chance(85) {
-            true => 1 + rng.byte_below(self.signals.into()),
-            false => rng.byte_below(5),
         }
     }
 
@@ -182,6 +201,23 @@ mod tests {
         for temporal in 0..=3 {
             assert!(often(&|rule| temporal_count(&rule.nodes) == temporal));
         }
+    }
+
+    #[test]
+    fn counts_have_bodies_of_both_lengths_and_all_bounds() {
+        let mut rng = Rng::new(33);
+        let drawn: Vec<FormulaNode> = (0..4000).map(|_| likely_count(&mut rng, 4)).collect();
+        for upper in [None, Some(0), Some(1), Some(2), Some(3), Some(4)] {
+            for least in 0..=4 {
+                let is_it = |node: &&FormulaNode| (node.second, node.third) == (least, upper);
+                assert!(drawn.iter().filter(is_it).count() >= 5, "{least} {upper:?}");
+            }
+        }
+        let depends_on_the_event = |node: &&FormulaNode| {
+            let bare = Rule { signals: 4, nodes: vec![**node] };
+            table_of(&bare).unwrap().states.len() == 3
+        };
+        assert!(drawn.iter().filter(depends_on_the_event).count() >= 2000);
     }
 
     #[test]

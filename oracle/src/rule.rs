@@ -8,6 +8,8 @@ use crate::refusal::Refusal;
 pub const HEADER_KIND: u16 = 256;
 pub const NODE_LIMIT: u8 = 64;
 pub const TEMPORAL_LIMIT: usize = 7;
+/// The highest count of an "at least", lower or upper, whatever the number of signals.
+const HIGHEST_COUNT: u8 = 4;
 
 /// Node kinds by name.
 pub mod kind {
@@ -32,7 +34,8 @@ pub mod kind {
 pub enum BodyShape {
     Empty,
     SignalNumber,
-    MaskAndCount,
+    /// A mask and the lower count; in the longer body, the upper count too.
+    MaskAndCounts,
     OneOperand,
     TwoOperands,
 }
@@ -43,33 +46,52 @@ impl BodyShape {
         match node_kind {
             0 | 1 => Some(BodyShape::Empty),
             2 => Some(BodyShape::SignalNumber),
-            3 => Some(BodyShape::MaskAndCount),
+            3 => Some(BodyShape::MaskAndCounts),
             4 | 10 | 12 | 13 => Some(BodyShape::OneOperand),
             5..=9 | 11 => Some(BodyShape::TwoOperands),
             _ => None,
         }
     }
 
-    pub fn length(self) -> usize {
+    /// The lengths that the body may have, ascending.
+    pub fn lengths(self) -> &'static [usize] {
         match self {
-            BodyShape::Empty => 0,
-            BodyShape::SignalNumber | BodyShape::OneOperand => 1,
-            BodyShape::MaskAndCount | BodyShape::TwoOperands => 2,
+            BodyShape::Empty => &[0],
+            BodyShape::SignalNumber | BodyShape::OneOperand => &[1],
+            BodyShape::MaskAndCounts => &[2, 3],
+            BodyShape::TwoOperands => &[2],
         }
+    }
+
+    pub fn fits(self, length: usize) -> bool {
+        self.lengths().contains(&length)
     }
 }
 
-/// A node with its body bytes; those that its kind lacks are 0.
+/// A node with its body bytes; of the first two, those that its kind lacks are 0.
 #[derive(Clone, Copy, Debug, PartialEq, Eq)]
 pub struct FormulaNode {
     pub kind: u8,
     pub first: u8,
     pub second: u8,
+    /// The upper count, where the body of an "at least" says it.
+    pub third: Option<u8>,
 }
 
 impl FormulaNode {
-    pub fn new(kind: u8, first: u8, second: u8) -> Self {
-        FormulaNode { kind, first, second }
+    /// A node whose body has at most two bytes.
+    pub const fn new(kind: u8, first: u8, second: u8) -> Self {
+        FormulaNode { kind, first, second, third: None }
+    }
+
+    /// Of the signals in the mask, at least `least` and at most `most` are on.
+    pub const fn between(mask: u8, least: u8, most: u8) -> Self {
+        FormulaNode { third: Some(most), ..Self::new(kind::AT_LEAST, mask, least) }
+    }
+
+    /// The upper count of an "at least", 4 where the body does not say it.
+    pub fn upper(self) -> u8 {
+        self.third.unwrap_or(HIGHEST_COUNT)
     }
 
     pub fn shape(self) -> BodyShape {
@@ -81,8 +103,10 @@ impl FormulaNode {
     }
 
     pub fn to_record(self) -> Vec<u8> {
-        let body = [self.first, self.second];
-        record::well_sized(self.kind.into(), &body[..self.shape().length()])
+        let shortest = self.shape().lengths()[0];
+        let mut body = [self.first, self.second][..shortest].to_vec();
+        body.extend(self.third);
+        record::well_sized(self.kind.into(), &body)
     }
 
     fn has_operands_below(self, number: usize) -> bool {
@@ -98,9 +122,20 @@ impl FormulaNode {
     fn is_in_range(self, signals: u8) -> bool {
         match self.shape() {
             BodyShape::SignalNumber => self.first < signals,
-            BodyShape::MaskAndCount => self.first < 1 << signals && self.second <= 4,
+            BodyShape::MaskAndCounts => {
+                let counts_are_low = self.second.max(self.upper()) <= HIGHEST_COUNT;
+                self.first < 1 << signals && counts_are_low
+            }
             _ => true,
         }
+    }
+}
+
+/// Kind, two body bytes and the upper count, which is 0 where the kind has none.
+impl fmt::Display for FormulaNode {
+    fn fmt(&self, out: &mut fmt::Formatter<'_>) -> fmt::Result {
+        let upper = if self.kind == kind::AT_LEAST { self.upper() } else { 0 };
+        write!(out, "{}.{}.{}.{upper}", self.kind, self.first, self.second)
     }
 }
 
@@ -135,11 +170,16 @@ impl Rule {
         let Some(shape) = BodyShape::of(record.kind) else {
             return refuse(3);
         };
-        if record.body.len() != shape.length() {
+        if !shape.fits(record.body.len()) {
             return refuse(2);
         }
-        let body_byte = |index| record.body.get(index).copied().unwrap_or(0);
-        let node = FormulaNode::new(record.kind as u8, body_byte(0), body_byte(1));
+        let body_byte = |index| record.body.get(index).copied();
+        let node = FormulaNode {
+            kind: record.kind as u8,
+            first: body_byte(0).unwrap_or(0),
+            second: body_byte(1).unwrap_or(0),
+            third: body_byte(2),
+        };
         if !node.has_operands_below(self.nodes.len()) {
             return refuse(6);
         }
@@ -163,10 +203,7 @@ impl Rule {
 impl fmt::Display for Rule {
     fn fmt(&self, out: &mut fmt::Formatter<'_>) -> fmt::Result {
         write!(out, "rule {} {}:", self.signals, self.nodes.len())?;
-        for node in &self.nodes {
-            write!(out, " {}.{}.{}", node.kind, node.first, node.second)?;
-        }
-        Ok(())
+        self.nodes.iter().try_for_each(|node| write!(out, " {node}"))
     }
 }
 
@@ -216,7 +253,7 @@ mod tests {
     #[test]
     fn reads_the_printed_bytes_of_p3() {
         let rule = Rule::read(&P3).unwrap();
-        assert_eq!(rule.to_string(), "rule 1 1: 2.0.0");
+        assert_eq!(rule.to_string(), "rule 1 1: 2.0.0.0");
         assert_eq!(rule.to_bytes(), P3);
     }
 
@@ -253,15 +290,64 @@ mod tests {
         assert_eq!(refusal(&[&P3[..], &[0]].concat()), (9, 11));
     }
 
+    /// A file over two signals whose only record is an "at least" with this body.
+    fn at_least(body: &[u8]) -> Vec<u8> {
+        [header_record(2, 1), record::well_sized(3, body)].concat()
+    }
+
+    #[test]
+    fn reads_an_at_least_with_and_without_an_upper_count() {
+        let read_back = |file: &[u8]| {
+            let rule = Rule::read(file).unwrap();
+            assert_eq!(rule.to_bytes(), file);
+            rule
+        };
+        let exactly_one = read_back(&[4, 0, 0, 1, 2, 1, 5, 0, 3, 0, 3, 1, 1]);
+        assert_eq!(exactly_one.nodes, [FormulaNode::between(3, 1, 1)]);
+        assert_eq!(exactly_one.to_string(), "rule 2 1: 3.3.1.1");
+        let without = read_back(&[4, 0, 0, 1, 2, 1, 4, 0, 3, 0, 3, 1]);
+        let with = read_back(&[4, 0, 0, 1, 2, 1, 5, 0, 3, 0, 3, 1, 4]);
+        assert_eq!(without.to_string(), "rule 2 1: 3.3.1.4");
+        assert_eq!(with.to_string(), "rule 2 1: 3.3.1.4");
+        assert_ne!(without, with);
+    }
+
+    #[test]
+    fn an_at_least_has_two_bytes_or_three() {
+        for length in [2, 3] {
+            assert!(Rule::read(&at_least(&vec![0; length])).is_ok());
+        }
+        for length in [0, 1, 4, 5, 254, 255, 256, 257, 258, 259] {
+            assert_eq!(refusal(&at_least(&vec![0; length])), (2, 6), "{length}");
+        }
+        let three = vec![0; 3];
+        for kind in (0..=13).filter(|&kind| kind != 3) {
+            let file = [header_record(2, 1), record::well_sized(kind, &three)].concat();
+            assert_eq!(refusal(&file), (2, 6), "kind {kind}");
+        }
+    }
+
     #[test]
     fn refuses_signal_mask_and_count_out_of_range() {
-        let only = |kind, first, second| {
-            Rule { signals: 2, nodes: vec![FormulaNode::new(kind, first, second)] }.to_bytes()
-        };
-        assert!(Rule::read(&only(kind::SIGNAL, 1, 0)).is_ok());
-        assert_eq!(refusal(&only(kind::SIGNAL, 2, 0)), (7, 6));
-        assert!(Rule::read(&only(kind::AT_LEAST, 3, 4)).is_ok());
-        assert_eq!(refusal(&only(kind::AT_LEAST, 4, 0)), (7, 6));
-        assert_eq!(refusal(&only(kind::AT_LEAST, 0, 5)), (7, 6));
+        let signal = |number| [header_record(2, 1), record::well_sized(2, &[number])].concat();
+        assert!(Rule::read(&signal(1)).is_ok());
+        assert_eq!(refusal(&signal(2)), (7, 6));
+        assert!(Rule::read(&at_least(&[3, 4])).is_ok());
+        assert_eq!(refusal(&at_least(&[4, 0])), (7, 6));
+        assert_eq!(refusal(&at_least(&[0, 5])), (7, 6));
+    }
+
+    /// An upper count below the lower one is well-formed, and so is one above the signals.
+    #[test]
+    fn refuses_an_upper_count_above_four() {
+        for body in [[3, 0, 0], [3, 4, 0], [0, 0, 4], [3, 2, 1], [1, 1, 4], [3, 4, 4]] {
+            assert!(Rule::read(&at_least(&body)).is_ok(), "{body:?}");
+        }
+        let wrong = [[3, 1, 5], [3, 0, 255], [0, 4, 6], [3, 5, 4], [0, 255, 0], [4, 1, 1]];
+        for body in wrong.into_iter().chain([[4, 5, 5], [255; 3]]) {
+            assert_eq!(refusal(&at_least(&body)), (7, 6), "{body:?}");
+        }
+        assert_eq!(refusal(&at_least(&[3, 1, 5])[..12]), (1, 6));
+        assert_eq!(refusal(&at_least(&[255; 4])), (2, 6));
     }
 }

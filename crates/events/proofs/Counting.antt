@@ -1,10 +1,12 @@
 -- The ones of event and mask, counted, are the signals of the mask that are on, counted one by one.
 use mathlib.Core.Path.{_≡_, refl, sym, ap, ap₂, _∙_}
-use Prim.Native.Nat.{ℕ, zero, suc, _+_, _*_, _/_, _%_, _^_, _<_}
+use mathlib.Core.Bool.{_&&_}
+use Prim.Native.Nat.{ℕ, zero, suc, _+_, _*_, _/_, _%_, _^_, _≤_, _<_}
 use native.Mathlib.Nat.{mod-lt, mod-one, div-eq-of-lt}
 use native.Mathlib.Numerals.{one-add}
 use native.Mathlib.Omega.{arith}
-use lib.Dec.{lit<}
+use borrow.Author.Tests.{le-leb, lt-leb}
+use lib.Dec.{lit<, leb}
 use lib.Pow.{pow-pos, pow-mono, mod-pow-add}
 use lib.Bits.{bitAnd, and-mod, and-shr, and-mask}
 use lib.Count.{ones, ones-cat}
@@ -43,6 +45,14 @@ module _ (e m : ℕ) where
   -- of the four signals that there can be
   pub ones-four : ones (bitAnd (bitAnd e m) 15) ≡ countOn 4 m e
   ones-four = ap ones (and-mask (bitAnd e m) 4) ∙ ones-below 4
+
+-- a number of signals compared with both bounds, by the number n of ones that is counted for it
+module _ (n c k u : ℕ) (q : n ≡ c) where
+  pub at-least-so-many : k ≤ n → leb n u ≡ (leb k c && leb c u)
+  at-least-so-many h = rw (q, le-leb k c (omega arith))
+
+  pub too-few : n < k → leb k n ≡ (leb k c && leb c u)
+  too-few h = rw (q, lt-leb k c (omega arith))
 
 -- a byte has no signal past the eighth
 pub off-above : (e s : ℕ) → e < 256 → 8 < suc s → bit s e ≡ 0

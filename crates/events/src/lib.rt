@@ -1,5 +1,6 @@
 // Events: how many there are, which signals are on, and how many of a mask's.
 ghost use mathlib.Core.Path.{_≡_};
+ghost use mathlib.Core.Bool.{_&&_};
 ghost use Prim.Native.Nat.{_^_, _≤_};
 ghost use lib.Dec.{leb, eqb};
 ghost use Rattle.meaning.specs.Formulas.{bit, countOn};
@@ -30,9 +31,10 @@ pub fn signal_on(event: u8, signal: u8) -> bool
     false
 }
 
-// Whether at least so many of the signals in the mask are on, of the four that there can be: the ones of event and mask are counted.
-pub fn at_least(event: u8, mask: u8, count: u8) -> bool
-    ensures { λ r. ⌜ r ≡ leb count (countOn 4 mask event) ⌝ }
+// Whether at least and at most so many of the signals in the mask are on, of the four that there can be: the ones of event and mask are counted.
+pub fn at_least(event: u8, mask: u8, count: u8, upper: u8) -> bool
+    ensures { λ r. ⌜ r ≡ (leb count (countOn 4 mask event) && leb (countOn 4 mask event) upper) ⌝ }
 {
-    (count as u32) <= u32::count_ones((event & mask & 15) as u32)
+    let on = u32::count_ones((event & mask & 15) as u32);
+    (count as u32) <= on && on <= (upper as u32)
 }

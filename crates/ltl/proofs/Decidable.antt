@@ -99,7 +99,7 @@ pub decHolds : (ρ : Lasso) (f : Formula) (i : ℕ) → Dec (Holds ρ i f)
 decHolds ρ falsum i = no (λ x. x)
 decHolds ρ verum i = yes tt
 decHolds ρ (signal s) i = ℕ-discrete (bit s (at ρ i)) 1
-decHolds ρ (atLeast m n) i = decLe n (countOn 4 m (at ρ i))
+decHolds ρ (atLeast m n u) i = decPair (decLe n (countOn 4 m (at ρ i))) (decLe (countOn 4 m (at ρ i)) u)
 decHolds ρ (neg a) i = decNot (decHolds ρ a i)
 decHolds ρ (and a b) i = decPair (decHolds ρ a i) (decHolds ρ b i)
 decHolds ρ (or a b) i = decSum (decHolds ρ a i) (decHolds ρ b i)

@@ -14,7 +14,7 @@ use Rattle.meaning.specs.declared.Node.{Node}
 use Rattle.ltl.specs.Nodes.{Split, plain, temporal, falsum, kinds, split, splits, temporals, splitFormula, splitFormulas}
 
 split-formula : (fs : List Formula) (n : Node) → splitFormula fs (split n) ≡ formulaOf fs n
-split-formula fs n = sym (List·getD-map (splitFormula fs) (kinds (n .a) (n .b)) (n .kind) (plain falsum))
+split-formula fs n = sym (List·getD-map (splitFormula fs) (kinds (n .a) (n .b) (n .upper)) (n .kind) (plain falsum))
 
 pub split-formulas : (fs : List Formula) (ns : List Node) → splitFormulas fs (splits ns) ≡ formulas fs ns
 split-formulas fs [] = refl
@@ -44,7 +44,7 @@ split-weight n = go (decLt (n .kind) 10)
     go : Dec (n .kind < 10) → weight (split n) ≤ cond (RuleFiles.temporal (n .kind)) 1 0
     go (yes h) =
         let e : weight (split n) ≡ 0 =
-        sym (List·getD-map weight (kinds (n .a) (n .b)) (n .kind) (plain falsum))
+        sym (List·getD-map weight (kinds (n .a) (n .b) (n .upper)) (n .kind) (plain falsum))
         ∙ List·getD-append (replicate 10 0) (1 ∷ 1 ∷ 1 ∷ 1 ∷ []) 0 (n .kind) h
         ∙ getD-replicate 10 (n .kind) 0 0 h in
         omega arith

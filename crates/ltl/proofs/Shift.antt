@@ -45,7 +45,7 @@ pub shift : {w v : ℕ → ℕ} (f : Formula) {i j : ℕ} → Agree w i v j → 
 shift falsum h s = s
 shift verum h s = s
 shift (signal x) h s = subst (λ (e : ℕ). bit x e ≡ 1) (agree-here h) s
-shift (atLeast x n) h s = subst (λ (e : ℕ). n ≤ countOn 4 x e) (agree-here h) s
+shift (atLeast x n u) h s = subst (λ (e : ℕ). (n ≤ countOn 4 x e) × (countOn 4 x e ≤ u)) (agree-here h) s
 shift (neg a) h s = λ t. s (shift a (agree-sym h) t)
 shift (and a b) h s = (shift a h (s .0), shift b h (s .1))
 shift (or a b) h (inl s) = inl (shift a h s)

@@ -9,7 +9,7 @@ use native.Mathlib.Decide.{ℕ-discrete}
 use native.Mathlib.Omega.{arith}
 use lib.ListN.{length, length-append}
 use lib.Seq.{getD-at}
-use lib.Dec.{eqb→eq, leb→le, le→leb}
+use lib.Dec.{leb, eqb→eq, leb→le, le→leb}
 use Rattle.meaning.specs.Formulas.{Formula, Sat, bit, countOn}
 use Rattle.ltl.specs.Sets.{on, put}
 use Rattle.ltl.specs.Nodes.{Plain, falsum, verum, signal, atLeast, neg, and, or, implies, iff, xor, Temporal, Split, plain, temporal, temporals, operand, plainFormula, temporalFormula}
@@ -116,7 +116,9 @@ module _ {w : ℕ → ℕ} {i : ℕ} {fs : List Formula} {j : ℕ} {s : Valued} 
   plain-right falsum = (λ x. x, λ x. x)
   plain-right verum = (λ x. x, λ x. x)
   plain-right (signal a) = (λ e. rw e tt, λ t. eqb→eq (bit a (w i)) 1 t)
-  plain-right (atLeast m n) = (λ l. le→leb n (countOn 4 m (w i)) l, λ t. leb→le n (countOn 4 m (w i)) t)
+  plain-right (atLeast m n u) =
+      let c = countOn 4 m (w i) in
+      t-and (leb n c) (leb c u) (λ l. le→leb n c l, λ t. leb→le n c t) (λ l. le→leb c u l, λ t. leb→le c u t)
   plain-right (neg a) = t-not (on (s .values) a) (k .right a)
   plain-right (and a b) = t-and (on (s .values) a) (on (s .values) b) (k .right a) (k .right b)
   plain-right (or a b) = t-or (on (s .values) a) (on (s .values) b) (k .right a) (k .right b)

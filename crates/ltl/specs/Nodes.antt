@@ -8,7 +8,7 @@ use Rattle.meaning.specs.declared.Node.{Node}
 pub data Plain : Type 0 where
   falsum verum : Plain
   signal : ℕ → Plain
-  atLeast : ℕ → ℕ → Plain
+  atLeast : ℕ → ℕ → ℕ → Plain
   neg : ℕ → Plain
   and or implies iff xor : ℕ → ℕ → Plain
 
@@ -21,12 +21,12 @@ pub data Split : Type 0 where
   plain : Plain → Split
   temporal : Temporal → Split
 
--- the table of kinds: what the kind k with the operands a and b is, at index k
-abbrev pub kinds : ℕ → ℕ → List Split
-kinds a b =
+-- the table of kinds: what the kind k with the body bytes a and b and the upper count u is, at index k
+abbrev pub kinds : ℕ → ℕ → ℕ → List Split
+kinds a b u =
     plain falsum ∷ plain verum
     ∷ plain (signal a)
-    ∷ plain (atLeast a b)
+    ∷ plain (atLeast a b u)
     ∷ plain (neg a)
     ∷ plain (and a b) ∷ plain (or a b) ∷ plain (implies a b) ∷ plain (iff a b) ∷ plain (xor a b)
     ∷ temporal (next a)
@@ -34,7 +34,7 @@ kinds a b =
     ∷ temporal (eventually a) ∷ temporal (always a) ∷ []
 
 abbrev pub split : Node → Split
-split n = getD (kinds (n .a) (n .b)) (n .kind) (plain falsum)
+split n = getD (kinds (n .a) (n .b) (n .upper)) (n .kind) (plain falsum)
 
 abbrev pub splits : List Node → List Split
 splits ns = map split ns
@@ -54,7 +54,7 @@ abbrev pub plainFormula : List Formula → Plain → Formula
 plainFormula fs falsum = Formula.falsum
 plainFormula fs verum = Formula.verum
 plainFormula fs (signal s) = Formula.signal s
-plainFormula fs (atLeast m k) = Formula.atLeast m k
+plainFormula fs (atLeast m k u) = Formula.atLeast m k u
 plainFormula fs (neg a) = Formula.neg (operand fs a)
 plainFormula fs (and a b) = Formula.and (operand fs a) (operand fs b)
 plainFormula fs (or a b) = Formula.or (operand fs a) (operand fs b)

@@ -13,7 +13,7 @@ abbrev pub plainValue : ℕ → ℕ → Plain → Bool
 plainValue v e falsum = false
 plainValue v e verum = true
 plainValue v e (signal s) = on e s
-plainValue v e (atLeast m k) = leb k (countOn 4 m e)
+plainValue v e (atLeast m k u) = leb k (countOn 4 m e) && leb (countOn 4 m e) u
 plainValue v e (neg a) = not (on v a)
 plainValue v e (and a b) = on v a && on v b
 plainValue v e (or a b) = on v a || on v b

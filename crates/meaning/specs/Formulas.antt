@@ -7,7 +7,7 @@ use Rattle.meaning.specs.Traces.{Lasso, at}
 pub data Formula : Type 0 where
   falsum verum : Formula
   signal : ℕ → Formula
-  atLeast : ℕ → ℕ → Formula
+  atLeast : ℕ → ℕ → ℕ → Formula
   neg : Formula → Formula
   and or implies iff xor : Formula → Formula → Formula
   next : Formula → Formula
@@ -36,12 +36,13 @@ Eventually A i = Until (λ _. Unit {0}) A i
 
 -- The formula holds at position i of the trace whose events are w 0, w 1, ...
 -- "A signal holds at a position if it is on there. Propositional operators have their usual truth tables. 'Next a' holds where a holds one
--- position later. 'Always a' is 'not eventually not a'." "'At least' is true when at least k of the signals in the mask are on", of the four.
+-- position later. 'Always a' is 'not eventually not a'." "'At least' is true when at least k of the signals in the mask are on", of the four; with
+-- an upper count (document 02, C-12) "true when the count is at least k and at most the upper".
 abbrev pub Sat : (ℕ → ℕ) → Formula → ℕ → Type 0
 Sat w falsum i = ⊥
 Sat w verum i = Unit {0}
 Sat w (signal s) i = bit s (w i) ≡ 1
-Sat w (atLeast m k) i = k ≤ countOn 4 m (w i)
+Sat w (atLeast m k upper) i = (k ≤ countOn 4 m (w i)) × (countOn 4 m (w i) ≤ upper)
 Sat w (neg a) i = ¬ Sat w a i
 Sat w (and a b) i = Sat w a i × Sat w b i
 Sat w (or a b) i = Sat w a i ⊎ Sat w b i

@@ -31,7 +31,7 @@ formulaOf fs n =
     getD
     (falsum ∷ verum
     ∷ signal (n .a)
-    ∷ atLeast (n .a) (n .b)
+    ∷ atLeast (n .a) (n .b) (n .upper)
     ∷ neg a
     ∷ and a b ∷ or a b ∷ implies a b ∷ iff a b ∷ xor a b
     ∷ next a
@@ -56,9 +56,13 @@ propertyOf r ρ = Holds ρ 0 (ruleFormula r)
 
 -- ---- judgement
 
--- the length of a body, by kind
+-- the length of a body, by kind; that of an "at least" without its upper count
 abbrev pub bodyLength : ℕ → ℕ
 bodyLength k = getD (0 ∷ 0 ∷ 1 ∷ 2 ∷ 1 ∷ 2 ∷ 2 ∷ 2 ∷ 2 ∷ 2 ∷ 1 ∷ 2 ∷ 1 ∷ 1 ∷ []) k 0
+
+-- whether a record's length fits its kind: the kind's own two bytes and the body. C-12: "Kind 3 may now carry a third byte, the upper count"
+abbrev pub lengthFits : ℕ → ℕ → Bool
+lengthFits k l = eqb l (2 + bodyLength k) || (eqb k 3 && eqb l (2 + 3))
 
 -- how many of the body's bytes are operands
 abbrev pub operands : ℕ → ℕ
@@ -77,47 +81,56 @@ abbrev pub firstOf {ℓ} : {A : Type ℓ} → (Refusal → A) → List (Bool × 
 firstOf refuse [] x = x
 firstOf refuse (c ∷ cs) x = cond (c .0) (refuse (c .1)) (firstOf refuse cs x)
 
--- The record at place p of the bytes b, of a body length that its kind fixes.
+-- The record at place p of the bytes b, whose kind must be among those that may stand there and whose length must fit its kind.
 -- "Within one: fewer than two bytes left (1), length below 2 (2), fewer bytes than the length says (1), kind (3), length for the kind (2)"
-abbrev pub frameChecks : List ℕ → ℕ → Bool → ℕ → List (Bool × Refusal)
-frameChecks b p kindFits body =
+abbrev pub frameChecks : List ℕ → ℕ → Bool → Bool → List (Bool × Refusal)
+frameChecks b p kindFits fits =
     (ltb (length b - p) 2, Truncated p)
     ∷ (ltb (u16At b p) 2, WrongLength p)
     ∷ (ltb (length b - p) (2 + u16At b p), Truncated p)
     ∷ (not kindFits, WrongKind p)
-    ∷ (not (eqb (u16At b p) (2 + body)), WrongLength p)
+    ∷ (not fits, WrongLength p)
     ∷ []
 
 -- "The first record has kind 256 and body P, N": "P not 1 to 4", "N not 1 to 64"
 unfoldable pub headerOf : List ℕ → HeaderReading
 headerOf b =
     firstOf HeaderReading.Refused
-    (frameChecks b 0 (eqb (u16At b 2) 256) 2
+    (frameChecks b 0 (eqb (u16At b 2) 256) (eqb (u16At b 0) (2 + 2))
     ++ ((not (leb 1 (getD b 4 0) && leb (getD b 4 0) 4), WrongSignals)
     ∷ (not (leb 1 (getD b 5 0) && leb (getD b 5 0) 64), WrongCount)
     ∷ []))
     (HeaderReading.Header (record { signals = getD b 4 0; nodes = getD b 5 0 }))
 
+-- the upper count in the record at p, of this kind and length: "Two-byte bodies stay right and mean an upper count of 4."
+abbrev pub upperAt : List ℕ → ℕ → ℕ → ℕ → ℕ
+upperAt b p k l = cond (eqb k 3) (cond (eqb l (2 + 3)) (getD b (p + 6) 0) 4) 0
+
 -- the node whose record is at p: its kind, and the bytes of its body
 abbrev pub nodeAt : List ℕ → ℕ → Node
 nodeAt b p =
     let k = u16At b (p + 2) in
-    record { kind = k; a = cond (leb 1 (bodyLength k)) (getD b (p + 4) 0) 0; b = cond (leb 2 (bodyLength k)) (getD b (p + 5) 0) 0 }
+    record {
+      kind = k;
+      a = cond (leb 1 (bodyLength k)) (getD b (p + 4) 0) 0;
+      b = cond (leb 2 (bodyLength k)) (getD b (p + 5) 0) 0;
+      upper = upperAt b p k (u16At b p);
+    }
 
 -- "an operand not below the node's own number"
 abbrev pub operandsFit : ℕ → Node → Bool
 operandsFit number n = (leb (operands (n .kind)) 0 || ltb (n .a) number) && (leb (operands (n .kind)) 1 || ltb (n .b) number)
 
--- "signal: its number, below P"; "at least: mask m below 2^P, count k 0 to 4"
+-- "signal: its number, below P"; "at least: mask m below 2^P, count k 0 to 4"; C-12: "the upper count, 0 to 4", "7 covers the new byte"
 abbrev pub rangesFit : ℕ → Node → Bool
-rangesFit P n = (not (eqb (n .kind) 2) || ltb (n .a) P) && (not (eqb (n .kind) 3) || (ltb (n .a) (2 ^ P) && leb (n .b) 4))
+rangesFit P n = (not (eqb (n .kind) 2) || ltb (n .a) P) && (not (eqb (n .kind) 3) || (ltb (n .a) (2 ^ P) && leb (n .b) 4 && leb (n .upper) 4))
 
 -- the record at p, of the node with this number, after so many temporal ones: "then 4, 5, 6, 7, 8"
 unfoldable pub readingOf : List ℕ → ℕ → ℕ → ℕ → ℕ → Reading
 readingOf b P p number seen =
     let n = nodeAt b p in
     firstOf Reading.Refused
-    (frameChecks b p (leb (n .kind) 13) (bodyLength (n .kind))
+    (frameChecks b p (leb (n .kind) 13) (lengthFits (n .kind) (u16At b p))
     ++ ((not (operandsFit number n), WrongOperand p)
     ∷ (not (rangesFit P n), OutOfRange p)
     ∷ (temporal (n .kind) && leb 7 seen, EighthTemporal p)
@@ -129,12 +142,12 @@ pub data Judgement : Type 0 where
   Accepted : Rule → Judgement
   Refused : Refusal → Judgement
 
--- k more nodes, from p on, after those read; "After the last node: 9"
+-- k more nodes, from p on, after those read; a record's length counts "all that follows it in the record"; "After the last node: 9"
 unfoldable pub nodesFrom : ℕ → List ℕ → ℕ → ℕ → List Node → Judgement
 nodesFrom zero b P p earlier = cond (ltb p (length b)) (Refused (TrailingBytes p)) (Accepted (record { signals = P; nodes = earlier }))
 nodesFrom (suc k) b P p earlier =
     elim (readingOf b P p (length earlier) (temporals earlier)) [
-      | Reading.Node n ↦ nodesFrom k b P (p + 4 + bodyLength (n .kind)) (earlier ++ (n ∷ []))
+      | Reading.Node n ↦ nodesFrom k b P (p + 2 + u16At b p) (earlier ++ (n ∷ []))
       | Reading.Refused r ↦ Refused r
     ]
 

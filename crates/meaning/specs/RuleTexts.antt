@@ -34,8 +34,9 @@ kinds = 2 ∷ 2 ∷ 2 ∷ 2 ∷ 1 ∷ 0 ∷ 4 ∷ 10 ∷ 12 ∷ 13 ∷ 0 ∷ 0 �
 abbrev pub kindOf : ℕ → ℕ
 kindOf x = getD kinds x 0
 
+-- a node that is no "at least", of which a text has none
 abbrev pub node : ℕ → ℕ → ℕ → Node
-node kind a b = record { kind = kind; a = a; b = b }
+node kind a b = record { kind = kind; a = a; b = b; upper = 0 }
 
 -- "one node for each occurrence"
 unfoldable pub size : Tree → ℕ

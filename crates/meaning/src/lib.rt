@@ -78,11 +78,13 @@ impl Refusal {
     }
 }
 
-// A node of a rule file: its kind, and the bytes of its body, 0 where the body has none.
+// A node of a rule file: its kind, and the first two bytes of its body, 0 where the body has none. An "at least" has an upper count, which is 4
+// where its body does not say it; every other node has 0 there.
 pub struct Node {
     pub kind: u8,
     pub a: u8,
     pub b: u8,
+    pub upper: u8,
 }
 
 // What the first record of a rule file says.

@@ -38,7 +38,7 @@ promise-lane W Y F l v y f p q r = rw (p, q, r)
 
 -- what a node is if its kind is j
 abbrev kindAt : Node → ℕ → Split
-kindAt n j = getD (kinds (n .a) (n .b)) j (plain falsum)
+kindAt n j = getD (kinds (n .a) (n .b) (n .upper)) j (plain falsum)
 
 module _ (e a b x : ℕ) (n : Node) {r : Words} where
   -- the words of a node of kind j with the same operands
@@ -50,7 +50,7 @@ module _ (e a b x : ℕ) (n : Node) {r : Words} where
   no-kind h q = record {
     lane = λ v l m p s.
         ap (λ (w : Words). laneOf w l) q ∙ plain-lane 0 l false (on-zero l)
-        ∙ sym (ap (bitsOf v e (on x l)) (List·getD-eq-default (kinds (n .a) (n .b)) (plain falsum) h));
+        ∙ sym (ap (bitsOf v e (on x l)) (List·getD-eq-default (kinds (n .a) (n .b) (n .upper)) (plain falsum) h));
   }
 
   pub falsum-words : n .kind ≡ 0 → r ≡ plainWords 0 → Lanes e a b x n r
@@ -62,7 +62,7 @@ module _ (e a b x : ℕ) (n : Node) {r : Words} where
   pub signal-words : n .kind ≡ 2 → (W : ℕ) → Everywhere (on e (n .a)) W → r ≡ plainWords W → Lanes e a b x n r
   signal-words k W h q = by-kind 2 k q (λ v l m p s. plain-lane W l (on e (n .a)) (h .all l m))
 
-  pub at-least-words : n .kind ≡ 3 → (W : ℕ) → Everywhere (plainValue 0 e (atLeast (n .a) (n .b))) W → r ≡ plainWords W → Lanes e a b x n r
+  pub at-least-words : n .kind ≡ 3 → (W : ℕ) → Everywhere (plainValue 0 e (atLeast (n .a) (n .b) (n .upper))) W → r ≡ plainWords W → Lanes e a b x n r
   at-least-words k W h q = by-kind 3 k q (λ v l m p s. plain-lane W l _ (h .all l m))
 
   pub neg-words : n .kind ≡ 4 → (W : ℕ) → Flipped a W → r ≡ plainWords W → Lanes e a b x n r

@@ -86,7 +86,7 @@ pub fn node_words(event: u8, a: u64, b: u64, x: u64, n: Node) -> Words
         0 => plain(0),
         1 => plain(everywhere(true)),
         2 => plain(everywhere(signal_on(event, n.a))),
-        3 => plain(everywhere(at_least(event, n.a, n.b))),
+        3 => plain(everywhere(at_least(event, n.a, n.b, n.upper))),
         4 => plain(flip(a)),
         5 => plain(a & b),
         6 => plain(a | b),

@@ -6,10 +6,10 @@ use Prim.Native.Nat.{ℕ, zero, suc, _+_, _-_, _≤_, _<_}
 use native.Mathlib.Omega.{arith}
 use lib.ListN.{length, getD, take, length-append}
 use lib.Seq.{getD-append-add, length-take-le, append-snoc}
-use lib.Dec.{leb}
-use borrow.Author.Tests.{leb-true, le-ltb, le-leb, lt-leb, eq-eqb}
+use lib.Dec.{leb, eqb}
+use borrow.Author.Tests.{leb-true, eqb-true, le-ltb, le-leb, lt-leb}
 use Rattle.meaning.specs.Bytes.{u16At}
-use Rattle.meaning.specs.RuleFiles.{Rule, Accepted, bodyLength, operandsFit, rangesFit, temporal, temporals, firstOf, frameChecks, headerOf, nodeAt, readingOf, nodesFrom, judge}
+use Rattle.meaning.specs.RuleFiles.{Rule, Accepted, bodyLength, lengthFits, upperAt, operandsFit, rangesFit, temporal, temporals, firstOf, frameChecks, headerOf, nodeAt, readingOf, nodesFrom, judge}
 use Rattle.meaning.specs.RuleTexts.{nodeBytes, nodesBytes, ruleBytes, anyOutOfRange}
 use Rattle.meaning.specs.declared.Node.{Node}
 use Rattle.meaning.specs.declared.Refusal.{Refusal}
@@ -19,6 +19,7 @@ use Rattle.meaning.specs.declared.Reading.{Reading}
 use Rattle.meaning.specs.declared.Reading.the-variants as Reading
 use Rattle.rule_nodes.specs.Shapes.{nodeOf}
 use Rattle.rule_nodes.proofs.Shapes.{Each, within}
+use Rattle.rule_nodes.proofs.Fits.{length-own}
 use Rattle.rule_records.proofs.Checks.{Cleared, failsAt, first-none}
 use Rattle.rule_records.proofs.Records.{headerChecks}
 use Rattle.rule_file.proofs.Nodes.{temporals-more, nodes-more, nodes-end, judged}
@@ -63,6 +64,14 @@ second-byte zero a b rest h = sym (h (omega arith))
 second-byte (suc zero) a b rest h = sym (h (omega arith))
 second-byte (suc (suc m)) a b rest h = rw (le-leb 2 (suc (suc m)) (omega arith))
 
+-- the upper count in a record that has as many bytes as its kind asks for
+upper-none : (k x : ℕ) → cond (eqb k 3) (cond (eqb (2 + bodyLength k) 5) x 4) 0 ≡ cond (eqb k 3) 4 0
+upper-none k x = go (eqb k 3) refl
+  where
+    go : (t : Bool) → eqb k 3 ≡ t → cond t (cond (eqb (2 + bodyLength k) 5) x 4) 0 ≡ cond t 4 0
+    go true q = ap (λ (i : ℕ). cond (eqb (2 + bodyLength i) 5) x 4) (eqb-true k 3 q)
+    go false q = refl
+
 not-eighth : (t : Bool) (seen : ℕ) → seen + cond t 1 0 ≤ 7 → (t && leb 7 seen) ≡ false
 not-eighth true seen h = lt-leb 7 seen (omega arith)
 not-eighth false seen h = refl
@@ -89,13 +98,16 @@ module _ (front rest : List ℕ) (n : Node) where
     room = omega (arith, length-append front (nodeBytes n ++ rest), length-append (nodeBytes n) rest, node-length n (h .kind))
 
     node-back : nodeAt file (length front) ≡ n
-    node-back = ap (nodeOf file (length front)) kind-back ∙ (λ i. record { kind = n .kind; a = a i; b = b i })
+    node-back = ap₂ (nodeOf file (length front)) kind-back length-back ∙ (λ i. record { kind = n .kind; a = a i; b = b i; upper = upper i })
       where
         a : cond (leb 1 (bodyLength (n .kind))) (getD file (length front + 4) 0) 0 ≡ n .a
         a = rw (byte-back 4 (length front + 4) refl) (first-byte (bodyLength (n .kind)) (n .a) (n .b) rest (λ l. h .unused-a (omega arith)))
 
         b : cond (leb 2 (bodyLength (n .kind))) (getD file (length front + 5) 0) 0 ≡ n .b
         b = rw (byte-back 5 (length front + 5) refl) (second-byte (bodyLength (n .kind)) (n .a) (n .b) rest (λ l. h .unused-b (omega arith)))
+
+        upper : upperAt file (length front) (n .kind) (2 + bodyLength (n .kind)) ≡ n .upper
+        upper = upper-none (n .kind) (getD file (length front + 6) 0) ∙ sym (h .upper-unsaid)
 
     -- it is read as n where n has the number i, over P signals, after so many temporal nodes
     reading-back : (P seen : ℕ) → rangesFit P n ≡ true → seen + cond (temporal (n .kind)) 1 0 ≤ 7 → readingOf file P (length front) i seen ≡ Reading.Node n
@@ -111,7 +123,7 @@ module _ (front rest : List ℕ) (n : Node) where
               (
                 ap not (le-leb (n .kind) 13 (h .kind)),
                 (
-                  ap not (eq-eqb (u16At file p) (2 + bodyLength (n .kind)) length-back),
+                  ap not (sym (length-own (n .kind) (u16At file p) length-back)),
                   (ap not (h .operands), (ap not e, (not-eighth (temporal (n .kind)) seen l, tt))),
                 ),
               ),
@@ -124,7 +136,7 @@ module _ (front rest : List ℕ) (n : Node) where
 
         checks : Node → List (Bool × Refusal)
         checks m =
-            frameChecks file p (leb (m .kind) 13) (bodyLength (m .kind))
+            frameChecks file p (leb (m .kind) 13) (lengthFits (m .kind) (u16At file p))
             ++ ((not (operandsFit i m), WrongOperand p) ∷ (not (rangesFit P m), OutOfRange p) ∷ (temporal (m .kind) && leb 7 seen, EighthTemporal p) ∷ [])
 
 -- ---- all nodes
@@ -150,7 +162,8 @@ nodes-back P (n ∷ ns) front earlier h e l =
     let more : List ℕ = front ++ nodeBytes n in
     let later : List Node = earlier ++ (n ∷ []) in
     let number : suc (length earlier) ≡ length later = omega (arith, length-append earlier (n ∷ [])) in
-    let place : length front + 4 + bodyLength (n .kind) ≡ length more = omega (arith, length-append front (nodeBytes n), node-length n (h .0 .kind)) in
+    let place : length front + 2 + u16At (front ++ (nodeBytes n ++ nodesBytes ns)) (length front) ≡ length more =
+    omega (arith, length-back front (nodesBytes ns) n, length-append front (nodeBytes n), node-length n (h .0 .kind)) in
     nodes-more (front ++ (nodeBytes n ++ nodesBytes ns)) P (length front) earlier (length ns) n
     (reading-back front (nodesBytes ns) n (h .0) P (temporals earlier) (here .0) (omega arith))
     ∙ ap₂ (λ (b : List ℕ) (p : ℕ). nodesFrom (length ns) b P p later) (sym (append-assoc front (nodeBytes n) (nodesBytes ns))) place

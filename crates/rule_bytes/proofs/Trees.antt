@@ -6,7 +6,7 @@ use Prim.Native.Nat.{ℕ, zero, suc, _+_, _-_, _≤_, _<_}
 use native.Mathlib.Omega.{arith}
 use lib.ListN.{length, getD, length-append, List·getD-append}
 use lib.Seq.{getD-at}
-use lib.Dec.{ltb, leb}
+use lib.Dec.{ltb, leb, eqb}
 use borrow.Author.Tests.{leb-true, lt-ltb}
 use Rattle.meaning.specs.Formulas.{Formula, falsum, neg, next, eventually, always, until, and, xor, or, implies, iff}
 use Rattle.meaning.specs.RuleFiles.{bodyLength, operands, temporals, formulaOf, formulas, ruleFormula}
@@ -26,7 +26,7 @@ append-formed (x ∷ xs) ys k m e f g = (f .0, append-formed xs ys (suc k) m (om
 
 module _ (i : ℕ) where
   signal-formed : (a : ℕ) → Formed i (node 2 a 0)
-  signal-formed a = record { kind = omega arith; operands = refl; unused-a = λ l. absurd (omega arith); unused-b = λ l. refl }
+  signal-formed a = record { kind = omega arith; operands = refl; unused-a = λ l. absurd (omega arith); unused-b = λ l. refl; upper-unsaid = refl }
 
   leaf-formed : (x : ℕ) → x < 6 → Formed i (node (kindOf x) (cond (ltb x 4) x 0) 0)
   leaf-formed x h =
@@ -34,10 +34,10 @@ module _ (i : ℕ) where
       (signal-formed 0, (signal-formed 1, (signal-formed 2, (signal-formed 3, (true-formed, (false-formed, tt)))))) x (omega arith) (omega arith)
     where
       true-formed : Formed i (node 1 0 0)
-      true-formed = record { kind = omega arith; operands = refl; unused-a = λ l. refl; unused-b = λ l. refl }
+      true-formed = record { kind = omega arith; operands = refl; unused-a = λ l. refl; unused-b = λ l. refl; upper-unsaid = refl }
 
       false-formed : Formed i (node 0 0 0)
-      false-formed = record { kind = omega arith; operands = refl; unused-a = λ l. refl; unused-b = λ l. refl }
+      false-formed = record { kind = omega arith; operands = refl; unused-a = λ l. refl; unused-b = λ l. refl; upper-unsaid = refl }
 
   pre-formed : (x a : ℕ) → 6 ≤ x → x < 10 → a < i → Formed i (node (kindOf x) a 0)
   pre-formed x a l u h =
@@ -46,10 +46,11 @@ module _ (i : ℕ) where
         operands = rw (has .2, lt-ltb a i h);
         unused-a = λ m. absurd (omega (arith, has .1));
         unused-b = λ m. refl;
+        upper-unsaid = rw (has .3);
       }
     where
-      has : (leb (kindOf x) 13 ≡ true) × (bodyLength (kindOf x) ≡ 1) × (operands (kindOf x) ≡ 1)
-      has = within (λ x. (leb (kindOf x) 13 ≡ true) × (bodyLength (kindOf x) ≡ 1) × (operands (kindOf x) ≡ 1)) 6 4 (search depth 20) x l (omega arith)
+      has : (leb (kindOf x) 13 ≡ true) × (bodyLength (kindOf x) ≡ 1) × (operands (kindOf x) ≡ 1) × (eqb (kindOf x) 3 ≡ false)
+      has = within (λ x. (leb (kindOf x) 13 ≡ true) × (bodyLength (kindOf x) ≡ 1) × (operands (kindOf x) ≡ 1) × (eqb (kindOf x) 3 ≡ false)) 6 4 (search depth 20) x l (omega arith)
 
   bin-formed : (x a b : ℕ) → 12 ≤ x → x < 18 → a < i → b < i → Formed i (node (kindOf x) a b)
   bin-formed x a b l u h k =
@@ -58,10 +59,11 @@ module _ (i : ℕ) where
         operands = rw (has .2, lt-ltb a i h, lt-ltb b i k);
         unused-a = λ m. absurd (omega (arith, has .1));
         unused-b = λ m. absurd (omega (arith, has .1));
+        upper-unsaid = rw (has .3);
       }
     where
-      has : (leb (kindOf x) 13 ≡ true) × (bodyLength (kindOf x) ≡ 2) × (operands (kindOf x) ≡ 2)
-      has = within (λ x. (leb (kindOf x) 13 ≡ true) × (bodyLength (kindOf x) ≡ 2) × (operands (kindOf x) ≡ 2)) 12 6 (search depth 20) x l (omega arith)
+      has : (leb (kindOf x) 13 ≡ true) × (bodyLength (kindOf x) ≡ 2) × (operands (kindOf x) ≡ 2) × (eqb (kindOf x) 3 ≡ false)
+      has = within (λ x. (leb (kindOf x) 13 ≡ true) × (bodyLength (kindOf x) ≡ 2) × (operands (kindOf x) ≡ 2) × (eqb (kindOf x) 3 ≡ false)) 12 6 (search depth 20) x l (omega arith)
 
 pub nodes-formed : (t : Tree) (k : ℕ) → Signs t → AllFormed k (nodesOf k t)
 unfolding nodesOf

@@ -1,19 +1,21 @@
 -- The rules that a rule file can say.
 use mathlib.Core.Path.{_≡_}
 use mathlib.Core.List.{List, [], _∷_}
-use mathlib.Core.Bool.{true, false}
+use mathlib.Core.Bool.{true, false, cond}
 use Prim.Native.Nat.{ℕ, suc, _≤_, _<_}
 use lib.ListN.{length, getD}
+use lib.Dec.{eqb}
 use Rattle.meaning.specs.RuleFiles.{Rule, bodyLength, operandsFit, temporals}
 use Rattle.meaning.specs.RuleTexts.{node, anyOutOfRange}
 use Rattle.meaning.specs.declared.Node.{Node}
 
--- the node with number i: of a kind, with earlier nodes as operands, and 0 where its body has no byte
+-- the node with number i: of a kind, with earlier nodes as operands, and 0 where its body has no byte; as it is written, an "at least" says no upper count
 pub record Formed (i : ℕ) (n : Node) : Type 0 where
   pub kind : n .kind ≤ 13
   pub operands : operandsFit i n ≡ true
   pub unused-a : bodyLength (n .kind) < 1 → n .a ≡ 0
   pub unused-b : bodyLength (n .kind) < 2 → n .b ≡ 0
+  pub upper-unsaid : n .upper ≡ cond (eqb (n .kind) 3) 4 0
 
 -- each of the nodes, the first of them with number i
 abbrev pub AllFormed : ℕ → List Node → Type 0

@@ -12,7 +12,8 @@ use native.Mathlib.Omega.{arith}
 use borrow.Author.Tests.{lt-ltb, le-ltb}
 use lib.ListN.{length, set, replicate, length-append}
 use lib.Seq.{set-at, append-snoc}
-use Rattle.meaning.specs.RuleFiles.{Accepted, Refused, bodyLength, temporal, temporals, headerOf, readingOf, nodesFrom, judge}
+use Rattle.meaning.specs.Bytes.{u16At}
+use Rattle.meaning.specs.RuleFiles.{Accepted, Refused, temporal, temporals, headerOf, readingOf, nodesFrom, judge}
 use Rattle.meaning.specs.declared.Node.{Node}
 use Rattle.meaning.specs.declared.Header.{Header}
 use Rattle.meaning.specs.declared.Refusal.{Refusal}
@@ -20,6 +21,7 @@ use Rattle.meaning.specs.declared.Refusal.the-variants.{TrailingBytes}
 use Rattle.meaning.specs.declared.HeaderReading.the-variants as HeaderReading
 use Rattle.meaning.specs.declared.Reading.{Reading}
 use Rattle.meaning.specs.declared.Reading.the-variants as Reading
+use Rattle.rule_records.proofs.Records.{node-told}
 use Rattle.rule_file.specs.Reading.{blank, padded, readOf}
 use Rattle.rule_file.specs.declared.answer.Outcome.the-variants as Outcome
 
@@ -31,7 +33,7 @@ temporals-more (m ∷ ns) n = omega (arith, temporals-more ns n)
 
 module _ (b : List ℕ) (P p : ℕ) (earlier : List Node) where
   pub nodes-more : (k : ℕ) (n : Node) → readingOf b P p (length earlier) (temporals earlier) ≡ Reading.Node n
-      → nodesFrom (suc k) b P p earlier ≡ nodesFrom k b P (p + 4 + bodyLength (n .kind)) (earlier ++ (n ∷ []))
+      → nodesFrom (suc k) b P p earlier ≡ nodesFrom k b P (p + 2 + u16At b p) (earlier ++ (n ∷ []))
   unfolding nodesFrom
   nodes-more k n e = rw (e, nodesFrom)
 
@@ -65,7 +67,7 @@ pub record Progress (b : List ℕ) (P N : ℕ) (nodes : List Node) (p seen i : �
   pub signals : P ≤ 4
   pub room : N ≤ 64
   pub within : i ≤ N
-  pub near : p ≤ 6 + 259 * i
+  pub near : p ≤ 6 + 7 * i
   pub few : seen ≤ i
   pub temporal-are : seen ≡ temporals earlier
   pub array : nodes ≡ earlier ++ replicate (64 - i) blank
@@ -94,11 +96,12 @@ module _ {b : List ℕ} {P N : ℕ} where
     left : i < N → nodesFrom (suc (N - (i + 1))) b P p (h .earlier) ≡ nodesFrom N b P 6 []
     left l = ap (λ (k : ℕ). nodesFrom k b P p (h .earlier)) (omega arith) ∙ h .rest
 
-    -- a turn: the node n is stored at j, its body and whether it is temporal are counted
-    pub progress-more : (n : Node) (j body t : ℕ) → i < N → readingOf b P p i seen ≡ Reading.Node n → j ≡ i → body ≡ bodyLength (n .kind) → body < 256
-        → t ≡ cond (temporal (n .kind)) 1 0 → t ≤ 1 → Progress b P N (set nodes j n) (p + (4 + body)) (seen + t) (i + 1)
-    progress-more n j body t l e q u v w z =
+    -- a turn: the node n is stored at j, its record's length and whether it is temporal are counted
+    pub progress-more : (n : Node) (j size t : ℕ) → i < N → readingOf b P p i seen ≡ Reading.Node n → j ≡ i → size ≡ u16At b p
+        → t ≡ cond (temporal (n .kind)) 1 0 → t ≤ 1 → Progress b P N (set nodes j n) (p + (2 + size)) (seen + t) (i + 1)
+    progress-more n j size t l e q u w z =
         let ns = h .earlier in
+        let short : u16At b p ≤ 5 = node-told b P p i seen n e .length in
         record {
           earlier = ns ++ (n ∷ []);
           number = length-append ns (n ∷ []) ∙ omega (arith, h .number);

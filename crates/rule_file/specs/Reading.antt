@@ -13,7 +13,7 @@ use Rattle.rule_file.specs.declared.answer.Read.{Read}
 use Rattle.rule_file.specs.declared.answer.Outcome.the-variants as Outcome
 
 abbrev pub blank : Node
-blank = record { kind = 0; a = 0; b = 0 }
+blank = record { kind = 0; a = 0; b = 0; upper = 0 }
 
 -- the rule of the first `count` nodes
 abbrev pub ruleIn : ℕ → ℕ → List Node → Rule

@@ -12,7 +12,9 @@ use meaning::Refusal;
 use rule_nodes::shape_of;
 use rule_records::read_header;
 use rule_records::read_node;
+use wire::u16_at;
 use wire::wide;
+use wire::wide16;
 
 pub mod answer;
 
@@ -27,6 +29,7 @@ fn blanks() -> [Node; 64]
         kind: 0,
         a: 0,
         b: 0,
+        upper: 0,
     }; 64]
 }
 
@@ -90,7 +93,7 @@ pub fn read(bytes: &[u8]) -> Read
         };
         let shape = shape_of(node.kind);
         nodes[wide(i)] = node;
-        p += 4 + wide(shape.body);
+        p += 2 + wide16(u16_at(bytes, p));
         seen += counted(shape.temporal);
         i += 1;
     }

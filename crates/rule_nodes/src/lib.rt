@@ -3,12 +3,13 @@ ghost use mathlib.Core.Path.{_≡_};
 ghost use mathlib.Core.Bool.{not, _&&_};
 ghost use Prim.Native.Nat.{_≤_, _<_};
 ghost use lib.Dec.{leb};
-ghost use Rattle.meaning.specs.RuleFiles.{bodyLength, operands, operandsFit, rangesFit};
+ghost use Rattle.meaning.specs.RuleFiles.{bodyLength, lengthFits, upperAt, operands, operandsFit, rangesFit};
 ghost use Rattle.rule_nodes.specs.Shapes.{shape, shapeOf, nodeOf};
 use events::width;
 use meaning::Node;
 use wire::byte_at;
 use wire::wide;
+use wire::wide16;
 
 // ---- kinds
 
@@ -47,15 +48,46 @@ pub fn shape_of(kind: u8) -> Shape
     }
 }
 
+// Whether a record's length fits its kind, whose body has so many bytes; that of an "at least" may have one more.
+pub fn length_fits(kind: u8, body: u8, length: u16) -> bool
+    requires { ⌜ body ≡ bodyLength kind ⌝ }
+    ensures { λ r. ⌜ r ≡ lengthFits kind length ⌝ }
+{
+    if wide16(length) == 2 + wide(body) {
+        return true;
+    }
+    kind == 3 && length == 5
+}
+
 // ---- a node
 
-// The node whose record is at p, with as many bytes of its body as the kind has.
-pub fn node_at(b: &[u8], p: usize, kind: u8, body: u8) -> Node
-    requires { ⌜ (p < 65536) × (body ≡ bodyLength kind) ⌝ }
-    ensures { λ r. ⌜ r ≡ nodeOf (now (b .entry)) p kind ⌝ }
+// The upper count in the record at p, of this kind and length.
+fn upper_at(b: &[u8], p: usize, kind: u8, length: u16) -> u8
+    requires { ⌜ p < 65536 ⌝ }
+    ensures { λ r. ⌜ r ≡ upperAt (now (b .entry)) p kind length ⌝ }
 {
+    if kind != 3 {
+        return 0;
+    }
+    if length != 5 {
+        return 4;
+    }
+    byte_at(b, p + 6)
+}
+
+// The node whose record is at p, of this kind and length, with as many bytes of its body as the kind has.
+pub fn node_at(b: &[u8], p: usize, kind: u8, body: u8, length: u16) -> Node
+    requires { ⌜ (p < 65536) × (body ≡ bodyLength kind) ⌝ }
+    ensures { λ r. ⌜ r ≡ nodeOf (now (b .entry)) p kind length ⌝ }
+{
+    let upper = upper_at(b, p, kind, length);
     if body < 1 {
-        return Node { kind, a: 0, b: 0 };
+        return Node {
+            kind,
+            a: 0,
+            b: 0,
+            upper,
+        };
     }
     let first = byte_at(b, p + 4);
     if body < 2 {
@@ -63,6 +95,7 @@ pub fn node_at(b: &[u8], p: usize, kind: u8, body: u8) -> Node
             kind,
             a: first,
             b: 0,
+            upper,
         };
     }
     let second = byte_at(b, p + 5);
@@ -70,6 +103,7 @@ pub fn node_at(b: &[u8], p: usize, kind: u8, body: u8) -> Node
         kind,
         a: first,
         b: second,
+        upper,
     }
 }
 
@@ -90,7 +124,7 @@ pub fn wrong_operand(node: Node, count: u8, number: u8) -> bool
     number <= node.b
 }
 
-// Whether a signal, a mask or a count is out of range.
+// Whether a signal, a mask or one of two counts is out of range.
 pub fn out_of_range(node: Node, signals: u8) -> bool
     requires { ⌜ signals ≤ 4 ⌝ }
     ensures { λ r. ⌜ r ≡ not (rangesFit signals node) ⌝ }
@@ -102,10 +136,15 @@ pub fn out_of_range(node: Node, signals: u8) -> bool
     if kind != 3 {
         return false;
     }
+    let count = node.b;
+    let upper = node.upper;
     if width(signals) <= wide(node.a) {
         return true;
     }
-    4 < node.b
+    if 4 < count {
+        return true;
+    }
+    4 < upper
 }
 
 // Whether a node is the eighth temporal one.

@@ -1,20 +1,21 @@
 -- Laws of one record: what its frame tells, and what a reading that is no refusal tells.
 use mathlib.Core.Path.{_≡_, refl, sym, ap, ap₂, _∙_}
 use mathlib.Core.List.{List, [], _∷_, _++_}
-use mathlib.Core.Bool.{Bool, true, false, not, _&&_}
+use mathlib.Core.Bool.{Bool, true, false, not, _&&_, and-eq-true-iff}
 use Prim.Native.Nat.{ℕ, _+_, _-_, _≤_}
 use native.Mathlib.Omega.{arith}
-use borrow.Author.Tests.{leb-true, not-false}
+use borrow.Author.Tests.{leb-true, eqb-true, not-false}
 use lib.Dec.{ltb, leb, eqb}
 use lib.ListN.{length, getD, drop}
 use Rattle.meaning.specs.Bytes.{u16At}
-use Rattle.meaning.specs.RuleFiles.{bodyLength, temporal, operandsFit, rangesFit, firstOf, frameChecks, nodeAt, headerOf, readingOf}
+use Rattle.meaning.specs.RuleFiles.{bodyLength, lengthFits, temporal, operandsFit, rangesFit, firstOf, frameChecks, nodeAt, headerOf, readingOf}
 use Rattle.meaning.specs.declared.Node.{Node}
 use Rattle.meaning.specs.declared.Header.{Header}
 use Rattle.meaning.specs.declared.Refusal.{Refusal}
 use Rattle.meaning.specs.declared.Refusal.the-variants.{Truncated, WrongLength, WrongSignals, WrongCount, WrongOperand, OutOfRange, EighthTemporal}
 use Rattle.meaning.specs.declared.HeaderReading.the-variants as HeaderReading
 use Rattle.meaning.specs.declared.Reading.the-variants as Reading
+use Rattle.rule_nodes.proofs.Shapes.{within}
 use Rattle.rule_records.specs.Frames.{framedOf}
 use Rattle.rule_records.specs.declared.Framed.the-variants as Framed
 use Rattle.rule_records.proofs.Checks.{Cleared, cleared-append, first-refused, first-none, first-cleared, first-handed, failsAt, refusalAt}
@@ -22,7 +23,7 @@ use Rattle.rule_records.proofs.Checks.{Cleared, cleared-append, first-r
 -- the checks of the first record, and of a node's
 abbrev pub headerChecks : List ℕ → List (Bool × Refusal)
 headerChecks b =
-    frameChecks b 0 (eqb (u16At b 2) 256) 2
+    frameChecks b 0 (eqb (u16At b 2) 256) (eqb (u16At b 0) 4)
     ++ ((not (leb 1 (getD b 4 0) && leb (getD b 4 0) 4), WrongSignals)
     ∷ (not (leb 1 (getD b 5 0) && leb (getD b 5 0) 64), WrongCount)
     ∷ [])
@@ -30,7 +31,7 @@ headerChecks b =
 abbrev pub nodeChecks : List ℕ → ℕ → ℕ → ℕ → ℕ → List (Bool × Refusal)
 nodeChecks b P p number seen =
     let n = nodeAt b p in
-    frameChecks b p (leb (n .kind) 13) (bodyLength (n .kind))
+    frameChecks b p (leb (n .kind) 13) (lengthFits (n .kind) (u16At b p))
     ++ ((not (operandsFit number n), WrongOperand p)
     ∷ (not (rangesFit P n), OutOfRange p)
     ∷ (temporal (n .kind) && leb 7 seen, EighthTemporal p)
@@ -112,6 +113,17 @@ module _ (b : List ℕ) where
 
 -- ---- a node's record
 
+-- no record of a node is longer than an "at least" with its upper count
+short : (k l : ℕ) → k ≤ 13 → lengthFits k l ≡ true → l ≤ 5
+short k l h e = go (eqb l (2 + bodyLength k)) refl
+  where
+    body : bodyLength k ≤ 3
+    body = leb-true (bodyLength k) 3 (within (λ k. leb (bodyLength k) 3 ≡ true) 0 14 (search depth 20) k (omega arith) (omega arith))
+
+    go : (t : Bool) → eqb l (2 + bodyLength k) ≡ t → l ≤ 5
+    go true q = omega (arith, eqb-true l (2 + bodyLength k) q, body)
+    go false q = omega (arith, eqb-true l 5 (and-eq-true-iff (eqb k 3) (eqb l 5) .0 (rw q at e) .1))
+
 module _ (b : List ℕ) (P p number seen : ℕ) where
   abbrev checks : List (Bool × Refusal)
   checks = nodeChecks b P p number seen
@@ -131,13 +143,19 @@ module _ (b : List ℕ) (P p number seen : ℕ) where
   unfolding readingOf
   node-read f n e = ap Reading.Node e ∙ sym (first-none Reading.Refused (Reading.Node (nodeAt b p)) checks f)
 
-  pub node-kind : (n : Node) → readingOf b P p number seen ≡ Reading.Node n → n .kind ≤ 13
+  -- what a record that is read as n tells
+  pub record Told (n : Node) : Type 0 where
+    pub kind : n .kind ≤ 13
+    pub length : u16At b p ≤ 5
+
+  pub node-told : (n : Node) → readingOf b P p number seen ≡ Reading.Node n → Told n
   unfolding readingOf
-  node-kind n e =
+  node-told n e =
       let f = first-cleared Reading.Refused (Reading.Node (nodeAt b p)) (Reading.Node n) other checks e in
       let q = f .1 in
       let k : n .kind ≡ u16At b (p + 2) = cc in
-      omega (arith, leb-true (u16At b (p + 2)) 13 (not-false _ (f .0 .none 3 (omega arith))))
+      let few : u16At b (p + 2) ≤ 13 = leb-true (u16At b (p + 2)) 13 (not-false _ (f .0 .none 3 (omega arith))) in
+      record { kind = omega arith; length = short (u16At b (p + 2)) (u16At b p) few (not-false _ (f .0 .none 4 (omega arith))) }
     where
       other : (r : Refusal) → Reading.Refused r ≡ Reading.Node n → ⊥
       other r e = let z : _≡_ {A = ℕ} 0 1 = cc in omega arith

@@ -8,13 +8,13 @@ use meaning::HeaderReading;
 use meaning::Reading;
 use meaning::Refusal;
 use rule_nodes::eighth;
+use rule_nodes::length_fits;
 use rule_nodes::node_at;
 use rule_nodes::out_of_range;
 use rule_nodes::shape_of;
 use rule_nodes::wrong_operand;
 use wire::byte_at;
 use wire::u16_at;
-use wire::wide;
 use wire::wide16;
 
 // A record's length and kind, once it is known to lie within the bytes.
@@ -95,10 +95,10 @@ pub fn read_node(b: &[u8], signals: u8, p: usize, number: u8, seen: u8) -> Readi
         return Reading::Refused(Refusal::WrongKind(p));
     }
     let shape = shape_of(kind as u8);
-    if wide16(length) != 2 + wide(shape.body) {
+    if !length_fits(kind as u8, shape.body, length) {
         return Reading::Refused(Refusal::WrongLength(p));
     }
-    let node = node_at(b, p, kind as u8, shape.body);
+    let node = node_at(b, p, kind as u8, shape.body, length);
     if wrong_operand(node, shape.operands, number) {
         return Reading::Refused(Refusal::WrongOperand(p));
     }

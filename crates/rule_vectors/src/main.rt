@@ -20,6 +20,8 @@ fn print_node(node: Node) {
     print_number(node.a);
     io::write_all(STDOUT_FILENO, b".");
     print_number(node.b);
+    io::write_all(STDOUT_FILENO, b".");
+    print_number(node.upper);
 }
 
 fn print_nodes(nodes: [Node; 64], count: usize) {

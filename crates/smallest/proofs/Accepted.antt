@@ -8,7 +8,7 @@ use lib.ListN.{length, getD, length-append}
 use lib.Dec.{ltb, leb, eqb}
 use borrow.Author.Tests.{leb-true, leb-false, not-false}
 use Rattle.meaning.specs.Bytes.{u16At}
-use Rattle.meaning.specs.RuleFiles.{Rule, firstOf, frameChecks, headerOf, readingOf, Judgement, Accepted, Refused, bodyLength, temporal, temporals, nodeAt, operandsFit, rangesFit, nodesFrom, judge}
+use Rattle.meaning.specs.RuleFiles.{Rule, firstOf, frameChecks, headerOf, readingOf, Judgement, Accepted, Refused, lengthFits, temporal, temporals, nodeAt, operandsFit, rangesFit, nodesFrom, judge}
 use Rattle.meaning.specs.declared.Node.{Node}
 use Rattle.meaning.specs.declared.Header.{Header}
 use Rattle.meaning.specs.declared.Refusal.{Refusal}
@@ -44,7 +44,7 @@ and-true false b e = let z : _≡_ {A = ℕ} 0 1 = cc in absurd (omega arith)
 -- those of the first record
 abbrev headerChecks : List ℕ → List (Bool × Refusal)
 headerChecks b =
-    frameChecks b 0 (eqb (u16At b 2) 256) 2
+    frameChecks b 0 (eqb (u16At b 2) 256) (eqb (u16At b 0) 4)
     ++ ((not (leb 1 (getD b 4 0) && leb (getD b 4 0) 4), WrongSignals)
     ∷ (not (leb 1 (getD b 5 0) && leb (getD b 5 0) 64), WrongCount)
     ∷ [])
@@ -81,7 +81,7 @@ header-counts b h e =
 node-checks : (b : List ℕ) (P p number seen : ℕ) → List (Bool × Refusal)
 node-checks b P p number seen =
     let n = nodeAt b p in
-    frameChecks b p (leb (n .kind) 13) (bodyLength (n .kind))
+    frameChecks b p (leb (n .kind) 13) (lengthFits (n .kind) (u16At b p))
     ++ ((not (operandsFit number n), WrongOperand p)
     ∷ (not (rangesFit P n), OutOfRange p)
     ∷ (temporal (n .kind) && leb 7 seen, EighthTemporal p)
@@ -123,11 +123,11 @@ has-from zero b P p earlier r e l = go (ltb p (length b)) e
     go false e =
         let q : record { signals = P; nodes = earlier } ≡ r = cc in
         subst (Has P (0 + length earlier)) q (record { signals = refl; nodes = omega arith; temporal = l })
-has-from (suc k) b P p earlier r e l = go (readingOf b P p (length earlier) (temporals earlier)) refl (λ n. has-from k b P (p + 4 + bodyLength (n .kind)) (earlier ++ (n ∷ [])) r) e
+has-from (suc k) b P p earlier r e l = go (readingOf b P p (length earlier) (temporals earlier)) refl (λ n. has-from k b P (p + 2 + u16At b p) (earlier ++ (n ∷ [])) r) e
   where
     go : (x : Reading) → readingOf b P p (length earlier) (temporals earlier) ≡ x
-        → ((n : Node) → nodesFrom k b P (p + 4 + bodyLength (n .kind)) (earlier ++ (n ∷ [])) ≡ Accepted r → temporals (earlier ++ (n ∷ [])) ≤ 7 → Has P (k + length (earlier ++ (n ∷ []))) r)
-        → elim x as (λ _. Judgement) [ Reading.Node n ↦ nodesFrom k b P (p + 4 + bodyLength (n .kind)) (earlier ++ (n ∷ [])) | Reading.Refused r ↦ Refused r ] ≡ Accepted r → Has P (suc k + length earlier) r
+        → ((n : Node) → nodesFrom k b P (p + 2 + u16At b p) (earlier ++ (n ∷ [])) ≡ Accepted r → temporals (earlier ++ (n ∷ [])) ≤ 7 → Has P (k + length (earlier ++ (n ∷ []))) r)
+        → elim x as (λ _. Judgement) [ Reading.Node n ↦ nodesFrom k b P (p + 2 + u16At b p) (earlier ++ (n ∷ [])) | Reading.Refused r ↦ Refused r ] ≡ Accepted r → Has P (suc k + length earlier) r
     go (Reading.Node n) q ih e =
         let h = ih n e (rw (temporals-snoc earlier n) (node-temporal b P p (length earlier) (temporals earlier) n q l)) in
         let c : k + length (earlier ++ (n ∷ [])) ≡ suc k + length earlier = (let d = length-append earlier (n ∷ []) in omega arith) in

@@ -59,9 +59,19 @@ fn node_of(sign: u8, a: u8, b: u8) -> Node
 {
     let kind = kind_of(sign);
     if sign < 4 {
-        return Node { kind, a: sign, b };
+        return Node {
+            kind,
+            a: sign,
+            b,
+            upper: 0,
+        };
     }
-    Node { kind, a, b }
+    Node {
+        kind,
+        a,
+        b,
+        upper: 0,
+    }
 }
 
 // The nodes of the first `count` occurrences that were laid.
@@ -73,6 +83,7 @@ fn nodes_in(laid: &[u8], count: usize) -> [Node; 64]
         kind: 0,
         a: 0,
         b: 0,
+        upper: 0,
     }; 64];
     let mut i: usize = 0;
     while i < count {

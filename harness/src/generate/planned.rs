@@ -1,5 +1,6 @@
 //! Rules drawn to a plan, for what rules drawn freely hardly ever have.
 
+use oracle::random_rules::likely_count;
 use oracle::rng::Rng;
 use oracle::rule::{kind, FormulaNode, Rule};
 
@@ -60,9 +61,14 @@ struct Drawing {
 }
 
 impl Drawing {
-    /// The number of the new node.
+    /// The number of the new node, whose body has at most two bytes.
     fn add(&mut self, kind: u8, first: u8, second: u8) -> u8 {
-        self.nodes.push(FormulaNode::new(kind, first, second));
+        self.push(FormulaNode::new(kind, first, second))
+    }
+
+    /// The number of the new node.
+    fn push(&mut self, node: FormulaNode) -> u8 {
+        self.nodes.push(node);
         self.nodes.len() as u8 - 1
     }
 
@@ -71,8 +77,7 @@ impl Drawing {
         if rng.chance(85) {
             return self.add(kind::SIGNAL, rng.byte_below(self.signals.into()), 0);
         }
-        let mask = rng.byte_below(1 << self.signals);
-        self.add(kind::AT_LEAST, mask, rng.byte_below(1 + mask.count_ones() as usize))
+        self.push(likely_count(rng, self.signals))
     }
 
     /// A leaf or its negation.

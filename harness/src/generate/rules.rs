@@ -23,9 +23,9 @@ pub struct Rules {
 
 impl Rules {
     pub fn new(rng: &mut Rng) -> Self {
-        let good = [samples::document_rules(), samples::limit_rules()].concat();
+        let good = [samples::document_rules(), samples::limit_rules(), samples::count_rules()];
         let is_large = |rule: &Rule| temporal_count(&rule.nodes) > FEW_TEMPORAL;
-        let (large, known): (Vec<_>, Vec<_>) = good.into_iter().partition(is_large);
+        let (large, known): (Vec<_>, Vec<_>) = good.concat().into_iter().partition(is_large);
         let to_bytes = |rules: Vec<Rule>| rules.iter().map(Rule::to_bytes).collect();
         let starts = (0..8).flat_map(|_| rule_faults::starts(rng));
         let with_faults = starts.map(|start| (start.to_bytes(), rule_faults::node_faults(&start)));
@@ -137,8 +137,8 @@ fn random_records(rng: &mut Rng) -> Vec<u8> {
     let mut file = header_record(1 + rng.byte_below(4), count as u8);
     for number in 0..count {
         let kind = rng.between(0, if number < 2 { 5 } else { 14 }) as u16;
-        let right = BodyShape::of(kind).map_or(1, BodyShape::length);
-        let length = if rng.chance(97) { right } else { rng.between(0, 3) };
+        let right = BodyShape::of(kind).map_or(1, |shape| *rng.pick(shape.lengths()));
+        let length = if rng.chance(97) { right } else { rng.between(0, 4) };
         let body: Vec<u8> = (0..length).map(|_| rng.byte_below(number.max(2))).collect();
         file.extend(well_sized(kind, &body));
     }

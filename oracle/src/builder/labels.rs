@@ -160,7 +160,10 @@ fn propositional(node: FormulaNode, event: u8, a: LabelSet, b: LabelSet) -> Labe
         kind::FALSE => 0,
         kind::TRUE => LabelSet::MAX,
         kind::SIGNAL => all_if(event >> node.first & 1 != 0),
-        kind::AT_LEAST => all_if((event & node.first).count_ones() >= node.second.into()),
+        kind::AT_LEAST => {
+            let on = (event & node.first).count_ones() as u8;
+            all_if(node.second <= on && on <= node.upper())
+        }
         kind::NOT => !a,
         kind::AND => a & b,
         kind::OR => a | b,
@@ -215,5 +218,19 @@ fn add_column(row: &mut [u8; LABELS], count: usize, set: LabelSet, bit: usize) {
     let eights = row.as_chunks_mut::<8>().0.iter_mut().zip(set.to_le_bytes());
     for (eight, byte) in eights.take(count.div_ceil(8)) {
         *eight = (u64::from_le_bytes(*eight) | SPREAD[usize::from(byte)] << bit).to_le_bytes();
+    }
+}
+
+#[cfg(test)]
+mod tests {
+    use super::*;
+    use crate::vectors::rule_samples::COUNT_COLUMNS;
+
+    #[test]
+    fn at_least_counts_the_signals_of_the_mask() {
+        for (node, column) in COUNT_COLUMNS {
+            let found = [0, 1, 2, 3].map(|event| propositional(node, event, 0, 0));
+            assert_eq!(found, column.map(|bit| LabelSet::MAX * bit as LabelSet), "{node}");
+        }
     }
 }

@@ -182,7 +182,7 @@ fn a_failure_names_its_rule() {
     let (p3, p9) = (p3(), p9());
     let wrong = swapped(&built(&p9), 1, 2).to_bytes();
     let reason = certify_all(&[(&p3, built(&p3).to_bytes()), (&p9, wrong)]).unwrap_err();
-    assert!(reason.starts_with("rule 2 3: 2.0.0 2.1.0 11.0.1: "), "{reason}");
+    assert!(reason.starts_with("rule 2 3: 2.0.0.0 2.1.0.0 11.0.1.0: "), "{reason}");
     let summary = certify_all(&[(&p3, built(&p3).to_bytes())]).unwrap();
     assert_eq!(summary.rules(), 1);
 }

@@ -1,14 +1,16 @@
-//! The cases of the build stream: document 01's table of known rules, and rules
-//! made at random. The results of the known rules are written out by hand from
-//! the document, or, for seven nexts, counted; only the rows of the table with
-//! 244 states, and the lines of the random rules, come from certified tables.
+//! The cases of the build stream: document 01's table of known rules, document
+//! 02's counts between two bounds, and rules made at random. The results of the
+//! known rules are written out by hand from document 01, or, for seven nexts and
+//! the counts, counted; only the rows of the table with 244 states, and the lines
+//! of the random rules, come from certified tables.
 
 use super::build_answers::Answers;
 use super::build_samples;
+use super::rule_samples::{always, counted_until, flap_pair, longest_file};
 use super::rule_samples::{nexts, p12, p3, p9, rule, shared_nexts, NodeBytes, P, Q};
 use super::{append_counted, Case};
 use crate::certify::Summary;
-use crate::rule::{kind, Rule};
+use crate::rule::{kind, FormulaNode, Rule};
 
 /// A rule to build into an output of so many bytes and the events of a run over
 /// its table.
@@ -52,7 +54,7 @@ pub fn all() -> Result<(Vec<BuildCase>, Summary), String> {
     for case in known {
         let expected = answers.line(&case.question);
         if !case.is_answered_by(&expected) {
-            return Err(format!("document 01 has {:?}, and not {expected:?}", case.written));
+            return Err(format!("by hand it is {:?}, and not {expected:?}", case.written));
         }
         cases.push(BuildCase { question: case.question, expected });
     }
@@ -63,7 +65,7 @@ pub fn all() -> Result<(Vec<BuildCase>, Summary), String> {
     Ok((cases, answers.summary))
 }
 
-/// A known rule and what document 01 says of it.
+/// A known rule and what was written of it by hand.
 struct KnownCase {
     question: Question,
     written: Written,
@@ -93,12 +95,12 @@ fn case(rule: Rule, output: u16, events: &[u8], line: &str) -> KnownCase {
     KnownCase { question, written: Written::Line(line.to_string()) }
 }
 
-/// A rule whose table the document gives row by row, run on the empty list.
-fn known(rule: Rule, rows: &[&str], end: &str) -> KnownCase {
+/// A rule whose table is given row by row, run on the empty list.
+fn known(rule: Rule, rows: &[impl AsRef<str>], end: &str) -> KnownCase {
     let signals = rule.signals;
     let length = 7 + rows.len() * (5 + 2 * (1 << signals));
     let count = rows.len();
-    let rows: String = rows.iter().map(|row| format!(" | {row} ")).collect();
+    let rows: String = rows.iter().map(|row| format!(" | {} ", row.as_ref())).collect();
     let start = format!("built {length} signals {signals} states {count}");
     case(rule, ROOM, &[], &format!("{start}{rows} run state 0 {end} kept"))
 }
@@ -195,8 +197,151 @@ fn seven_nexts() -> KnownCase {
     let mut rows: Vec<String> =
         (0..7).map(|s| format!("{s} undecided {} {}", s + 1, s + 1)).collect();
     rows.extend(["7 undecided 8 9", "8 violated 8 8", "9 satisfied 9 9"].map(String::from));
-    let rows: Vec<&str> = rows.iter().map(String::as_str).collect();
     known(nexts(7), &rows, "undecided none")
+}
+
+/// always exactly one of two limit switches: both off and both on violate it
+fn flap_pairs() -> Vec<KnownCase> {
+    let table = "built 33 signals 2 states 2 | 0 undecided 1 0 0 1  | 1 violated 1 1 1 1 ";
+    let run = |events: &[u8], end| {
+        case(flap_pair(), 33, events, &format!("{table} run state {end} kept"))
+    };
+    vec![
+        run(&[], "0 undecided none"),
+        run(&[1, 2, 2, 1], "0 undecided none"),
+        run(&[1, 2, 0, 1], "1 violated 3"),
+        run(&[1, 3], "1 violated 2"),
+        case(flap_pair(), 32, &[], "refused 10 at 0 kept"),
+        case(always(2, FormulaNode::between(3, 1, 5)), ROOM, &[], "refused 7 at 6 kept"),
+    ]
+}
+
+/// A count of two signals under an always, of which some events violate it.
+fn always_of_two() -> Vec<KnownCase> {
+    let of = |mask, least, most, first| {
+        let rule = always(2, FormulaNode::between(mask, least, most));
+        known(rule, &[first, "1 violated 1 1 1 1"], "undecided none")
+    };
+    vec![
+        of(3, 0, 0, "0 undecided 0 1 1 1"),
+        of(3, 0, 1, "0 undecided 0 0 0 1"),
+        of(3, 1, 2, "0 undecided 1 0 0 0"),
+        of(3, 2, 2, "0 undecided 1 1 1 0"),
+        of(1, 0, 0, "0 undecided 0 1 0 1"),
+        of(2, 0, 0, "0 undecided 0 0 1 1"),
+        of(2, 1, 3, "0 undecided 1 1 0 0"),
+    ]
+}
+
+/// A count of two signals alone, with an upper count and without one.
+fn counts_of_two() -> Vec<KnownCase> {
+    let satisfied = |count| known(rule(2, &[count]), &["0 satisfied 0 0 0 0"], "satisfied 0");
+    let violated = |count| known(rule(2, &[count]), &["0 violated 0 0 0 0"], "violated 0");
+    let either = |count| {
+        let rows = ["0 undecided 1 2 2 2", "1 violated 1 1 1 1", "2 satisfied 2 2 2 2"];
+        known(rule(2, &[count]), &rows, "undecided none")
+    };
+    let at_least = |mask, least| FormulaNode::new(kind::AT_LEAST, mask, least);
+    let count = FormulaNode::between;
+    vec![
+        satisfied(at_least(3, 0)),
+        satisfied(count(3, 0, 4)),
+        satisfied(count(3, 0, 2)),
+        satisfied(count(0, 0, 0)),
+        violated(at_least(3, 3)),
+        violated(count(3, 3, 4)),
+        violated(count(3, 2, 1)),
+        violated(count(3, 4, 0)),
+        violated(count(0, 1, 0)),
+        either(at_least(3, 1)),
+        either(count(3, 1, 4)),
+        either(count(3, 1, 2)),
+    ]
+}
+
+/// A count that no event meets, until q: q.
+fn none_until_q() -> KnownCase {
+    let nodes = [FormulaNode::between(3, 2, 0), Q.into(), FormulaNode::new(kind::UNTIL, 0, 1)];
+    let rows = ["0 undecided 1 1 2 2", "1 violated 1 1 1 1", "2 satisfied 2 2 2 2"];
+    known(rule(2, &nodes), &rows, "undecided none")
+}
+
+/// The last node of the longest file: three or four of four signals.
+fn longest() -> KnownCase {
+    let rows = [
+        "0 undecided 1 1 1 1 1 1 1 2 1 1 1 2 1 2 2 2",
+        "1 violated 1 1 1 1 1 1 1 1 1 1 1 1 1 1 1 1",
+        "2 satisfied 2 2 2 2 2 2 2 2 2 2 2 2 2 2 2 2",
+    ];
+    known(longest_file(), &rows, "undecided none")
+}
+
+/// Counts below until and eventually, of three signals and of four.
+fn counts_of_more() -> Vec<KnownCase> {
+    let two_of_three = [FormulaNode::between(7, 2, 2), FormulaNode::new(kind::EVENTUALLY, 0, 0)];
+    let none_of_four = always(4, FormulaNode::between(15, 0, 0));
+    vec![
+        none_until_q(),
+        longest(),
+        known(
+            rule(3, &two_of_three),
+            &["0 undecided 0 0 0 1 0 1 1 0", "1 satisfied 1 1 1 1 1 1 1 1"],
+            "undecided none",
+        ),
+        known(
+            none_of_four,
+            &[
+                "0 undecided 0 1 1 1 1 1 1 1 1 1 1 1 1 1 1 1",
+                "1 violated 1 1 1 1 1 1 1 1 1 1 1 1 1 1 1 1",
+            ],
+            "undecided none",
+        ),
+        // From state 1 on, two or three are to be on until none is.
+        known(
+            counted_until(),
+            &[
+                "0 undecided 0 1 1 1 1 1 1 0 1 1 1 0 1 0 0 0",
+                "1 undecided 0 2 2 1 2 1 1 1 2 1 1 1 1 1 1 2",
+                "2 violated 2 2 2 2 2 2 2 2 2 2 2 2 2 2 2 2",
+            ],
+            "undecided none",
+        ),
+    ]
+}
+
+/// Every lower count of four signals alone, with every upper count and without one, which means 4.
+fn bare_counts_of_four() -> Vec<KnownCase> {
+    let of = |least| {
+        let without = bare_count_of_four(FormulaNode::new(kind::AT_LEAST, 15, least), least, 4);
+        let with = |most| bare_count_of_four(FormulaNode::between(15, least, most), least, most);
+        (0..=4).map(with).chain([without]).collect::<Vec<_>>()
+    };
+    (0..=4).flat_map(of).collect()
+}
+
+/// The first event decides, unless all events do the same.
+fn bare_count_of_four(node: FormulaNode, least: u8, most: u8) -> KnownCase {
+    let is_met = |event: u8| {
+        let on = event % 2 + event / 2 % 2 + event / 4 % 2 + event / 8 % 2;
+        least <= on && on <= most
+    };
+    let verdict = |met| if met { "satisfied" } else { "violated" };
+    let bare = rule(4, &[node]);
+    let first = is_met(0);
+    let like_the_first = (0..16).map(|event| is_met(event) == first);
+    if like_the_first.clone().all(|is_like| is_like) {
+        let row = format!("0 {}{}", verdict(first), " 0".repeat(16));
+        return known(bare, &[row], &format!("{} 0", verdict(first)));
+    }
+    // Event 0 leads to state 1, and the first event that does otherwise to state 2.
+    let successors: String =
+        like_the_first.map(|is_like| if is_like { " 1" } else { " 2" }).collect();
+    let rows = [
+        format!("0 undecided{successors}"),
+        format!("1 {}{}", verdict(first), " 1".repeat(16)),
+        format!("2 {}{}", verdict(!first), " 2".repeat(16)),
+    ];
+    known(bare, &rows, "undecided none")
 }
 
 fn limits() -> Vec<KnownCase> {
@@ -222,7 +367,10 @@ fn runs() -> Vec<KnownCase> {
 }
 
 fn known_rules() -> Vec<KnownCase> {
-    [one_signal(), two_signals(), limits(), runs()].into_iter().flatten().collect()
+    let document_01 = [one_signal(), two_signals(), limits(), runs()];
+    let counts = [flap_pairs(), always_of_two(), counts_of_two(), counts_of_more()];
+    let all = document_01.into_iter().chain(counts).flatten();
+    all.chain(bare_counts_of_four()).collect()
 }
 
 #[cfg(test)]
@@ -230,7 +378,7 @@ mod tests {
     use super::*;
 
     #[test]
-    fn known_rules_are_answered_as_document_01_says() {
+    fn known_rules_are_answered_as_is_written_by_hand() {
         let known = known_rules();
         let questions: Vec<&Question> = known.iter().map(|case| &case.question).collect();
         let answers = Answers::certified(&questions).unwrap();
@@ -238,7 +386,7 @@ mod tests {
             let line = answers.line(&case.question);
             assert!(case.is_answered_by(&line), "{:?} and not {line}", case.written);
         }
-        assert_eq!(answers.summary.rules(), 17);
+        assert_eq!(answers.summary.rules(), 17 + 55);
     }
 
     #[test]

@@ -51,6 +51,32 @@ fn random_output(rng: &mut Rng, rule: &Rule) -> u16 {
 #[cfg(test)]
 mod tests {
     use super::*;
+    use crate::rule::FormulaNode;
+
+    fn table(rule: &Rule) -> Option<Vec<u8>> {
+        let mut output = [0; ROOM as usize];
+        let length = builder::build(&rule.to_bytes(), &mut output).ok()?;
+        Some(output[..length].to_vec())
+    }
+
+    /// How many rules have an upper count of this sort without which their table is another.
+    fn rules_with_an_upper_count(is_it: impl Fn(FormulaNode) -> bool) -> usize {
+        let matters = |rule: &Rule, number: usize| {
+            let mut without = rule.clone();
+            let upper = without.nodes[number].third.take();
+            upper.is_some() && is_it(rule.nodes[number]) && table(rule) != table(&without)
+        };
+        let questions = random_questions();
+        let rules = questions.iter().map(|question| &question.rule);
+        rules.filter(|rule| (0..rule.nodes.len()).any(|number| matters(rule, number))).count()
+    }
+
+    #[test]
+    fn upper_counts_decide_the_tables_of_many_rules() {
+        assert!(rules_with_an_upper_count(|_| true) >= 300);
+        assert!(rules_with_an_upper_count(|node| node.second == 0) >= 200);
+        assert!(rules_with_an_upper_count(|node| node.second == node.upper()) >= 100);
+    }
 
     #[test]
     fn there_are_at_least_2000_different_rules() {

@@ -3,10 +3,10 @@
 use super::rule_faults::{self, Fault, RuleStart};
 use super::rule_samples as samples;
 use super::{append_counted, Case};
-use crate::record::{well_sized, Record};
+use crate::record::{claiming, well_sized, Record};
 use crate::refusal::Refusal;
 use crate::rng::Rng;
-use crate::rule::{header_record, BodyShape, Rule};
+use crate::rule::{header_record, kind, BodyShape, FormulaNode, Rule};
 
 const SEED: u64 = 0x5eed_0000_0000_0001;
 const LONGEST_FILE: usize = 4096;
@@ -42,6 +42,7 @@ pub fn all() -> Vec<RuleCase> {
     gathered.add_node_faults();
     gathered.add_double_faults();
     gathered.add_faults_in_two_records();
+    gathered.add_uncounted_bytes();
     gathered.add_trailing_bytes();
     gathered.add_missing_nodes();
     gathered.add_truncations();
@@ -91,7 +92,8 @@ impl RuleCases {
     }
 
     fn add_good_rules(&mut self) {
-        for rule in [samples::document_rules(), samples::limit_rules()].concat() {
+        let known = [samples::document_rules(), samples::limit_rules(), samples::count_rules()];
+        for rule in known.concat() {
             self.add_good(rule);
         }
         let place_of_the_eighth = samples::nexts(7).to_bytes().len();
@@ -132,9 +134,10 @@ impl RuleCases {
         for start in rule_faults::starts(&mut self.rng) {
             let late = rule_faults::late_operands(&start);
             let eighth = rule_faults::eighth_temporal(&start);
+            let counts = rule_faults::counts_out_of_range(&start);
             let doubles = rule_faults::double_faults(&start);
-            let some_late = late.into_iter().step_by(7);
-            for fault in some_late.chain(eighth).chain(doubles) {
+            let some = late.into_iter().chain(counts).step_by(7);
+            for fault in some.chain(eighth).chain(doubles) {
                 self.add_fault(&start.to_bytes(), &fault, &[]);
                 self.add_fault(&start.to_bytes(), &fault, &[0]);
             }
@@ -167,10 +170,30 @@ impl RuleCases {
         (first, self.rng.pick(&faults).clone())
     }
 
+    /// A byte behind an "at least" whose length says two is no upper count, and one that says three
+    /// takes the first byte of what follows it.
+    fn add_uncounted_bytes(&mut self) {
+        let at_least = |length, body: &[u8]| claiming(length, kind::AT_LEAST.into(), body);
+        let (one, two) = (header_record(2, 1), header_record(2, 2));
+        let (verum, signal) = (well_sized(1, &[]), well_sized(2, &[0]));
+        let counted = FormulaNode::between(3, 1, 1).to_record();
+        for upper in [0, 1, 4, 5] {
+            let long = at_least(4, &[3, 1, upper]);
+            self.add_refused([&one[..], &long].concat(), 9, 12);
+            self.add_refused([&two[..], &long, &verum].concat(), 1, 12);
+        }
+        let short = at_least(5, &[3, 1]);
+        self.add_refused([&one[..], &short, &verum].concat(), 9, 13);
+        self.add_refused([&two[..], &short, &signal].concat(), 1, 13);
+        self.add_refused([&two[..], &short, &counted].concat(), 7, 6);
+        self.add_refused([&one[..], &short].concat(), 1, 6);
+    }
+
     /// Refusal 9: one byte or many after the last node.
     fn add_trailing_bytes(&mut self) {
-        for _ in 0..30 {
-            let file = samples::random_short_rule(&mut self.rng, 20).to_bytes();
+        let mut rules = vec![samples::longest_file()];
+        rules.extend((0..30).map(|_| samples::random_short_rule(&mut self.rng, 20)));
+        for file in rules.iter().map(Rule::to_bytes) {
             let rest = self.random_bytes_up_to(40);
             for after in
                 [vec![0], vec![2], vec![255], well_sized(0, &[]), well_sized(14, &[0]), rest]
@@ -202,10 +225,11 @@ impl RuleCases {
         self.add_refused(header_record(4, 64), 1, 6);
     }
 
-    /// Every proper beginning of five files.
+    /// Every proper beginning of six files.
     fn add_truncations(&mut self) {
         let largest = samples::largest(&mut self.rng);
-        let rules = [samples::p3(), samples::p9(), samples::p12(), samples::all_kinds(), largest];
+        let known = [samples::p3(), samples::p9(), samples::p12(), samples::all_kinds()];
+        let rules = known.into_iter().chain([largest, samples::mixed_counts(5)]);
         for file in rules.map(|rule| rule.to_bytes()) {
             let starts = record_starts(&file);
             for length in 0..file.len() {
@@ -249,8 +273,8 @@ impl RuleCases {
     fn random_record(&mut self, number: usize) -> Vec<u8> {
         let limit = if number < 2 { 5 } else { 15 };
         let kind = self.rng.between(0, limit) as u16;
-        let right = BodyShape::of(kind).map_or(1, BodyShape::length);
-        let length = if self.rng.chance(97) { right } else { self.rng.between(0, 3) };
+        let right = BodyShape::of(kind).map_or(1, |shape| *self.rng.pick(shape.lengths()));
+        let length = if self.rng.chance(97) { right } else { self.rng.between(0, 4) };
         let body: Vec<u8> = (0..length).map(|_| self.rng.byte_below(number.max(2))).collect();
         well_sized(kind, &body)
     }
@@ -291,7 +315,42 @@ mod tests {
     #[test]
     fn p3_has_its_line() {
         let case = RuleCase { file: samples::p3().to_bytes() };
-        assert_eq!(case.expected_line(), "rule 1 1: 2.0.0");
+        assert_eq!(case.expected_line(), "rule 1 1: 2.0.0.0");
+    }
+
+    /// The bodies of the records of kind 3 by which a file is refused by this number, each with the
+    /// file's number of signals.
+    fn refused_counts(number: u8) -> Vec<(u8, Vec<u8>)> {
+        let refused = |case: RuleCase| {
+            let refusal =
+                Rule::read(&case.file).err().filter(|refusal| refusal.number == number)?;
+            let record = Record::read(&case.file, refusal.place).ok()?;
+            (record.kind == 3).then(|| (case.file[4], record.body.to_vec()))
+        };
+        all().into_iter().filter_map(refused).collect()
+    }
+
+    #[test]
+    fn upper_counts_alone_are_out_of_range_at_least_20_times() {
+        let refused = refused_counts(7);
+        for upper in [5, 6, 128, 255] {
+            let is_it = |(signals, body): &&(u8, Vec<u8>)| match body[..] {
+                [mask, least, most] => mask < 1 << signals && least <= 4 && most == upper,
+                _ => false,
+            };
+            assert!(refused.iter().filter(is_it).count() >= 20, "{upper}");
+        }
+        assert!(refused.iter().filter(|(_, body)| body.len() == 2).count() >= 20);
+    }
+
+    #[test]
+    fn every_wrong_length_of_a_count_is_met() {
+        let refused = refused_counts(2);
+        assert!(refused.len() >= 20);
+        for length in [0, 1, 4, 5, 258, 259] {
+            assert!(refused.iter().filter(|(_, body)| body.len() == length).count() >= 6);
+        }
+        assert!(refused.iter().all(|(_, body)| ![2, 3].contains(&body.len())));
     }
 
     #[test]

@@ -65,7 +65,7 @@ pub fn starts(rng: &mut Rng) -> Vec<RuleStart> {
 
 /// Refusal 1: the file ends here, before or within a record.
 pub fn cut_records() -> Vec<Fault> {
-    let records: [&[u8]; 15] = [
+    let records: [&[u8]; 20] = [
         &[],
         &[0],
         &[1],
@@ -76,10 +76,15 @@ pub fn cut_records() -> Vec<Fault> {
         &[3, 0, 2, 0],
         &[4, 0, 5, 0, 0],
         &[4, 0, 3, 0],
+        &[5, 0],
+        &[5, 0, 3, 0],
+        &[5, 0, 3, 0, 0],
+        &[5, 0, 3, 0, 0, 0],
         &[3, 0],
         &[0, 1, 0, 0],
         &[1, 1, 1, 0, 0, 0],
         &[4, 1, 5, 0, 0, 0],
+        &[5, 1, 3, 0, 0, 0, 0],
         &[255, 255, 0, 0, 0, 0],
     ];
     records.iter().map(|record| fault(1, record.to_vec())).collect()
@@ -94,8 +99,9 @@ pub fn wrong_lengths() -> Vec<Fault> {
         fault(2, vec![1, 0, 2, 0, 0]),
     ];
     for kind in 0..=13 {
-        let right = BodyShape::of(kind).map_or(0, BodyShape::length);
-        let wrong = [0, 1, 2, 3, 4, right + 256].into_iter().filter(|&length| length != right);
+        let shape = BodyShape::of(kind).expect("a node has this kind");
+        let same_low_byte = shape.lengths().iter().map(|right| right + 256);
+        let wrong = (0..=5).chain(same_low_byte).filter(|&length| !shape.fits(length));
         faults.extend(wrong.map(|length| fault(2, well_sized(kind, &vec![0; length]))));
     }
     // Lengths of 256 and 257 have low bytes below 2.
@@ -105,11 +111,11 @@ pub fn wrong_lengths() -> Vec<Fault> {
 
 /// Refusal 3: no node has the kind.
 pub fn unknown_kinds() -> Vec<Fault> {
-    let kinds =
-        [14, 15, 16, 255, HEADER_KIND, 257, 0x0102, 0x0200, 0x0201, 0x0d00, 0x0d0d, 0x8000, 65535];
+    let low = [14, 15, 16, 255];
+    let high = [257, 0x0102, 0x0103, 0x0200, 0x0201, 0x0300, 0x0303, 0x0d00, 0x0d0d, 0x8000, 65535];
     let mut faults = Vec::new();
-    for kind in kinds {
-        faults.extend((0..=2).map(|length| fault(3, well_sized(kind, &vec![0; length]))));
+    for kind in low.into_iter().chain([HEADER_KIND]).chain(high) {
+        faults.extend((0..=3).map(|length| fault(3, well_sized(kind, &vec![0; length]))));
     }
     faults
 }
@@ -134,15 +140,29 @@ pub fn late_operands(start: &RuleStart) -> Vec<Fault> {
 /// Refusal 7: signal, mask or count out of range.
 pub fn out_of_range(start: &RuleStart) -> Vec<Fault> {
     let signals = start.signals;
-    let full_mask = (1 << signals) - 1;
-    let at_least = |mask, count| fault(7, well_sized(kind::AT_LEAST.into(), &[mask, count]));
     let mut faults: Vec<Fault> = [signals, signals + 1, 128, 255]
         .map(|signal| fault(7, well_sized(kind::SIGNAL.into(), &[signal])))
         .to_vec();
-    faults.extend([full_mask + 1, full_mask + 2, 128, 255].map(|mask| at_least(mask, 1)));
-    faults.extend([5, 6, 128, 255].map(|count| at_least(full_mask, count)));
-    faults.extend([at_least(full_mask + 1, 5), at_least(255, 255), at_least(0, 5)]);
+    faults.extend(counts_out_of_range(start));
     faults
+}
+
+/// Refusal 7 of an "at least": mask, lower or upper count out of range, one or several of them, in
+/// bodies of both lengths.
+pub fn counts_out_of_range(start: &RuleStart) -> Vec<Fault> {
+    let full_mask = (1 << start.signals) - 1;
+    let mut bodies = vec![vec![full_mask + 1, 5], vec![255, 255], vec![0, 5]];
+    for mask in [full_mask + 1, full_mask + 2, 128, 255] {
+        bodies.extend([vec![mask, 1], vec![mask, 1, 1], vec![mask, 0, 4]]);
+    }
+    for count in [5, 6, 128, 255] {
+        bodies.extend([vec![full_mask, count], vec![full_mask, count, 4], vec![0, count, 0]]);
+        bodies.extend([0, 1, 4].map(|least| vec![full_mask, least, count]));
+        bodies.extend([vec![0, 0, count], vec![full_mask, count, count]]);
+        bodies.extend([vec![full_mask + 1, count, 4], vec![full_mask + 1, 0, count]]);
+        bodies.push(vec![255, count, count]);
+    }
+    bodies.iter().map(|body| fault(7, well_sized(kind::AT_LEAST.into(), body))).collect()
 }
 
 /// Refusal 8: a good temporal node after seven; none if there is still room.
@@ -179,16 +199,15 @@ pub fn double_faults(start: &RuleStart) -> Vec<Fault> {
         fault(1, claiming(5, kind::SIGNAL.into(), &[0])),
         fault(1, claiming(3, kind::TRUE.into(), &[])),
         fault(1, claiming(4, kind::AND.into(), &[late])),
-        fault(1, claiming(4, kind::AT_LEAST.into(), &[255])),
         fault(1, claiming(4, kind::UNTIL.into(), &[0])),
         // No known kind, and a length that no node has.
-        fault(3, well_sized(14, &[late; 3])),
+        fault(3, well_sized(14, &[late; 4])),
         fault(3, well_sized(HEADER_KIND, &[late; 9])),
-        // The wrong length, and signal, mask or count out of range.
+        // The wrong length, and a signal out of range.
         fault(2, well_sized(kind::SIGNAL.into(), &[255, 255])),
-        fault(2, well_sized(kind::AT_LEAST.into(), &[255])),
-        fault(2, well_sized(kind::AT_LEAST.into(), &[255, 255, 255])),
+        fault(2, well_sized(kind::SIGNAL.into(), &[255; 3])),
     ];
+    faults.extend(double_count_faults());
     // The wrong length, and a late operand; in a full start also too many temporal nodes.
     for kind in ONE_OPERAND {
         faults.push(fault(2, well_sized(kind.into(), &[late, late])));
@@ -198,6 +217,35 @@ pub fn double_faults(start: &RuleStart) -> Vec<Fault> {
         faults.push(fault(2, well_sized(kind.into(), &[late, late, late])));
     }
     faults
+}
+
+/// Two faults in one record of an "at least", or of a kind whose low byte is the same.
+fn double_count_faults() -> Vec<Fault> {
+    let at_least = kind::AT_LEAST.into();
+    vec![
+        // Too short a length, and mask and counts out of range.
+        fault(2, claiming(1, at_least, &[255; 3])),
+        // Fewer bytes than the length says, and out of range those that are there.
+        fault(1, claiming(4, at_least, &[255])),
+        fault(1, claiming(5, at_least, &[255])),
+        fault(1, claiming(5, at_least, &[255, 255])),
+        fault(1, claiming(5, at_least, &[0, 5])),
+        // Fewer bytes than the length says, which no "at least" has.
+        fault(1, claiming(3, at_least, &[])),
+        fault(1, claiming(6, at_least, &[0, 0, 0])),
+        fault(1, claiming(6, at_least, &[255; 3])),
+        fault(1, claiming(261, at_least, &[0, 0, 5])),
+        // No known kind, and mask and counts out of range.
+        fault(3, well_sized(0x0103, &[255; 2])),
+        fault(3, well_sized(0x0103, &[255; 3])),
+        fault(3, well_sized(0x0300, &[255; 4])),
+        // The wrong length, and mask or counts out of range.
+        fault(2, well_sized(at_least, &[255])),
+        fault(2, well_sized(at_least, &[255; 4])),
+        fault(2, well_sized(at_least, &[255; 5])),
+        fault(2, well_sized(at_least, &[0, 0, 5, 0])),
+        fault(2, well_sized(at_least, &[255; 259])),
+    ]
 }
 
 /// Every fault that a node record can have after this start.

@@ -1,20 +1,27 @@
-//! Good rules: those of document 01, those at the limits, and random ones.
+//! Good rules: those of document 01, those at the limits, those with counts between two
+//! bounds, and random ones.
 
+use crate::random_rules::any_count;
 use crate::rng::Rng;
-use crate::rule::{kind, temporal_count, FormulaNode, Rule, NODE_LIMIT, TEMPORAL_LIMIT};
+use crate::rule::{kind, temporal_count, BodyShape, FormulaNode, Rule};
+use crate::rule::{NODE_LIMIT, TEMPORAL_LIMIT};
 
 const TEMPORAL_KINDS: [u8; 4] = [kind::NEXT, kind::UNTIL, kind::EVENTUALLY, kind::ALWAYS];
 
 /// A node as kind, first and second body byte.
 pub type NodeBytes = (u8, u8, u8);
 
+impl From<NodeBytes> for FormulaNode {
+    fn from((kind, first, second): NodeBytes) -> Self {
+        FormulaNode::new(kind, first, second)
+    }
+}
+
 pub const P: NodeBytes = (kind::SIGNAL, 0, 0);
 pub const Q: NodeBytes = (kind::SIGNAL, 1, 0);
 
-pub fn rule(signals: u8, nodes: &[NodeBytes]) -> Rule {
-    let nodes =
-        nodes.iter().map(|&(kind, first, second)| FormulaNode::new(kind, first, second)).collect();
-    Rule { signals, nodes }
+pub fn rule(signals: u8, nodes: &[impl Into<FormulaNode> + Copy]) -> Rule {
+    Rule { signals, nodes: nodes.iter().map(|&node| node.into()).collect() }
 }
 
 pub fn p3() -> Rule {
@@ -109,7 +116,7 @@ pub fn limit_rules() -> Vec<Rule> {
     }
     for kind in kind::NOT..=kind::ALWAYS {
         let shape = FormulaNode::new(kind, 0, 0).shape();
-        let second = u8::from(shape.length() == 2);
+        let second = u8::from(shape == BodyShape::TwoOperands);
         rules.push(rule(1, &[P, P, (kind, 1, second)]));
     }
     for kind in TEMPORAL_KINDS {
@@ -117,6 +124,58 @@ pub fn limit_rules() -> Vec<Rule> {
         let mut nodes = vec![P; 7];
         nodes.extend([(kind, 6, second); TEMPORAL_LIMIT]);
         rules.push(rule(1, &nodes));
+    }
+    rules
+}
+
+/// always exactly one of p and q: document 02's pair of limit switches
+pub fn flap_pair() -> Rule {
+    always(2, FormulaNode::between(3, 1, 1))
+}
+
+pub fn always(signals: u8, node: FormulaNode) -> Rule {
+    rule(signals, &[node, FormulaNode::new(kind::ALWAYS, 0, 0)])
+}
+
+/// always (one or two of four signals implies next (two or three until none))
+pub fn counted_until() -> Rule {
+    let counts =
+        [(1, 2), (2, 3), (0, 0)].map(|(least, most)| FormulaNode::between(15, least, most));
+    let operators =
+        [(kind::UNTIL, 1, 2), (kind::NEXT, 3, 0), (kind::IMPLIES, 0, 4), (kind::ALWAYS, 5, 0)];
+    rule(4, &[counts.as_slice(), &operators.map(FormulaNode::from)].concat())
+}
+
+/// Three counts, each with a third byte where its bit of `order` is set, in front of nodes that
+/// use them: a reader that steps by one length for all of them loses its place.
+pub fn mixed_counts(order: u8) -> Rule {
+    let counts = [0, 1, 2].map(|place| match order >> place & 1 {
+        0 => FormulaNode::new(kind::AT_LEAST, 3, 1 + place % 2),
+        _ => FormulaNode::between(3, place % 2, 1),
+    });
+    let operators =
+        [(kind::NOT, 2, 0), (kind::UNTIL, 0, 1), (kind::OR, 3, 4), (kind::ALWAYS, 5, 0)];
+    rule(2, &[counts.as_slice(), &operators.map(FormulaNode::from)].concat())
+}
+
+/// The longest file: as many nodes as there may be, all of them counts with a third byte.
+pub fn longest_file() -> Rule {
+    let count = |number| FormulaNode::between(number % 16, number % 5, number / 7 % 5);
+    Rule { signals: 4, nodes: (0..NODE_LIMIT).map(count).collect() }
+}
+
+/// Every lower with every upper count, over this mask.
+fn all_bounds(mask: u8) -> impl Iterator<Item = FormulaNode> {
+    (0..25).map(move |pair| FormulaNode::between(mask, pair / 5, pair % 5))
+}
+
+/// Rules with counts between two bounds. Those of one node count all signals, or none.
+pub fn count_rules() -> Vec<Rule> {
+    let mut rules = vec![flap_pair(), counted_until(), longest_file()];
+    rules.extend((0..8).map(mixed_counts));
+    for signals in 1..=4 {
+        let counts = all_bounds((1 << signals) - 1).chain(all_bounds(0));
+        rules.extend(counts.map(|count| rule(signals, &[count])));
     }
     rules
 }
@@ -162,7 +221,7 @@ fn random_node(rng: &mut Rng, signals: u8, number: usize, temporal: bool) -> For
     let (first, second) = match kind {
         kind::FALSE | kind::TRUE => (0, 0),
         kind::SIGNAL => (rng.byte_below(signals.into()), 0),
-        kind::AT_LEAST => (rng.byte_below(1 << signals), rng.byte_below(5)),
+        kind::AT_LEAST => return any_count(rng, signals),
         kind::NOT | kind::NEXT | kind::EVENTUALLY | kind::ALWAYS => {
             (random_operand(rng, number), 0)
         }
@@ -177,6 +236,46 @@ fn random_operand(rng: &mut Rng, number: usize) -> u8 {
     rng.byte_below(number).max(nearest as u8)
 }
 
+/// Counts over two signals, and whether the events 0 to 3 meet them, by hand.
+#[cfg(test)]
+pub const COUNT_COLUMNS: [(FormulaNode, [u8; 4]); 28] = {
+    use FormulaNode as Node;
+    [
+        (Node::new(kind::AT_LEAST, 3, 0), [1, 1, 1, 1]),
+        (Node::new(kind::AT_LEAST, 0, 0), [1, 1, 1, 1]),
+        (Node::new(kind::AT_LEAST, 3, 1), [0, 1, 1, 1]),
+        (Node::new(kind::AT_LEAST, 3, 2), [0, 0, 0, 1]),
+        (Node::new(kind::AT_LEAST, 2, 1), [0, 0, 1, 1]),
+        (Node::new(kind::AT_LEAST, 3, 3), [0, 0, 0, 0]),
+        // Exactly so many.
+        (Node::between(3, 0, 0), [1, 0, 0, 0]),
+        (Node::between(3, 1, 1), [0, 1, 1, 0]),
+        (Node::between(3, 2, 2), [0, 0, 0, 1]),
+        (Node::between(3, 3, 3), [0, 0, 0, 0]),
+        // A lower count of 0 is not met by every event, if the upper count is low.
+        (Node::between(3, 0, 1), [1, 1, 1, 0]),
+        (Node::between(3, 0, 2), [1, 1, 1, 1]),
+        (Node::between(3, 0, 4), [1, 1, 1, 1]),
+        (Node::between(3, 1, 2), [0, 1, 1, 1]),
+        (Node::between(3, 1, 4), [0, 1, 1, 1]),
+        (Node::between(3, 3, 4), [0, 0, 0, 0]),
+        // An upper count below the lower one.
+        (Node::between(3, 1, 0), [0, 0, 0, 0]),
+        (Node::between(3, 2, 1), [0, 0, 0, 0]),
+        (Node::between(3, 4, 0), [0, 0, 0, 0]),
+        // One signal in the mask, or none.
+        (Node::between(1, 0, 0), [1, 0, 1, 0]),
+        (Node::between(2, 0, 0), [1, 1, 0, 0]),
+        (Node::between(1, 1, 1), [0, 1, 0, 1]),
+        (Node::between(2, 1, 1), [0, 0, 1, 1]),
+        (Node::between(2, 0, 1), [1, 1, 1, 1]),
+        (Node::between(1, 2, 4), [0, 0, 0, 0]),
+        (Node::between(0, 0, 0), [1, 1, 1, 1]),
+        (Node::between(0, 0, 4), [1, 1, 1, 1]),
+        (Node::between(0, 1, 1), [0, 0, 0, 0]),
+    ]
+};
+
 #[cfg(test)]
 mod tests {
     use super::*;
@@ -184,7 +283,8 @@ mod tests {
     #[test]
     fn every_good_rule_is_read_back() {
         let mut rng = Rng::new(11);
-        let mut rules = [document_rules(), limit_rules(), vec![largest(&mut rng)]].concat();
+        let mut rules = [document_rules(), limit_rules(), count_rules()].concat();
+        rules.push(largest(&mut rng));
         rules.extend((0..200).map(|_| random_rule(&mut rng)));
         for rule in rules {
             assert_eq!(Rule::read(&rule.to_bytes()), Ok(rule));
@@ -198,6 +298,11 @@ mod tests {
             let nodes = random_nodes(&mut rng, 2, count, TEMPORAL_LIMIT);
             assert_eq!(temporal_count(&nodes), TEMPORAL_LIMIT);
         }
+    }
+
+    #[test]
+    fn the_longest_file_has_454_bytes() {
+        assert_eq!(longest_file().to_bytes().len(), 454);
     }
 
     #[test]

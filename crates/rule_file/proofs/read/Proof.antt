@@ -9,7 +9,7 @@ use Rattle.meaning.specs.declared.HeaderReading.{HeaderReading}
 use Rattle.meaning.specs.declared.Reading.{Reading}
 use Rattle.rule_file.specs.Reading.{readOf, handedOnHeader, handedOn}
 use Rattle.rule_nodes.specs.declared.Shape.{Shape}
-use Rattle.rule_records.proofs.Records.{header-few, node-kind}
+use Rattle.rule_records.proofs.Records.{header-few, node-told}
 use Rattle.rule_file.proofs.Nodes.{Progress, judged, judged-refused, progress-none, progress-more, progress-refused, progress-over, progress-accepted}
 use Rattle.rule_file.proofs.read.Statement.{statement}
 use Rattle.rule_file.proofs.read.Tie as tie
@@ -68,7 +68,7 @@ shape-of-requires c κs =
     let at-read-node = c .before .before .before in
     let at-loop = at-read-node .before .before in
     let start = at-loop .before .before .before .before .before .before .before in
-    node-kind (now (start .args .bytes)) _ (at-loop .loop .p) (at-loop .loop .i) (at-loop .loop .seen) _ (sym (at-read-node .read-node .ensures) ∙ c .before .reading .given .1)
+    node-told (now (start .args .bytes)) _ (at-loop .loop .p) (at-loop .loop .i) (at-loop .loop .seen) _ (sym (at-read-node .read-node .ensures) ∙ c .before .reading .given .1) .kind
 
 wide-requires : tie.Need-wide-requires Inv-loop μ-loop
 wide-requires c κs = search needs
@@ -79,40 +79,45 @@ mul-nodes c = omega (arith, c .wide .ensures .1)
 array-set-from-nodes : tie.Need-array-set-from-nodes Inv-loop μ-loop
 array-set-from-nodes c = omega (arith, c .wide .ensures .0, c .before .before .before .before .before .before .loop-test .taken, c .before .before .before .before .before .before .before .loop .inv .room)
 
-wide-requires-2 : tie.Need-wide-requires-2 Inv-loop μ-loop
-wide-requires-2 c κs = search needs
+u16-at-requires : tie.Need-u16-at-requires Inv-loop μ-loop
+u16-at-requires c κs = let at-loop = c .before .before .before .before .before .before .before in omega (arith, at-loop .loop .inv .near, at-loop .loop .inv .within, at-loop .loop .inv .room)
+
+wide16-requires : tie.Need-wide16-requires Inv-loop μ-loop
+wide16-requires c κs = search needs
 
 add-p : tie.Need-add-p Inv-loop μ-loop
-add-p c = omega (arith, c .wide2 .ensures .1)
+add-p c = omega (arith, c .wide16 .ensures .1)
 
 add-p-2 : tie.Need-add-p-2 Inv-loop μ-loop
-add-p-2 c = omega (arith, c .wide2 .ensures .1, c .before .before .before .before .before .before .before .before .loop .inv .near, c .before .before .before .before .before .before .before .before .loop .inv .within, c .before .before .before .before .before .before .before .before .loop .inv .room)
+add-p-2 c = let at-loop = c .before .before .before .before .before .before .before .before .before in omega (arith, c .wide16 .ensures .1, at-loop .loop .inv .near, at-loop .loop .inv .within, at-loop .loop .inv .room)
 
 counted-requires : tie.Need-counted-requires Inv-loop μ-loop
 counted-requires c κs = search needs
 
 add-seen : tie.Need-add-seen Inv-loop μ-loop
-add-seen c = omega (arith, c .counted .ensures .1, c .before .before .before .before .before .before .before .before .before .loop .inv .few, c .before .before .before .before .before .before .before .before .before .loop .inv .within, c .before .before .before .before .before .before .before .before .before .loop .inv .room)
+add-seen c = let at-loop = c .before .before .before .before .before .before .before .before .before .before in omega (arith, c .counted .ensures .1, at-loop .loop .inv .few, at-loop .loop .inv .within, at-loop .loop .inv .room)
 
 add-i : tie.Need-add-i Inv-loop μ-loop
-add-i c = omega (arith, c .before .before .before .before .before .before .before .before .loop-test .taken, c .before .before .before .before .before .before .before .before .before .loop .inv .room)
+add-i c = let at-loop-test = c .before .before .before .before .before .before .before .before .before in omega (arith, at-loop-test .loop-test .taken, at-loop-test .before .loop .inv .room)
 
 loop-less : tie.Need-loop-less Inv-loop μ-loop
-loop-less c = omega (arith, c .before .before .before .before .before .before .before .before .loop-test .taken)
+loop-less c = omega (arith, c .before .before .before .before .before .before .before .before .before .loop-test .taken)
 
 loop-again : tie.Need-loop-again Inv-loop μ-loop
 loop-again c =
-    let at-wide = c .before .before in
+    let at-wide16 = c .before in
+    let at-u16-at = at-wide16 .before in
+    let at-wide = at-u16-at .before in
     let at-shape-of = at-wide .before in
     let at-reading = at-shape-of .before .before in
     let at-read-node = at-reading .before .before in
     let at-loop-test = at-read-node .before in
     let at-loop = at-loop-test .before in
     let found = sym (at-read-node .read-node .ensures) ∙ at-reading .reading .given .1 in
-    let body = c .before .wide2 .ensures .0 ∙ ap (λ (s : Shape). s .body) (at-shape-of .shape-of .ensures) in
+    let size = at-wide16 .wide16 .ensures .0 ∙ at-u16-at .u16-at .ensures in
     let temporal = c .counted .ensures .0 ∙ ap (λ (s : Shape). cond (s .temporal) 1 0) (at-shape-of .shape-of .ensures) in
-    progress-more (at-loop .loop .inv) (at-reading .reading .given .0 .0) (at-wide .wide .result) (c .before .wide2 .result) (c .counted .result)
-    (at-loop-test .loop-test .taken) found (at-wide .wide .ensures .0) body (c .before .wide2 .ensures .1) temporal (c .counted .ensures .1)
+    progress-more (at-loop .loop .inv) (at-reading .reading .given .0 .0) (at-wide .wide .result) (at-wide16 .wide16 .result) (c .counted .result)
+    (at-loop-test .loop-test .taken) found (at-wide .wide .ensures .0) size temporal (c .counted .ensures .1)
 
 refused-requires : tie.Need-refused-requires Inv-loop μ-loop
 refused-requires c κs = search needs
@@ -151,7 +156,8 @@ read-spec =
     wide-requires
     mul-nodes
     array-set-from-nodes
-    wide-requires-2
+    u16-at-requires
+    wide16-requires
     add-p
     add-p-2
     counted-requires

@@ -1,6 +1,6 @@
--- `rule_nodes::out_of_range` meets its contract. By the kind: a signal, a mask and a count, or neither.
+-- `rule_nodes::out_of_range` meets its contract. By the kind: a signal, a mask and two counts, or neither.
 use native.Mathlib.Omega.{arith}
-use Rattle.rule_nodes.proofs.Fits.{ranges-signal, ranges-other, ranges-mask, ranges-count}
+use Rattle.rule_nodes.proofs.Fits.{ranges-signal, ranges-other, ranges-mask, ranges-count, ranges-upper}
 use borrow.Author.Needs.{needs}
 use Rattle.rule_nodes.proofs.out_of_range.Statement.{statement}
 use Rattle.rule_nodes.proofs.out_of_range.Tie as tie
@@ -25,9 +25,21 @@ returns-3 c =
 
 returns-4 : tie.Need-returns-4
 returns-4 c =
-    let start = c .before .before .before .before .before .before in
-    ranges-count (start .args .signals) (start .args .node) (c .before .before .before .before .if2 .left)
-    (omega (arith, c .before .if3 .left, c .before .before .wide .ensures, c .before .before .before .width .ensures))
+    let at-if3 = c .before in
+    let at-wide = at-if3 .before in
+    let at-width = at-wide .before in
+    let start = at-width .before .before .before in
+    ranges-count (start .args .signals) (start .args .node) (at-width .before .if2 .left)
+    (omega (arith, at-if3 .if3 .left, at-wide .wide .ensures, at-width .width .ensures)) (omega (arith, c .if4 .taken))
+
+returns-5 : tie.Need-returns-5
+returns-5 c =
+    let at-if3 = c .before in
+    let at-wide = at-if3 .before in
+    let at-width = at-wide .before in
+    let start = at-width .before .before .before in
+    ranges-upper (start .args .signals) (start .args .node) (at-width .before .if2 .left)
+    (omega (arith, at-if3 .if3 .left, at-wide .wide .ensures, at-width .width .ensures)) (omega (arith, c .if4 .left))
 
 pub out-of-range-spec : {M : Type 1} → statement M
-out-of-range-spec = tie.close (tie.spec returns returns-2 width-requires wide-requires returns-3 returns-4)
+out-of-range-spec = tie.close (tie.spec returns returns-2 width-requires wide-requires returns-3 returns-4 returns-5)

@@ -1,14 +1,14 @@
 -- `rule_records::read_node` meets its contract. At each place so many checks are known not to fail; the next one refuses, or is known too.
 use native.Mathlib.Omega.{arith}
 use denote.Ref.{now}
-use mathlib.Core.Path.{_≡_, sym, ap, _∙_}
+use mathlib.Core.Path.{_≡_, sym, ap, ap₂, _∙_}
 use Prim.Native.Nat.{ℕ, _+_}
 use mathlib.Core.List.{List}
 use mathlib.Core.Bool.{Bool, true, not, _&&_}
 use lib.Dec.{leb}
-use borrow.Author.Tests.{le-leb, lt-leb, eq-eqb, ne-eqb}
+use borrow.Author.Tests.{le-leb, lt-leb}
 use Rattle.meaning.specs.Bytes.{u16At}
-use Rattle.meaning.specs.RuleFiles.{bodyLength, operands, operandsFit, rangesFit, nodeAt, readingOf}
+use Rattle.meaning.specs.RuleFiles.{lengthFits, operands, operandsFit, rangesFit, nodeAt, readingOf}
 use Rattle.meaning.specs.declared.Node.{Node}
 use Rattle.meaning.specs.declared.Refusal.{Refusal}
 use Rattle.meaning.specs.declared.Reading.{Reading}
@@ -54,31 +54,32 @@ cleared-4 c = cleared-more (cleared-3 (c .before)) (ap not (le-leb (kind (c .bef
 shape : (c : tie.After-shape-of) → c .shape-of .result ≡ shapeOf (kind (c .before .before))
 shape c = c .shape-of .ensures ∙ ap shapeOf (framed (c .before .before) .kind-is)
 
-cleared-5 : (c : tie.Else2) → Cleared (checks (c .before .before .before .before .before)) 5
+fits : (c : tie.After-length-fits) → c .length-fits .result ≡ lengthFits (kind (c .before .before .before)) (u16At (bytes (c .before .before .before)) (place (c .before .before .before)))
+fits c = let f = framed (c .before .before .before) in c .length-fits .ensures ∙ ap₂ lengthFits (f .kind-is) (f .length-is)
+
+cleared-5 : (c : tie.Else2) → Cleared (checks (c .before .before .before .before)) 5
 cleared-5 c =
-    let body = ap (λ (s : Shape). s .body) (shape (c .before .before .before)) in
-    cleared-more (cleared-4 (c .before .before .before .before))
-    (ap not (eq-eqb (u16At (bytes (c .before .before .before .before .before)) (place (c .before .before .before .before .before))) (2 + bodyLength (kind (c .before .before .before .before .before))) (omega (arith, c .if2 .left, c .before .before .wide16 .ensures .0, c .before .wide .ensures .0, framed (c .before .before .before .before .before) .length-is, body))))
+    cleared-more (cleared-4 (c .before .before .before)) (sym (ap not (fits (c .before))) ∙ c .if2 .left)
 
-node : (c : tie.After-node-at) → c .node-at .result ≡ nodeAt (bytes (c .before .before .before .before .before .before)) (place (c .before .before .before .before .before .before))
-node c = c .node-at .ensures ∙ ap (nodeOf (bytes (c .before .before .before .before .before .before)) (place (c .before .before .before .before .before .before))) (framed (c .before .before .before .before .before .before) .kind-is)
+node : (c : tie.After-node-at) → c .node-at .result ≡ nodeAt (bytes (c .before .before .before .before .before)) (place (c .before .before .before .before .before))
+node c = let f = framed (c .before .before .before .before .before) in c .node-at .ensures ∙ ap₂ (nodeOf (bytes (c .before .before .before .before .before)) (place (c .before .before .before .before .before))) (f .kind-is) (f .length-is)
 
-operand : (c : tie.After-wrong-operand) → c .wrong-operand .result ≡ failsAt (checks (c .before .before .before .before .before .before .before)) 5
-operand c = c .wrong-operand .ensures ∙ ap (λ (n : Node). not (operandsFit (c .before .before .before .before .before .before .before .before .before .before .before .before .args .number) n)) (node (c .before))
+operand : (c : tie.After-wrong-operand) → c .wrong-operand .result ≡ failsAt (checks (c .before .before .before .before .before .before)) 5
+operand c = c .wrong-operand .ensures ∙ ap (λ (n : Node). not (operandsFit (c .before .before .before .before .before .before .before .before .before .before .before .args .number) n)) (node (c .before))
 
-cleared-6 : (c : tie.Else3) → Cleared (checks (c .before .before .before .before .before .before .before .before)) 6
+cleared-6 : (c : tie.Else3) → Cleared (checks (c .before .before .before .before .before .before .before)) 6
 cleared-6 c = cleared-more (cleared-5 (c .before .before .before)) (sym (operand (c .before)) ∙ c .if3 .left)
 
-range : (c : tie.After-out-of-range) → c .out-of-range .result ≡ failsAt (checks (c .before .before .before .before .before .before .before .before .before)) 6
-range c = c .out-of-range .ensures ∙ ap (λ (n : Node). not (rangesFit (c .before .before .before .before .before .before .before .before .before .before .before .before .before .before .args .signals) n)) (node (c .before .before .before))
+range : (c : tie.After-out-of-range) → c .out-of-range .result ≡ failsAt (checks (c .before .before .before .before .before .before .before .before)) 6
+range c = c .out-of-range .ensures ∙ ap (λ (n : Node). not (rangesFit (c .before .before .before .before .before .before .before .before .before .before .before .before .before .args .signals) n)) (node (c .before .before .before))
 
-cleared-7 : (c : tie.Else4) → Cleared (checks (c .before .before .before .before .before .before .before .before .before .before)) 7
+cleared-7 : (c : tie.Else4) → Cleared (checks (c .before .before .before .before .before .before .before .before .before)) 7
 cleared-7 c = cleared-more (cleared-6 (c .before .before)) (sym (range (c .before)) ∙ c .if4 .left)
 
-count : (c : tie.After-eighth) → c .eighth .result ≡ failsAt (checks (c .before .before .before .before .before .before .before .before .before .before .before)) 7
-count c = c .eighth .ensures ∙ ap (λ (s : Shape). s .temporal && leb 7 (c .before .before .before .before .before .before .before .before .before .before .before .before .before .before .before .before .args .seen)) (shape (c .before .before .before .before .before .before .before .before .before))
+count : (c : tie.After-eighth) → c .eighth .result ≡ failsAt (checks (c .before .before .before .before .before .before .before .before .before .before)) 7
+count c = c .eighth .ensures ∙ ap (λ (s : Shape). s .temporal && leb 7 (c .before .before .before .before .before .before .before .before .before .before .before .before .before .before .before .args .seen)) (shape (c .before .before .before .before .before .before .before .before))
 
-cleared-8 : (c : tie.Else5) → Cleared (checks (c .before .before .before .before .before .before .before .before .before .before .before .before)) 8
+cleared-8 : (c : tie.Else5) → Cleared (checks (c .before .before .before .before .before .before .before .before .before .before .before)) 8
 cleared-8 c = cleared-more (cleared-7 (c .before .before)) (sym (count (c .before)) ∙ c .if5 .left)
 
 -- ---- the needs
@@ -110,52 +111,43 @@ cast-shape-of c = search needs
 shape-of-requires : tie.Need-shape-of-requires
 shape-of-requires c κs = search needs
 
-wide16-requires : tie.Need-wide16-requires
-wide16-requires c κs = search needs
+cast-length-fits : tie.Need-cast-length-fits
+cast-length-fits c = search needs
 
-wide-requires : tie.Need-wide-requires
-wide-requires c κs = search needs
-
-add-if2 : tie.Need-add-if2
-add-if2 c = search needs
+length-fits-requires : tie.Need-length-fits-requires
+length-fits-requires c κs = ap (λ (s : Shape). s .body) (c .shape-of .ensures)
 
 returns-3 : tie.Need-returns-3
-returns-3 c =
-    let at-wide16 = c .before .before in
-    let at-place = at-wide16 .before in
-    let at-place2 = at-place .before in
-    let at-place3 = at-place2 .before in
-    let body = ap (λ (s : Shape). s .body) (shape (at-place)) in
-    refused (at-place3) 4 (cleared-4 (at-place2)) (ap not (ne-eqb (u16At (bytes (at-place3)) (place (at-place3))) (2 + bodyLength (kind (at-place3))) (λ h. c .if2 .taken (omega (arith, h, at-wide16 .wide16 .ensures .0, c .before .wide .ensures .0, framed (at-place3) .length-is, body)))))
+returns-3 c = refused (c .before .before .before .before) 4 (cleared-4 (c .before .before .before)) (sym (ap not (fits (c .before))) ∙ c .if2 .taken)
 
 cast-node-at : tie.Need-cast-node-at
 cast-node-at c = search needs
 
 node-at-requires : tie.Need-node-at-requires
-node-at-requires c κs = (omega arith, ap (λ (s : Shape). s .body) (c .before .before .before .shape-of .ensures))
+node-at-requires c κs = (omega arith, ap (λ (s : Shape). s .body) (c .before .before .shape-of .ensures))
 
 wrong-operand-requires : tie.Need-wrong-operand-requires
-wrong-operand-requires c κs = ap (λ (s : Shape). s .operands) (c .before .before .before .before .shape-of .ensures) ∙ sym (ap (λ (n : Node). operands (n .kind)) (c .node-at .ensures))
+wrong-operand-requires c κs = ap (λ (s : Shape). s .operands) (c .before .before .before .shape-of .ensures) ∙ sym (ap (λ (n : Node). operands (n .kind)) (c .node-at .ensures))
 
 returns-4 : tie.Need-returns-4
-returns-4 c = refused (c .before .before .before .before .before .before .before .before) 5 (cleared-5 (c .before .before .before)) (sym (operand (c .before)) ∙ c .if3 .taken)
+returns-4 c = refused (c .before .before .before .before .before .before .before) 5 (cleared-5 (c .before .before .before)) (sym (operand (c .before)) ∙ c .if3 .taken)
 
 out-of-range-requires : tie.Need-out-of-range-requires
 out-of-range-requires c κs = search needs
 
 returns-5 : tie.Need-returns-5
-returns-5 c = refused (c .before .before .before .before .before .before .before .before .before .before) 6 (cleared-6 (c .before .before)) (sym (range (c .before)) ∙ c .if4 .taken)
+returns-5 c = refused (c .before .before .before .before .before .before .before .before .before) 6 (cleared-6 (c .before .before)) (sym (range (c .before)) ∙ c .if4 .taken)
 
 eighth-requires : tie.Need-eighth-requires
 eighth-requires c κs = search needs
 
 returns-6 : tie.Need-returns-6
-returns-6 c = refused (c .before .before .before .before .before .before .before .before .before .before .before .before) 7 (cleared-7 (c .before .before)) (sym (count (c .before)) ∙ c .if5 .taken)
+returns-6 c = refused (c .before .before .before .before .before .before .before .before .before .before .before) 7 (cleared-7 (c .before .before)) (sym (count (c .before)) ∙ c .if5 .taken)
 
 returns-7 : tie.Need-returns-7
 returns-7 c =
     let at-place = c .before .before .before .before .before .before in
-    let start = at-place .before .before .before .before .before .before .before .before .before .before .before in
+    let start = at-place .before .before .before .before .before .before .before .before .before .before in
     node-read (now (start .args .b)) (start .args .signals) (start .args .p) (start .args .number) (start .args .seen) (cleared-8 c) _ (node (at-place))
 
 pub read-node-spec : {M : Type 1} → statement M
@@ -170,9 +162,8 @@ read-node-spec =
     returns-2
     cast-shape-of
     shape-of-requires
-    wide16-requires
-    wide-requires
-    add-if2
+    cast-length-fits
+    length-fits-requires
     returns-3
     cast-node-at
     node-at-requires
