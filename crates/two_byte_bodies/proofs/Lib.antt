@@ -1,0 +1,4 @@
+pub mod Readings
+pub mod Meanings
+pub mod Tables
+pub mod Kept
