@@ -1,8 +1,9 @@
--- Every line of the table of known rules holds: the table is computed, and demands 2 and 3 do the rest.
+-- Every line of the table of known rules holds, and every one of the rules that count between two bounds: the table is computed, and demands 2 and 3 do the rest.
 use mathlib.Core.Path.{_≡_, refl}
 use mathlib.Core.List.{List, map, List·Memᴰ, List·Memᴰ·head, List·Memᴰ·tail}
 use Rattle.known_rules.specs.Files.{ruleFile, tableFile}
 use Rattle.known_rules.specs.Rules.{KnownRule, knownRules}
+use Rattle.known_rules.specs.Counted.{countedRules}
 use Rattle.known_rules.specs.Lines.{Line, TableOf}
 use Rattle.known_rules.proofs.Lines.{ruleIn, outcomeOf, found, expected, line, line-table}
 
@@ -20,6 +21,17 @@ equal-at f g c (List·Memᴰ·tail m) = equal-at f g (cc) m
 pub known : (k : KnownRule) → List·Memᴰ k knownRules → Line k
 known k m = line k (equal-at found expected computed m)
 
+-- the same of the rules that count between two bounds
+counts : map found countedRules ≡ map expected countedRules
+unfolding ruleFile tableFile ruleIn outcomeOf
+counts = refl
+
+pub counted : (k : KnownRule) → List·Memᴰ k countedRules → Line k
+counted k m = line k (equal-at found expected counts m)
+
 -- in particular of the formula alone
 pub known-table : (k : KnownRule) → List·Memᴰ k knownRules → TableOf k
 known-table k m = line-table (known k m)
+
+pub counted-table : (k : KnownRule) → List·Memᴰ k countedRules → TableOf k
+counted-table k m = line-table (counted k m)

@@ -1,4 +1,5 @@
+pub mod Counted
 pub mod Files
-pub mod Rules
 pub mod Further
 pub mod Lines
+pub mod Rules
