@@ -11,12 +11,12 @@
  *
  *   number  when                                                          place
  *   1       the rule file ends within a record or before its last node    start of that record
- *   2       a record's length is below 2, or not what its kind has        start of the record
+ *   2       a record's length is below 2, or does not fit its kind        start of the record
  *   3       the first kind is not 256, or a later one is above 13         start of the record
  *   4       the signals are not 1 to 4                                    0
  *   5       the nodes are not 1 to 64                                     0
  *   6       an operand is not below the node's own number                 start of the record
- *   7       a signal, mask or count is out of range                       start of the record
+ *   7       a signal, a mask or one of the two counts is out of range     start of the record
  *   8       an eighth temporal node                                       start of its record
  *   9       bytes after the last node                                     the first such byte
  *   10      the output is shorter than the table, the rule file, or the   0
@@ -50,7 +50,7 @@ extern "C" {
 #define TEFUJI_TEXT_ROOM 32768
 
 /* The longest rule file in bytes that tefuji_write writes: the header, 31 nodes with two operands, and 33 others, 64 in all. With as much
- * lent it never refuses by 10, whatever the text. (A rule file made otherwise, with shared nodes, may have up to 390.) */
+ * lent it never refuses by 10, whatever the text. (A rule file made otherwise may have up to 454, if each of 64 nodes counts between two bounds.) */
 #define TEFUJI_RULE_MAX 357
 
 /* A count of events that says "none". */
