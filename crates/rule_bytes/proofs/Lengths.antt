@@ -1,20 +1,29 @@
 -- How long rule files are. The file of a tree has five bytes or fewer for each node, and one more for each binary sign; of these there are fewer than
--- half of the nodes.
+-- half of the nodes. A file that is accepted has seven bytes or fewer for each node.
 use mathlib.Core.Path.{_≡_, refl, sym, ap, _∙_}
 use mathlib.Core.List.{List, [], _∷_, _++_, append-assoc, append-nil}
-use mathlib.Core.Bool.{true, cond}
-use Prim.Native.Nat.{ℕ, _+_, _-_, _*_, _≤_, _<_}
+use mathlib.Core.Bool.{Bool, true, false, cond}
+use Prim.Native.Nat.{ℕ, zero, suc, _+_, _-_, _*_, _≤_, _<_}
 use native.Mathlib.Omega.{arith}
 use lib.ListN.{length, length-append}
 use lib.Seq.{length-take-le}
 use lib.Dec.{ltb, leb}
-use borrow.Author.Tests.{leb-true}
-use Rattle.meaning.specs.RuleFiles.{Rule, bodyLength}
+use borrow.Author.Tests.{leb-true, ltb-false}
+use Rattle.meaning.specs.Bytes.{u16At}
+use Rattle.meaning.specs.RuleFiles.{Rule, bodyLength, temporals, headerOf, readingOf, Judgement, Accepted, Refused, nodesFrom, judge}
 use Rattle.meaning.specs.Grammar.{Tree, leaf, pre, bin}
 use Rattle.meaning.specs.RuleTexts.{kindOf, node, size, nodesOf, ruleOf, nodeBytes, nodesBytes, ruleBytes}
 use Rattle.meaning.specs.declared.Node.{Node}
+use Rattle.meaning.specs.declared.Refusal.the-variants.{TrailingBytes}
+use Rattle.meaning.specs.declared.HeaderReading.{HeaderReading}
+use Rattle.meaning.specs.declared.HeaderReading.the-variants as HeaderReading
+use Rattle.meaning.specs.declared.Reading.{Reading}
+use Rattle.meaning.specs.declared.Reading.the-variants as Reading
 use Rattle.rule_nodes.proofs.Shapes.{Each, within}
+use Rattle.rule_records.proofs.Records.{header-few, node-told}
+use Rattle.rule_file.proofs.Nodes.{judged, judged-refused}
 use Rattle.grammar.specs.Signs.{Signs}
+use Rattle.rule_bytes.specs.WellFormed.{longestAccepted}
 
 pub bytes-append : (ns ms : List Node) → nodesBytes (ns ++ ms) ≡ nodesBytes ns ++ nodesBytes ms
 unfolding nodesBytes
@@ -61,3 +70,30 @@ tree-bytes (bin x s t) k h =
 -- a file of 64 nodes has at most 357 bytes
 pub tree-file : (P : ℕ) (t : Tree) → Signs t → 2 * length (ruleBytes (ruleOf P t)) ≤ 11 * size t + 11
 tree-file P t h = omega (arith, file-length (ruleOf P t), tree-bytes t 0 h)
+
+-- ---- files that are accepted
+
+-- with k more nodes to read from p on
+accepted-from : (k : ℕ) (b : List ℕ) (P p : ℕ) (earlier : List Node) (r : Rule) → nodesFrom k b P p earlier ≡ Accepted r → length b ≤ p + 7 * k
+unfolding nodesFrom
+accepted-from zero b P p earlier r e = go (ltb p (length b)) refl e
+  where
+    go : (t : Bool) → ltb p (length b) ≡ t → cond t (Refused (TrailingBytes p)) (Accepted (record { signals = P; nodes = earlier })) ≡ Accepted r → length b ≤ p + 7 * 0
+    go true q e = let z : _≡_ {A = ℕ} 0 1 = cc in absurd (omega arith)
+    go false q e = omega (arith, ltb-false p (length b) q)
+accepted-from (suc k) b P p earlier r e =
+    go (readingOf b P p (length earlier) (temporals earlier)) refl (λ n. accepted-from k b P (p + 2 + u16At b p) (earlier ++ (n ∷ [])) r) e
+  where
+    go : (x : Reading) → readingOf b P p (length earlier) (temporals earlier) ≡ x
+        → ((n : Node) → nodesFrom k b P (p + 2 + u16At b p) (earlier ++ (n ∷ [])) ≡ Accepted r → length b ≤ p + 2 + u16At b p + 7 * k)
+        → elim x as (λ _. Judgement) [ Reading.Node n ↦ nodesFrom k b P (p + 2 + u16At b p) (earlier ++ (n ∷ [])) | Reading.Refused r ↦ Refused r ] ≡ Accepted r
+        → length b ≤ p + 7 * suc k
+    go (Reading.Node n) q ih e = omega (arith, ih n e, node-told b P p (length earlier) (temporals earlier) n q .length)
+    go (Reading.Refused y) q ih e = let z : _≡_ {A = ℕ} 0 1 = cc in absurd (omega arith)
+
+pub accepted-file : (b : List ℕ) (r : Rule) → judge b ≡ Accepted r → length b ≤ longestAccepted
+accepted-file b r e = go (headerOf b) refl
+  where
+    go : (x : HeaderReading) → headerOf b ≡ x → length b ≤ longestAccepted
+    go (HeaderReading.Header h) q = omega (arith, accepted-from (h .nodes) b (h .signals) 6 [] r (sym (judged b h q) ∙ e), header-few b h q .1)
+    go (HeaderReading.Refused y) q = let f = judged-refused b y q in let z : _≡_ {A = ℕ} 0 1 = cc in absurd (omega arith)

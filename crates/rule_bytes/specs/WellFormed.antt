@@ -2,7 +2,7 @@
 use mathlib.Core.Path.{_≡_}
 use mathlib.Core.List.{List, [], _∷_}
 use mathlib.Core.Bool.{true, false, cond}
-use Prim.Native.Nat.{ℕ, suc, _≤_, _<_}
+use Prim.Native.Nat.{ℕ, suc, _+_, _*_, _≤_, _<_}
 use lib.ListN.{length, getD}
 use lib.Dec.{eqb}
 use Rattle.meaning.specs.RuleFiles.{Rule, bodyLength, operandsFit, temporals}
@@ -21,6 +21,10 @@ pub record Formed (i : ℕ) (n : Node) : Type 0 where
 abbrev pub AllFormed : ℕ → List Node → Type 0
 AllFormed i [] = Unit {0}
 AllFormed i (n ∷ ns) = Formed i n × AllFormed (suc i) ns
+
+-- the bytes of the longest file that is accepted: the first record, and 64 nodes that are each an "at least" with its upper count
+abbrev pub longestAccepted : ℕ
+longestAccepted = 6 + 64 * 7
 
 -- each is of a kind that there is
 pub record KindsFit (ns : List Node) : Type 0 where

@@ -114,10 +114,10 @@ loop-again c =
     let at-loop-test = at-read-node .before in
     let at-loop = at-loop-test .before in
     let found = sym (at-read-node .read-node .ensures) ∙ at-reading .reading .given .1 in
-    let size = at-wide16 .wide16 .ensures .0 ∙ at-u16-at .u16-at .ensures in
     let temporal = c .counted .ensures .0 ∙ ap (λ (s : Shape). cond (s .temporal) 1 0) (at-shape-of .shape-of .ensures) in
     progress-more (at-loop .loop .inv) (at-reading .reading .given .0 .0) (at-wide .wide .result) (at-wide16 .wide16 .result) (c .counted .result)
-    (at-loop-test .loop-test .taken) found (at-wide .wide .ensures .0) size temporal (c .counted .ensures .1)
+    (at-loop-test .loop-test .taken) found (at-wide .wide .ensures .0)
+    (omega (arith, at-wide16 .wide16 .ensures .0, at-u16-at .u16-at .ensures)) temporal (c .counted .ensures .1)
 
 refused-requires : tie.Need-refused-requires Inv-loop μ-loop
 refused-requires c κs = search needs
