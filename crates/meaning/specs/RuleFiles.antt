@@ -84,12 +84,12 @@ firstOf refuse (c ∷ cs) x = cond (c .0) (refuse (c .1)) (firstOf refuse cs x)
 -- The record at place p of the bytes b, whose kind must be among those that may stand there and whose length must fit its kind.
 -- "Within one: fewer than two bytes left (1), length below 2 (2), fewer bytes than the length says (1), kind (3), length for the kind (2)"
 abbrev pub frameChecks : List ℕ → ℕ → Bool → Bool → List (Bool × Refusal)
-frameChecks b p kindFits fits =
+frameChecks b p kindFits sizeFits =
     (ltb (length b - p) 2, Truncated p)
     ∷ (ltb (u16At b p) 2, WrongLength p)
     ∷ (ltb (length b - p) (2 + u16At b p), Truncated p)
     ∷ (not kindFits, WrongKind p)
-    ∷ (not fits, WrongLength p)
+    ∷ (not sizeFits, WrongLength p)
     ∷ []
 
 -- "The first record has kind 256 and body P, N": "P not 1 to 4", "N not 1 to 64"
