@@ -3,7 +3,7 @@ use mathlib.Core.Path.{_≡_, refl}
 use mathlib.Core.List.{List, map, List·Memᴰ, List·Memᴰ·head, List·Memᴰ·tail}
 use Rattle.known_rules.specs.Files.{ruleFile, tableFile}
 use Rattle.known_rules.specs.Rules.{KnownRule, knownRules}
-use Rattle.known_rules.specs.Counted.{countedRules}
+use Rattle.known_rules.specs.Counted.{flapPair, countedRules}
 use Rattle.known_rules.specs.Lines.{Line, TableOf}
 use Rattle.known_rules.proofs.Lines.{ruleIn, outcomeOf, found, expected, line, line-table}
 
@@ -20,6 +20,11 @@ equal-at f g c (List·Memᴰ·tail m) = equal-at f g (cc) m
 -- "The lines marked P are proved of the meaning itself, gathered in one table under one theorem."
 pub known : (k : KnownRule) → List·Memᴰ k knownRules → Line k
 known k m = line k (equal-at found expected computed m)
+
+-- the flap pair's table, to the byte
+pub flap-pair : found flapPair .outcome ≡ expected flapPair .outcome
+unfolding ruleFile tableFile ruleIn outcomeOf
+flap-pair = refl
 
 -- the same of the rules that count between two bounds
 counts : map found countedRules ≡ map expected countedRules
