@@ -33,10 +33,10 @@ fn expand(
     n: usize,
     events: usize,
     keys: &mut [[u64; 4]; 256],
-    slots: &mut [u16; 1024],
+    slots: &mut [u8; 1024],
     count: usize,
     source: [u64; 4],
-    row: &mut [u16; 16],
+    row: &mut [u8; 16],
 ) -> Grown
     requires { ⌜ Steppable events n (now profiles) (keyOf (now full)) ⌝ }
     requires { ⌜ (events ≤ 16) × KeysFit count (now keys) × Slotted count (now keys) (now slots) × (length (now row) ≡ 16) ⌝ }
@@ -51,7 +51,7 @@ fn expand(
         let Entered::At(i, next) = entered else {
             return Grown::Full;
         };
-        row[e] = i as u16;
+        row[e] = i as u8;
         met = next;
         e += 1;
     }
@@ -59,7 +59,7 @@ fn expand(
 }
 
 // 256 rows of zeros.
-pub fn no_rows() -> [[u16; 16]; 256]
+pub fn no_rows() -> [[u8; 16]; 256]
     ensures { λ r. ⌜ length {A = List ℕ} r ≡ 256 ⌝ }
 {
     [[0; 16]; 256]
@@ -74,16 +74,16 @@ fn walk(
     events: usize,
     keys: &mut [[u64; 4]; 256],
     met: &mut u16,
-) -> [[u16; 16]; 256]
+) -> [[u8; 16]; 256]
     requires { ⌜ (events ≤ 16) × Steppable events n (now profiles) (keyOf (now full)) × KeysFit 1 (now keys) × (keyOf (getD (now keys) 0 []) ≡ startKey (tablesBy n (now profiles) (keyOf (now full)))) ⌝ }
     ensures { λ r. ⌜ WalkedAs (exploreBelow (tablesBy n (now (profiles .entry)) (keyOf (now (full .entry)))) events) events (now (keys .exit)) (now (met .exit)) r ⌝ }
 {
     let mut rows = no_rows();
-    let mut slots = first_slots(keys[0]);
+    let mut slots = first_slots();
     let mut count: usize = 1;
     let mut i: usize = 0;
     while i < count {
-        let mut row = [0u16; 16];
+        let mut row = [0u8; 16];
         let key = keys[i];
         let grown = expand(
             profiles,
@@ -144,7 +144,7 @@ pub fn explore(
     whole: &[bool; 256],
     states: &mut u16,
     classes: &mut [u8; 256],
-) -> [[u16; 16]; 256]
+) -> [[u8; 16]; 256]
     requires { ⌜ (signals ≤ 4) × (m ≤ 7) × Tabled (2 ^ signals) (2 ^ m) (now profiles) (now whole) ⌝ }
     requires { ⌜ length (now classes) ≡ 256 ⌝ }
     ensures { λ r. ⌜ Explores signals (tablesIn (2 ^ m) (now (profiles .entry)) (now (whole .entry))) (now (states .exit)) r (now (classes .exit)) ⌝ }

@@ -2,7 +2,7 @@
 use mathlib.Core.Path.{_≡_}
 use mathlib.Core.Bool.{true}
 use mathlib.Core.List.{List}
-use Prim.Native.Nat.{ℕ, zero, suc, _+_, _*_, _%_, _<_}
+use Prim.Native.Nat.{ℕ, zero, suc, _+_, _-_, _*_, _%_, _≤_, _<_}
 use lib.ListN.{length, getD}
 use Rattle.meaning.specs.Traces.{firstEvents}
 use Rattle.sequences.specs.Tabulate.{leastBelow}
@@ -17,14 +17,16 @@ mixed (suc n) f s = (mixed n f s * 5 + f n) % 1024
 abbrev pub slotOf : ℕ → List (List ℕ) → List ℕ → ℕ → ℕ
 slotOf w rows group i = mixed w (λ e. getD group (entry rows i e) 0) (getD group i 0 % 1024)
 
--- the slot of each state before i has a state before i
+-- the slots have states before i, or 0, and the slot of each of these states but state 0 has one other than 0
 pub record Slotted (i w : ℕ) (rows : List (List ℕ)) (group slots : List ℕ) : Type 0 where
   pub long : length slots ≡ 1024
-  pub met : (k : ℕ) → k < i → getD slots (slotOf w rows group k) 0 < i
+  pub low : (s : ℕ) → s < 1024 → getD slots s 0 ≤ i - 1
+  pub met : (k : ℕ) → 0 < k → k < i → 0 < getD slots (slotOf w rows group k) 0
 
--- j is before i if the round leaves any state before i with i
+-- j is a state before i, or 0, and not 0 if the round leaves any state before i but state 0 with i
 pub record InSlot (i w : ℕ) (rows : List (List ℕ)) (group : List ℕ) (j : ℕ) : Type 0 where
-  pub before : (k : ℕ) → k < i → sameStep (firstEvents w) rows group k i ≡ true → j < i
+  pub low : j ≤ i - 1
+  pub met : (k : ℕ) → 0 < k → k < i → sameStep (firstEvents w) rows group k i ≡ true → 0 < j
 
 -- next has for each state before i the least that the round leaves with it
 pub record LeftBelow (i w : ℕ) (rows : List (List ℕ)) (group next : List ℕ) : Type 0 where

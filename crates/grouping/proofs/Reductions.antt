@@ -15,9 +15,9 @@ use Rattle.moore.proofs.Counting.{count-le}
 use Rattle.moore.proofs.Grouping.{grouping-grouped, grouping-stable}
 use Rattle.moore.proofs.Quotient.{leader-in, number-in, number-start}
 use Rattle.group_slots.specs.Groups.{RowsBelow, Least}
-use Rattle.refinement.proofs.Laws.{taken-at, rows-fewer}
+use Rattle.refinement.proofs.Laws.{taken-at}
 use Rattle.refinement.proofs.Front.{front-at}
-use Rattle.grouping.specs.Machines.{ListBelow, Leaders, verdictAt, rowAt}
+use Rattle.grouping.specs.Machines.{Leaders, verdictAt, rowAt}
 use Rattle.grouping.specs.Reduction.{padded, Reduction}
 use Rattle.grouping.proofs.Front.{map-tabulate, size-front, leader-front, number-front, closed-front}
 
@@ -56,12 +56,6 @@ module _ {w n : ℕ} {rows : List (List ℕ)} {classes : List ℕ} (M : Machine 
 
     least-in : (q : ℕ) → q < r → getD least q 0 < n
     least-in q l = subst (λ (s : ℕ). s < n) (sym (least-is q l)) (leader-in M G S q (subst (λ (k : ℕ). q < k) count-is l))
-
-    pub leaders-in : n ≤ 256 → ListBelow r w 256 rows least
-    leaders-in h = record {
-      state = λ q l. let x = least-in q l in omega arith;
-      row = λ q l. rows-fewer n 256 (rows-in M) (omega arith) h .row (getD least q 0) (least-in q l);
-    }
 
     leaders-some : 0 < r
     leaders-some = subst (λ (k : ℕ). 0 < k) (sym count-is) (subst (λ (q : ℕ). q < size n front) (number-start M G S) (number-in M G S 0 (M .some)))

@@ -1,19 +1,13 @@
--- What making the machine of the groups asks of the arrays that it is given, and what it computes of one state.
+-- The least states of the groups, and what making the machine of the groups computes of one state.
 use mathlib.Core.Path.{_≡_}
-use mathlib.Core.List.{List, []}
+use mathlib.Core.List.{List}
 use Prim.Native.Nat.{ℕ, _<_}
 use lib.ListN.{getD}
 use Rattle.sequences.specs.Tabulate.{tabulate}
 use Rattle.meaning.specs.Traces.{Alphabet}
 use Rattle.moore.specs.Grouping.{entry}
 use Rattle.moore.specs.Quotient.{leader, size, closed, verdictByte}
-use Rattle.group_slots.specs.Groups.{RowBelow}
 use Rattle.grouping.specs.Reduction.{padded}
-
--- the first k states of a list are below n, and so are the first w successors of each
-pub record ListBelow (k w n : ℕ) (rows : List (List ℕ)) (list : List ℕ) : Type 0 where
-  pub state : (q : ℕ) → q < k → getD list q 0 < n
-  pub row : (q : ℕ) → q < k → RowBelow w n (getD rows (getD list q 0) [])
 
 -- r groups, with the least state of each in ascending order
 pub record Leaders (n : ℕ) (group : List ℕ) (r : ℕ) (least : List ℕ) : Type 0 where

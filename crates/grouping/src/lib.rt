@@ -9,36 +9,37 @@ ghost use Rattle.meaning.specs.Traces.{over, firstEvents};
 ghost use Rattle.moore.specs.Counting.{countBelow};
 ghost use Rattle.moore.specs.Grouping.{Machine, leads};
 ghost use Rattle.moore.specs.Quotient.{number, closed};
-ghost use Rattle.group_slots.specs.Groups.{RowBelow, Least};
-ghost use Rattle.grouping.specs.Machines.{ListBelow, Leaders, verdictAt, rowAt};
+ghost use Rattle.group_slots.specs.Groups.{Least};
+ghost use Rattle.grouping.specs.Machines.{Leaders, verdictAt, rowAt};
 ghost use Rattle.grouping.specs.Reduction.{Reduction};
 use events::width;
 use group_slots::joined;
 use group_slots::successor;
 use refinement::groups;
+use wire::wide;
 use wire::wide16;
 
 // How many groups are met once a state is: one more if it is the least of its group.
-fn counted(group: &[u16; 256], i: usize, count: usize) -> usize
+fn counted(group: &[u8; 256], i: usize, count: usize) -> usize
     requires { ⌜ (i < 256) × (count ≤ i) ⌝ }
     ensures { λ r. ⌜ r ≡ cond (leads (now (group .entry)) i) (count + 1) count ⌝ }
 {
-    if wide16(group[i]) == i {
+    if wide(group[i]) == i {
         return count + 1;
     }
     count
 }
 
 // How many groups have a least state below each state.
-fn ranks(group: &[u16; 256], states: usize) -> [u16; 256]
+fn ranks(group: &[u8; 256], states: usize) -> [u8; 256]
     requires { ⌜ states ≤ 256 ⌝ }
     ensures { λ r. ⌜ take states r ≡ tabulate states (λ i. countBelow i (leads (now (group .entry)))) ⌝ }
 {
-    let mut rank = [0u16; 256];
+    let mut rank = [0u8; 256];
     let mut below: usize = 0;
     let mut i: usize = 0;
     while i < states {
-        rank[i] = below as u16;
+        rank[i] = below as u8;
         below = counted(group, i, below);
         i += 1;
     }
@@ -46,16 +47,16 @@ fn ranks(group: &[u16; 256], states: usize) -> [u16; 256]
 }
 
 // The number of the group of each state: how many groups have a lower least state.
-fn numbers(group: &[u16; 256], states: usize) -> [u16; 256]
+fn numbers(group: &[u8; 256], states: usize) -> [u8; 256]
     requires { ⌜ states ≤ 256 ⌝ }
     requires { ⌜ Least states (now group) ⌝ }
     ensures { λ r. ⌜ take states r ≡ tabulate states (number (now (group .entry))) ⌝ }
 {
     let rank = ranks(group, states);
-    let mut out = [0u16; 256];
+    let mut out = [0u8; 256];
     let mut i: usize = 0;
     while i < states {
-        let g = wide16(group[i]);
+        let g = wide(group[i]);
         out[i] = rank[g];
         i += 1;
     }
@@ -63,14 +64,14 @@ fn numbers(group: &[u16; 256], states: usize) -> [u16; 256]
 }
 
 // Lists the least states of the groups.
-fn list_leaders(group: &[u16; 256], states: usize, least: &mut [u16; 256]) -> usize
+fn list_leaders(group: &[u8; 256], states: usize, least: &mut [u8; 256]) -> usize
     requires { ⌜ (states ≤ 256) × (length (now least) ≡ 256) ⌝ }
     ensures { λ r. ⌜ Leaders states (now (group .entry)) r (now (least .exit)) ⌝ }
 {
     let mut count: usize = 0;
     let mut i: usize = 0;
     while i < states {
-        least[count] = i as u16;
+        least[count] = i as u8;
         count = counted(group, i, count);
         i += 1;
     }
@@ -78,9 +79,8 @@ fn list_leaders(group: &[u16; 256], states: usize, least: &mut [u16; 256]) -> us
 }
 
 // Whether every event leads from a state back to its own group.
-fn is_closed(rows: &[[u16; 16]; 256], group: &[u16; 256], events: usize, s: usize) -> bool
+fn is_closed(rows: &[[u8; 16]; 256], group: &[u8; 256], events: usize, s: usize) -> bool
     requires { ⌜ (events ≤ 16) × (s < 256) ⌝ }
-    requires { ⌜ RowBelow events 256 (getD (now rows) s []) ⌝ }
     ensures { λ r. ⌜ r ≡ closed (firstEvents events) (now (rows .entry)) (now (group .entry)) s ⌝ }
 {
     let mut e: usize = 0;
@@ -96,14 +96,13 @@ fn is_closed(rows: &[[u16; 16]; 256], group: &[u16; 256], events: usize, s: usiz
 
 // The verdict byte of a group, by its least state.
 fn verdict_of(
-    rows: &[[u16; 16]; 256],
-    group: &[u16; 256],
+    rows: &[[u8; 16]; 256],
+    group: &[u8; 256],
     classes: &[u8; 256],
     events: usize,
     s: usize,
 ) -> u8
     requires { ⌜ (events ≤ 16) × (s < 256) ⌝ }
-    requires { ⌜ RowBelow events 256 (getD (now rows) s []) ⌝ }
     ensures { λ r. ⌜ r ≡ verdictAt (firstEvents events) (now (rows .entry)) (now (classes .entry)) (now (group .entry)) s ⌝ }
 {
     let class = classes[s];
@@ -118,33 +117,31 @@ fn verdict_of(
 
 // Stores the verdict byte of each group.
 fn put_verdicts(
-    rows: &[[u16; 16]; 256],
-    group: &[u16; 256],
+    rows: &[[u8; 16]; 256],
+    group: &[u8; 256],
     classes: &[u8; 256],
     events: usize,
-    least: &[u16; 256],
+    least: &[u8; 256],
     count: usize,
     verdicts: &mut [u8; 256],
 )
     requires { ⌜ (events ≤ 16) × (count ≤ 256) × (length (now verdicts) ≡ 256) ⌝ }
-    requires { ⌜ ListBelow count events 256 (now rows) (now least) ⌝ }
     ensures { λ _. ⌜ now (verdicts .exit) ≡ tabulate count (λ q. verdictAt (firstEvents events) (now (rows .entry)) (now (classes .entry)) (now (group .entry)) (getD (now (least .entry)) q 0)) ++ drop count (now (verdicts .entry)) ⌝ }
 {
     let mut q: usize = 0;
     while q < count {
-        let s = wide16(least[q]);
+        let s = wide(least[q]);
         verdicts[q] = verdict_of(rows, group, classes, events, s);
         q += 1;
     }
 }
 
 // The row of a group, by its least state: the numbers of the groups that its successors are in.
-fn row_of(rows: &[[u16; 16]; 256], numbers: &[u16; 256], events: usize, s: usize) -> [u16; 16]
+fn row_of(rows: &[[u8; 16]; 256], numbers: &[u8; 256], events: usize, s: usize) -> [u8; 16]
     requires { ⌜ (events ≤ 16) × (s < 256) ⌝ }
-    requires { ⌜ RowBelow events 256 (getD (now rows) s []) ⌝ }
     ensures { λ r. ⌜ r ≡ rowAt events (now (rows .entry)) (now (numbers .entry)) s ⌝ }
 {
-    let mut row = [0u16; 16];
+    let mut row = [0u8; 16];
     let mut e: usize = 0;
     while e < events {
         let next = successor(rows, s, e);
@@ -156,20 +153,19 @@ fn row_of(rows: &[[u16; 16]; 256], numbers: &[u16; 256], events: usize, s: usize
 
 // Stores the row of each group.
 fn put_rows(
-    rows: &[[u16; 16]; 256],
-    numbers: &[u16; 256],
+    rows: &[[u8; 16]; 256],
+    numbers: &[u8; 256],
     events: usize,
-    least: &[u16; 256],
+    least: &[u8; 256],
     count: usize,
-    to: &mut [[u16; 16]; 256],
+    to: &mut [[u8; 16]; 256],
 )
     requires { ⌜ (events ≤ 16) × (count ≤ 256) × (length {A = List ℕ} (now to) ≡ 256) ⌝ }
-    requires { ⌜ ListBelow count events 256 (now rows) (now least) ⌝ }
     ensures { λ _. ⌜ now (to .exit) ≡ tabulate count (λ q. rowAt events (now (rows .entry)) (now (numbers .entry)) (getD (now (least .entry)) q 0)) ++ drop count (now (to .entry)) ⌝ }
 {
     let mut q: usize = 0;
     while q < count {
-        let s = wide16(least[q]);
+        let s = wide(least[q]);
         to[q] = row_of(rows, numbers, events, s);
         q += 1;
     }
@@ -181,9 +177,9 @@ pub fn reduce(
     signals: u8,
     states: u16,
     classes: &[u8; 256],
-    rows: [[u16; 16]; 256],
+    rows: [[u8; 16]; 256],
     verdicts: &mut [u8; 256],
-    to: &mut [[u16; 16]; 256],
+    to: &mut [[u8; 16]; 256],
 ) -> u16
     requires { ⌜ (signals ≤ 4) × (states ≤ 256) ⌝ }
     requires { ⌜ Machine (over signals) states rows (now classes) ⌝ }
@@ -194,7 +190,7 @@ pub fn reduce(
     let n = wide16(states);
     let group = groups(rows, classes, n, events);
     let number = numbers(&group, n);
-    let mut least = [0u16; 256];
+    let mut least = [0u8; 256];
     let count = list_leaders(&group, n, &mut least);
     put_verdicts(&rows, &group, classes, events, &least, count, verdicts);
     put_rows(&rows, &number, events, &least, count, to);

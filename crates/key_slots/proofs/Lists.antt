@@ -1,12 +1,12 @@
 -- Lists read off the front of an array: the keys met, the entries of a row, the rows.
 use mathlib.Core.Path.{_≡_, refl, sym, ap, ap₂, _∙_, subst}
-use mathlib.Core.Bool.{Bool, true, cond}
+use mathlib.Core.Bool.{Bool, true, false, cond}
 use mathlib.Core.List.{List, [], _∷_, _++_}
 use Prim.Native.Nat.{ℕ, zero, suc, _+_, _%_, _^_, _≤_, _<_}
 use native.Mathlib.Numerals.{add-one}
 use native.Mathlib.Decide.{ℕ-discrete}
 use native.Mathlib.Omega.{arith}
-use lib.ListN.{length, getD, set, length-set, replicate, length-replicate}
+use lib.ListN.{length, getD, set, length-set}
 use lib.Seq.{getD-set-same, getD-set-other}
 use lib.Dec.{T, eqb, eqb→eq}
 use borrow.Author.Tests.{eq-eqb, ne-eqb}
@@ -101,44 +101,39 @@ pub slot-small : (words : List ℕ) → slotOf words < 1024
 unfolding slotOf
 slot-small words = omega arith
 
-pub slots-first : (key : List ℕ) (slot : ℕ) → slot ≡ slotOf key → (length (set (replicate {A = ℕ} 1024 256) slot 0) ≡ 1024) × (getD (set (replicate {A = ℕ} 1024 256) slot 0) (slotOf key) 0 ≡ 0)
-slots-first key slot e = (
-  length-set (replicate {A = ℕ} 1024 256) slot 0 ∙ length-replicate {A = ℕ} 1024 256,
-  ap (λ (k : ℕ). getD (set (replicate {A = ℕ} 1024 256) slot 0) k 0) (sym e) ∙ getD-set-same (replicate {A = ℕ} 1024 256) slot 0 0 (omega (arith, slot-small key, length-replicate {A = ℕ} 1024 256)),
-)
-
-pub slotted-first : {keys : List (List ℕ)} {slots : List ℕ} → length slots ≡ 1024 → getD slots (slotOf (getD keys 0 [])) 0 ≡ 0 → Slotted 1 keys slots
-slotted-first {keys} {slots} l e = record { long = l; met = go }
-  where
-    go : (i : ℕ) → i < 1 → getD slots (slotOf (getD keys i [])) 0 < 256
-    go zero m = omega (arith, e)
-    go (suc i) m = absurd (omega arith)
+pub slotted-first : {keys : List (List ℕ)} {slots : List ℕ} → length slots ≡ 1024 → Slotted 1 keys slots
+slotted-first l = record { long = l; met = λ i m n. absurd (omega arith) }
 
 module _ {count : ℕ} {keys : List (List ℕ)} {slots : List ℕ} (fit : KeysFit count keys) (h : Slotted count keys slots) (key : List ℕ) (slot : ℕ) (at : slot ≡ slotOf key) where
   pub slotted-added : count < 256 → Slotted (count + 1) (set keys count key) (set slots slot count)
-  slotted-added l = record { long = length-set slots slot count ∙ h .long; met = λ i m. go i m (ℕ-discrete i count) }
+  slotted-added l = record { long = length-set slots slot count ∙ h .long; met = λ i o m. go i o m (ℕ-discrete i count) }
     where
-      number : (s : ℕ) → Dec (s ≡ slot) → (¬ (s ≡ slot) → getD slots s 0 < 256) → getD (set slots slot count) s 0 < 256
-      number s (yes e) o = subst (λ (x : ℕ). x < 256) (sym (ap (λ (k : ℕ). getD (set slots slot count) k 0) e ∙ getD-set-same slots slot count 0 (omega (arith, h .long, at, slot-small key)))) l
-      number s (no e) o = subst (λ (x : ℕ). x < 256) (sym (getD-set-other slots slot s count 0 e)) (o e)
+      some : 0 < count
+      some = fit .some
 
-      go : (i : ℕ) → i < count + 1 → Dec (i ≡ count) → getD (set slots slot count) (slotOf (getD (set keys count key) i [])) 0 < 256
-      go i m (yes e) =
-          number (slotOf (getD (set keys count key) i [])) (yes (ap (λ (k : ℕ). slotOf (getD (set keys count key) k [])) e ∙ ap slotOf (getD-set-same keys count key [] (omega (arith, fit .room))) ∙ sym at))
-          (λ n. absurd (n (ap (λ (k : ℕ). slotOf (getD (set keys count key) k [])) e ∙ ap slotOf (getD-set-same keys count key [] (omega (arith, fit .room))) ∙ sym at)))
-      go i m (no e) =
-          subst (λ (x : List ℕ). getD (set slots slot count) (slotOf x) 0 < 256) (sym (getD-set-other keys count i key [] e))
-          (number (slotOf (getD keys i [])) (ℕ-discrete (slotOf (getD keys i [])) slot) (λ _. h .met i (omega arith)))
+      number : (s : ℕ) → Dec (s ≡ slot) → (¬ (s ≡ slot) → 0 < getD slots s 0) → 0 < getD (set slots slot count) s 0
+      number s (yes e) o = subst (λ (x : ℕ). 0 < x) (sym (ap (λ (k : ℕ). getD (set slots slot count) k 0) e ∙ getD-set-same slots slot count 0 (omega (arith, h .long, at, slot-small key)))) some
+      number s (no e) o = subst (λ (x : ℕ). 0 < x) (sym (getD-set-other slots slot s count 0 e)) (o e)
 
-  -- no number in the slot: the key is new
-  pub found-none : WordsFit key → {x : ℕ} → x ≡ getD slots slot 0 → 256 ≤ x → count ≡ leastBelow count (metAt keys (keyOf key))
-  found-none w {x} e l = sym (least-is count (metAt keys (keyOf key)) count (omega arith) (λ k m. ne-eqb (keyOf (getD keys k [])) (keyOf key) (λ q. absurd (other k m q))) (λ m. absurd (omega arith)))
+      there : (i : ℕ) → i ≡ count → slotOf (getD (set keys count key) i []) ≡ slot
+      there i e = ap (λ (k : ℕ). slotOf (getD (set keys count key) k [])) e ∙ ap slotOf (getD-set-same keys count key [] (omega (arith, fit .room))) ∙ sym at
+
+      go : (i : ℕ) → 0 < i → i < count + 1 → Dec (i ≡ count) → 0 < getD (set slots slot count) (slotOf (getD (set keys count key) i [])) 0
+      go i o m (yes e) = number (slotOf (getD (set keys count key) i [])) (yes (there i e)) (λ n. absurd (n (there i e)))
+      go i o m (no e) =
+          subst (λ (x : List ℕ). 0 < getD (set slots slot count) (slotOf x) 0) (sym (getD-set-other keys count i key [] e))
+          (number (slotOf (getD keys i [])) (ℕ-discrete (slotOf (getD keys i [])) slot) (λ _. h .met i o (omega arith)))
+
+  -- 0 in the slot, and the first key is another: the key is new
+  pub found-none : WordsFit key → {x : ℕ} {r : Bool} → x ≡ getD slots slot 0 → MetThere count (metAt keys (keyOf key)) x r → r ≡ false → x ≡ 0 → count ≡ leastBelow count (metAt keys (keyOf key))
+  found-none w {x} e m f z = sym (least-is count (metAt keys (keyOf key)) count (omega arith) (λ k l. other k l (ℕ-discrete k 0)) (λ l. absurd (omega arith)))
     where
-      other : (k : ℕ) → k < count → ¬ (keyOf (getD keys k []) ≡ keyOf key)
-      other k m q =
-          let s : slotOf (getD keys k []) ≡ slot = slot-same (getD keys k []) key (fit .words k m) w q ∙ sym at in
-          let t : getD slots slot 0 < 256 = subst (λ (j : ℕ). getD slots j 0 < 256) s (h .met k m) in
-          omega arith
+      other : (k : ℕ) → k < count → Dec (k ≡ 0) → metAt keys (keyOf key) k ≡ false
+      other k l (yes q) = subst (λ (i : ℕ). metAt keys (keyOf key) i ≡ false) (z ∙ sym q) (m .not-there f (omega arith))
+      other k l (no q) = ne-eqb (keyOf (getD keys k [])) (keyOf key) (λ p.
+          let s : slotOf (getD keys k []) ≡ slot = slot-same (getD keys k []) key (fit .words k l) w p ∙ sym at in
+          let t : 0 < getD slots slot 0 = subst (λ (j : ℕ). 0 < getD slots j 0) s (h .met k (omega arith) l) in
+          absurd (omega arith))
 
 -- the number of a key that is the same is the least
 pub found-met : {count : ℕ} {keys : List (List ℕ)} → KeysFit count keys → (k : ℕ) {i : ℕ} {r : Bool} → MetThere count (metAt keys k) i r → r ≡ true → i ≡ leastBelow count (metAt keys k)

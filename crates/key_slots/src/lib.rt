@@ -7,7 +7,7 @@ ghost use Rattle.profile_sets.specs.Arrays.{keyOf, WordsFit};
 ghost use Rattle.key_slots.specs.Arrays.{keysIn, KeysFit, metAt, slotOf, Slotted, MetThere};
 ghost use Rattle.key_slots.specs.Answers.{Enters};
 use profile_sets::same_key;
-use wire::wide16;
+use wire::wide;
 
 // The number of a key, and how many keys there are now; or there is no room for it.
 pub enum Entered {
@@ -31,7 +31,7 @@ fn locate(keys: &[[u64; 4]; 256], count: usize, key: [u64; 4]) -> usize
     count
 }
 
-// The slot of a key. A slot has the number of a key that belongs there, or 256 if there is none.
+// The slot of a key. A slot has the number of a key that belongs there, or 0: then no key belongs there, unless the first one does.
 fn slot_of(key: [u64; 4]) -> usize
     ensures { λ r. ⌜ (r ≡ slotOf key) × (r < 1024) ⌝ }
 {
@@ -40,14 +40,11 @@ fn slot_of(key: [u64; 4]) -> usize
     ((low + high) % 1021) as usize
 }
 
-// The slots where the only key has the number 0.
-pub fn first_slots(key: [u64; 4]) -> [u16; 1024]
-    ensures { λ r. ⌜ (length r ≡ 1024) × (getD r (slotOf key) 0 ≡ 0) ⌝ }
+// The slots where there is the first key only.
+pub fn first_slots() -> [u8; 1024]
+    ensures { λ r. ⌜ length r ≡ 1024 ⌝ }
 {
-    let slot = slot_of(key);
-    let mut out = [256u16; 1024];
-    out[slot] = 0;
-    out
+    [0; 1024]
 }
 
 // Whether a number that a slot has is that of the key.
@@ -65,7 +62,7 @@ fn same_at(keys: &[[u64; 4]; 256], count: usize, i: usize, key: [u64; 4]) -> boo
 // The same as `locate`: by the key's slot, or else by all keys.
 fn find(
     keys: &[[u64; 4]; 256],
-    slots: &[u16; 1024],
+    slots: &[u8; 1024],
     slot: usize,
     count: usize,
     key: [u64; 4],
@@ -74,12 +71,12 @@ fn find(
     requires { ⌜ (slot ≡ slotOf key) × (slot < 1024) ⌝ }
     ensures { λ r. ⌜ r ≡ leastBelow count (metAt (now (keys .entry)) (keyOf key)) ⌝ }
 {
-    let i = wide16(slots[slot]);
-    if 256 <= i {
-        return count;
-    }
+    let i = wide(slots[slot]);
     if same_at(keys, count, i, key) {
         return i;
+    }
+    if i == 0 {
+        return count;
     }
     locate(keys, count, key)
 }
@@ -87,7 +84,7 @@ fn find(
 // The number of a key, which is added at the end if it is new.
 pub fn enter(
     keys: &mut [[u64; 4]; 256],
-    slots: &mut [u16; 1024],
+    slots: &mut [u8; 1024],
     count: usize,
     key: [u64; 4],
 ) -> Entered
@@ -101,7 +98,7 @@ pub fn enter(
     }
     if count < 256 {
         keys[count] = key;
-        slots[slot] = count as u16;
+        slots[slot] = count as u8;
         return Entered::At(count, count + 1);
     }
     Entered::Full

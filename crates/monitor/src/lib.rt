@@ -28,7 +28,7 @@ fn finish(
     signals: u8,
     states: u16,
     classes: &[u8; 256],
-    rows: [[u16; 16]; 256],
+    rows: [[u8; 16]; 256],
     table: &mut [u8],
 ) -> Built
     requires { ⌜ (signals ≤ 4) × (states ≤ 256) ⌝ }

@@ -3,7 +3,6 @@ use mathlib.Core.Path.{_≡_, sym, ap, _∙_, subst}
 use mathlib.Core.Bool.{Bool}
 use mathlib.Core.List.{List}
 use Prim.Native.Nat.{ℕ, _≤_, _<_}
-use native.Mathlib.Omega.{arith}
 use lib.ListN.{getD, take, drop}
 use lib.Seq.{take-at, getD-take}
 use Rattle.sequences.specs.Tabulate.{tabulate, leastBelow}
@@ -11,7 +10,7 @@ use Rattle.sequences.proofs.Loops.{Filled, filled-to, length-tab, getD-tab}
 use Rattle.sequences.proofs.Pigeonhole.{least-below}
 use Rattle.meaning.specs.Traces.{Alphabet}
 use Rattle.moore.specs.Grouping.{together, sameStep, firstGroups, nextGroups}
-use Rattle.group_slots.specs.Groups.{RowsBelow, Least}
+use Rattle.group_slots.specs.Groups.{Least}
 
 -- ---- a list that a loop filled
 module _ {A : Type 0} where
@@ -20,10 +19,6 @@ module _ {A : Type 0} where
 
   pub taken-at : (n : ℕ) (s : List A) (f : ℕ → A) → take n s ≡ tabulate n f → (i : ℕ) (z : A) → i < n → getD s i z ≡ f i
   taken-at n s f h i z l = sym (getD-take n s i z l) ∙ ap (λ (t : List A). getD t i z) h ∙ getD-tab n f i z l
-
--- ---- rows
-pub rows-fewer : {k w n : ℕ} {rows : List (List ℕ)} (j m : ℕ) → RowsBelow k w n rows → j ≤ k → n ≤ m → RowsBelow j w m rows
-rows-fewer j m h l g = record { row = λ s b. record { to = λ e c. let x = h .row s (omega arith) .to e c in omega arith } }
 
 -- ---- the names of groups
 least-le : (n : ℕ) (p : ℕ → Bool) → leastBelow n p ≤ n

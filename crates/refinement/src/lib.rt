@@ -2,45 +2,44 @@
 // its least state.
 ghost use mathlib.Core.Path.{_≡_};
 ghost use Prim.Native.Nat.{_≤_, _<_};
-ghost use lib.ListN.{length, take};
+ghost use lib.ListN.{replicate, take};
 ghost use Rattle.sequences.specs.Tabulate.{leastBelow};
 ghost use Rattle.meaning.specs.Traces.{firstEvents};
 ghost use Rattle.moore.specs.Grouping.{together, firstGroups, nextGroups, sameBelow, rounds, grouping};
 ghost use Rattle.group_slots.specs.Groups.{RowsBelow, Least};
 use group_slots::least_by_slot;
 use group_slots::slot_of;
-use wire::wide16;
+use wire::wide;
 
 // Slots without states.
-fn no_slots() -> [u16; 1024]
-    ensures { λ r. ⌜ length r ≡ 1024 ⌝ }
+fn no_slots() -> [u8; 1024]
+    ensures { λ r. ⌜ r ≡ replicate 1024 0 ⌝ }
 {
-    [256u16; 1024]
+    [0; 1024]
 }
 
-// One round: each state with the least that is left with it. A slot has the last state so far that belongs there, or 256 if there is none.
-fn round(rows: [[u16; 16]; 256], group: &[u16; 256], states: usize, events: usize) -> [u16; 256]
+// One round: each state with the least that is left with it. A slot has the last state so far that belongs there, or 0.
+fn round(rows: [[u8; 16]; 256], group: &[u8; 256], states: usize, events: usize) -> [u8; 256]
     requires { ⌜ (events ≤ 16) × (states ≤ 256) ⌝ }
-    requires { ⌜ RowsBelow states events 256 rows ⌝ }
     requires { ⌜ Least states (now group) ⌝ }
     ensures { λ r. ⌜ take states r ≡ nextGroups (firstEvents events) states rows (now (group .entry)) ⌝ }
 {
-    let mut next = [0u16; 256];
+    let mut next = [0u8; 256];
     let mut slots = no_slots();
     let mut i: usize = 0;
     while i < states {
         let slot = slot_of(&rows, group, events, i);
-        let j = wide16(slots[slot]);
+        let j = wide(slots[slot]);
         let least = least_by_slot(&rows, group, events, &next, j, i);
         next[i] = least;
-        slots[slot] = i as u16;
+        slots[slot] = i as u8;
         i += 1;
     }
     next
 }
 
 // Whether a round changed nothing.
-fn same_groups(a: &[u16; 256], b: &[u16; 256], states: usize) -> bool
+fn same_groups(a: &[u8; 256], b: &[u8; 256], states: usize) -> bool
     requires { ⌜ states ≤ 256 ⌝ }
     ensures { λ r. ⌜ r ≡ sameBelow states (now (a .entry)) (now (b .entry)) ⌝ }
 {
@@ -55,7 +54,7 @@ fn same_groups(a: &[u16; 256], b: &[u16; 256], states: usize) -> bool
 }
 
 // Rounds until one changes nothing; as many as there are states are enough.
-fn refined(rows: [[u16; 16]; 256], first: [u16; 256], states: usize, events: usize) -> [u16; 256]
+fn refined(rows: [[u8; 16]; 256], first: [u8; 256], states: usize, events: usize) -> [u8; 256]
     requires { ⌜ (events ≤ 16) × (states ≤ 256) ⌝ }
     requires { ⌜ RowsBelow states events states rows ⌝ }
     requires { ⌜ Least states first ⌝ }
@@ -75,26 +74,26 @@ fn refined(rows: [[u16; 16]; 256], first: [u16; 256], states: usize, events: usi
 }
 
 // The least state that has a state's class.
-fn least_of_class(classes: &[u8; 256], i: usize) -> u16
+fn least_of_class(classes: &[u8; 256], i: usize) -> u8
     requires { ⌜ i < 256 ⌝ }
     ensures { λ r. ⌜ r ≡ leastBelow i (λ k. together (now (classes .entry)) k i) ⌝ }
 {
     let mut k: usize = 0;
     while k < i {
         if classes[k] == classes[i] {
-            return k as u16;
+            return k as u8;
         }
         k += 1;
     }
-    i as u16
+    i as u8
 }
 
 // Each state with the least of its class.
-fn first_groups(classes: &[u8; 256], states: usize) -> [u16; 256]
+fn first_groups(classes: &[u8; 256], states: usize) -> [u8; 256]
     requires { ⌜ states ≤ 256 ⌝ }
     ensures { λ r. ⌜ take states r ≡ firstGroups states (now (classes .entry)) ⌝ }
 {
-    let mut group = [0u16; 256];
+    let mut group = [0u8; 256];
     let mut i: usize = 0;
     while i < states {
         group[i] = least_of_class(classes, i);
@@ -104,12 +103,7 @@ fn first_groups(classes: &[u8; 256], states: usize) -> [u16; 256]
 }
 
 // For each state the least of its group.
-pub fn groups(
-    rows: [[u16; 16]; 256],
-    classes: &[u8; 256],
-    states: usize,
-    events: usize,
-) -> [u16; 256]
+pub fn groups(rows: [[u8; 16]; 256], classes: &[u8; 256], states: usize, events: usize) -> [u8; 256]
     requires { ⌜ (events ≤ 16) × (states ≤ 256) ⌝ }
     requires { ⌜ RowsBelow states events states rows ⌝ }
     ensures { λ r. ⌜ take states r ≡ grouping (firstEvents events) states rows (now (classes .entry)) ⌝ }

@@ -26,18 +26,18 @@ fn put_header(out: &mut [u8], signals: u8, states: u16)
     put_u16(out, 5, states);
 }
 
-fn put_successors(out: &mut [u8], at: usize, events: usize, row: [u16; 16])
+fn put_successors(out: &mut [u8], at: usize, events: usize, row: [u8; 16])
     requires { ⌜ (events ≤ 16) × (at + 2 * events ≤ length (now out)) ⌝ }
     ensures { λ _. ⌜ now (out .exit) ≡ sets (now (out .entry)) at (successorBytes events row) ⌝ }
 {
     let mut e: usize = 0;
     while e < events {
-        put_u16(out, at + 2 * e, row[e]);
+        put_u16(out, at + 2 * e, row[e] as u16);
         e += 1;
     }
 }
 
-fn put_row(out: &mut [u8], at: usize, signals: u8, verdict: u8, row: [u16; 16])
+fn put_row(out: &mut [u8], at: usize, signals: u8, verdict: u8, row: [u8; 16])
     requires { ⌜ (signals ≤ 4) × (at + rowLength signals ≤ length (now out)) ⌝ }
     ensures { λ _. ⌜ now (out .exit) ≡ sets (now (out .entry)) at (rowBytes signals verdict row) ⌝ }
 {
@@ -48,7 +48,7 @@ fn put_row(out: &mut [u8], at: usize, signals: u8, verdict: u8, row: [u16; 16])
     put_successors(out, at + 5, n, row);
 }
 
-fn put_rows(out: &mut [u8], signals: u8, states: u16, verdicts: &[u8; 256], rows: &[[u16; 16]; 256])
+fn put_rows(out: &mut [u8], signals: u8, states: u16, verdicts: &[u8; 256], rows: &[[u8; 16]; 256])
     requires { ⌜ (signals ≤ 4) × (states ≤ 256) × (7 + states * rowLength signals ≤ length (now out)) ⌝ }
     requires { ⌜ (length (now verdicts) ≡ 256) × (length {A = List ℕ} (now rows) ≡ 256) ⌝ }
     ensures { λ _. ⌜ now (out .exit) ≡ sets (now (out .entry)) 7 (rowsBytes signals states (now (verdicts .entry)) (now (rows .entry))) ⌝ }
@@ -68,7 +68,7 @@ pub fn write(
     signals: u8,
     states: u16,
     verdicts: &[u8; 256],
-    rows: &[[u16; 16]; 256],
+    rows: &[[u8; 16]; 256],
 ) -> Built
     requires { ⌜ (signals ≤ 4) × (states ≤ 256) ⌝ }
     requires { ⌜ (length (now verdicts) ≡ 256) × (length {A = List ℕ} (now rows) ≡ 256) ⌝ }

@@ -72,9 +72,6 @@ cast-row c =
     let enter = c .before .before .before .enter in
     omega (arith, entered-at (keysIn (loop .met) (loop .keys)) (keyOf (step .result)) (enter .last .0) (enter .last .1 .0) (enter .result) (enter .ensures) (c .before .entered .given .1) 0 .1)
 
-mul-row : tie.Need-mul-row Inv-loop μ-loop
-mul-row c = search needs
-
 element-write-row : tie.Need-element-write-row Inv-loop μ-loop
 element-write-row c = search needs
 
@@ -120,7 +117,6 @@ expand-spec =
     enum-told
     returns
     cast-row
-    mul-row
     element-write-row
     add-e
     loop-less

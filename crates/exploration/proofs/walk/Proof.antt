@@ -20,18 +20,15 @@ abbrev μ-loop : tie.MeasureT-loop
 no-rows-requires : tie.Need-no-rows-requires Inv-loop μ-loop
 no-rows-requires c κs = search needs
 
-element-copy-out-first-slots : tie.Need-element-copy-out-first-slots Inv-loop μ-loop
-element-copy-out-first-slots c = search needs
-
 first-slots-requires : tie.Need-first-slots-requires Inv-loop μ-loop
 first-slots-requires c κs = search needs
 
 loop-holds : tie.Need-loop-holds Inv-loop μ-loop
 loop-holds c =
-    let start = c .before .before .before in
+    let start = c .before .before in
     let a = start .args in
     walking-none (tablesBy (a .n) (now (a .profiles)) (keyOf (now (a .full)))) (a .events)
-    (start .pre .2) (slotted-first (c .first-slots .ensures .0) (c .first-slots .ensures .1)) (c .before .before .no-rows .ensures) (start .pre .3)
+    (start .pre .2) (slotted-first (c .first-slots .ensures)) (c .before .no-rows .ensures) (start .pre .3)
 
 mul-key : tie.Need-mul-key Inv-loop μ-loop
 mul-key c = omega (arith, c .before .loop .inv .fit .few)
@@ -42,7 +39,7 @@ element-copy-out-key c = omega (arith, c .before .loop .inv .fit .few)
 expand-requires : tie.Need-expand-requires Inv-loop μ-loop
 expand-requires c κs =
     let loop = c .before .before .before .before .before .loop in
-    let start = c .before .before .before .before .before .before .before .before .before in
+    let start = c .before .before .before .before .before .before .before .before in
     (start .pre .1, (start .pre .0, loop .inv .fit, loop .inv .slotted, refl))
 
 enum-known-grown : tie.Need-enum-known-grown Inv-loop μ-loop
@@ -55,7 +52,7 @@ returns : tie.Need-returns Inv-loop μ-loop
 returns c =
     let expand = c .before .before .expand in
     let in-loop = c .before .before .before .before .before .before .before in
-    let a = in-loop .before .before .before .before .before .args in
+    let a = in-loop .before .before .before .before .args in
     walking-over (tablesBy (a .n) (now (a .profiles)) (keyOf (now (a .full)))) (a .events) (in-loop .before .loop .inv) (in-loop .loop-test .taken)
     (expand .last .1 .1 .1 .1 .0) (expand .last .1 .1 .1 .1 .1 .0) (expand .last .1 .1 .1 .1 .1 .1 .1 .1 .0) (expand .result) (expand .ensures) (c .enum-told .given .1)
 
@@ -75,7 +72,7 @@ loop-again : tie.Need-loop-again Inv-loop μ-loop
 loop-again c =
     let expand = c .before .before .before .expand in
     let in-loop = c .before .before .before .before .before .before .before .before in
-    let a = in-loop .before .before .before .before .before .args in
+    let a = in-loop .before .before .before .before .args in
     walking-more (tablesBy (a .n) (now (a .profiles)) (keyOf (now (a .full)))) (a .events) (in-loop .before .loop .inv) (in-loop .loop-test .taken)
     (expand .last .1 .1 .1 .1 .0) (expand .last .1 .1 .1 .1 .1 .0) (expand .last .1 .1 .1 .1 .1 .1 .1 .1 .0) (expand .result) (expand .ensures) (c .before .grown .given .1)
 
@@ -84,7 +81,7 @@ cast-met c = omega (arith, c .before .loop .inv .fit .few)
 
 returns-2 : tie.Need-returns-2 Inv-loop μ-loop
 returns-2 c =
-    let a = c .before .before .before .before .before .args in
+    let a = c .before .before .before .before .args in
     walking-all (tablesBy (a .n) (now (a .profiles)) (keyOf (now (a .full)))) (a .events) (c .before .loop .inv) (c .loop-test .left)
 
 pub walk-spec : {M : Type 1} → statement M
@@ -94,7 +91,6 @@ walk-spec =
     Inv-loop
     μ-loop
     no-rows-requires
-    element-copy-out-first-slots
     first-slots-requires
     loop-holds
     mul-key

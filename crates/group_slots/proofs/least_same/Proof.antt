@@ -17,20 +17,17 @@ Inv-loop rows group events i j₀ j = (j ≤ i) × Missed j (λ k. sameStep (fir
 abbrev μ-loop : tie.MeasureT-loop
 μ-loop rows group events i j₀ j = i - j
 
-mul-wide16 : tie.Need-mul-wide16 Inv-loop μ-loop
-mul-wide16 c = search needs
+element-copy-out-wide : tie.Need-element-copy-out-wide Inv-loop μ-loop
+element-copy-out-wide c = search needs
 
-element-copy-out-wide16 : tie.Need-element-copy-out-wide16 Inv-loop μ-loop
-element-copy-out-wide16 c = search needs
-
-wide16-requires : tie.Need-wide16-requires Inv-loop μ-loop
-wide16-requires c κs = search needs
+wide-requires : tie.Need-wide-requires Inv-loop μ-loop
+wide-requires c κs = search needs
 
 loop-holds : tie.Need-loop-holds Inv-loop μ-loop
-loop-holds c = let s = c .before .before in (omega (arith, c .wide16 .ensures .0, s .pre .1 .1 .least (s .args .i) (omega arith)), missed-before (firstEvents (s .args .events)) (now (s .args .rows)) (now (s .args .group)) (s .args .i) (c .wide16 .result) (s .pre .1 .1) (c .wide16 .ensures .0))
+loop-holds c = let s = c .before .before in (omega (arith, c .wide .ensures .0, s .pre .1 .least (s .args .i) (omega arith)), missed-before (firstEvents (s .args .events)) (now (s .args .rows)) (now (s .args .group)) (s .args .i) (c .wide .result) (s .pre .1) (c .wide .ensures .0))
 
 same-step-requires : tie.Need-same-step-requires Inv-loop μ-loop
-same-step-requires c κs = let s = c .before .before .before .before in ((omega arith, omega arith, omega arith), (s .pre .1 .0 .row (c .before .loop .j) (omega arith), s .pre .1 .0 .row (s .args .i) (omega arith)))
+same-step-requires c κs = search needs
 
 cast-result : tie.Need-cast-result Inv-loop μ-loop
 cast-result c = search needs
@@ -59,9 +56,8 @@ least-same-spec =
     (tie.spec
     Inv-loop
     μ-loop
-    mul-wide16
-    element-copy-out-wide16
-    wide16-requires
+    element-copy-out-wide
+    wide-requires
     loop-holds
     same-step-requires
     cast-result

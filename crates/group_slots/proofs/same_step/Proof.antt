@@ -35,7 +35,7 @@ successor-requires-2 : tie.Need-successor-requires-2 Inv-loop μ-loop
 successor-requires-2 c κs = search needs
 
 joined-requires-2 : tie.Need-joined-requires-2 Inv-loop μ-loop
-joined-requires-2 c κs = let s = c .before .before .before .before .before .before in let l = c .before .before .before in (omega (arith, c .before .successor .ensures, s .pre .1 .0 .to (l .loop .e) (omega arith)), omega (arith, c .successor2 .ensures, s .pre .1 .1 .to (l .loop .e) (omega arith)))
+joined-requires-2 c κs = search needs
 
 returns-2 : tie.Need-returns-2 Inv-loop μ-loop
 returns-2 c =
@@ -46,7 +46,7 @@ returns-2 c =
     let here = sym (joined .ensures) ∙ not-false _ (in-loop .before .before .if1 .left) in
     step-is (firstEvents (a .events)) (now (a .rows)) (now (a .group)) (a .j) (a .i) false here
     (sym (all-not (a .events) both (in-loop .before .loop .e) (in-loop .loop-test .taken)
-    (rw (← c .before .before .before .successor .ensures, ← c .before .before .successor2 .ensures) (sym (c .before .joined2 .ensures) ∙ not-true _ (c .if2 .taken)))))
+    (rw (← c .before .before .before .successor .ensures .0, ← c .before .before .successor2 .ensures .0) (sym (c .before .joined2 .ensures) ∙ not-true _ (c .if2 .taken)))))
 
 add-e : tie.Need-add-e Inv-loop μ-loop
 add-e c = search needs
@@ -55,7 +55,7 @@ loop-less : tie.Need-loop-less Inv-loop μ-loop
 loop-less c = search needs
 
 loop-again : tie.Need-loop-again Inv-loop μ-loop
-loop-again c = (omega arith, passed-more (c .before .before .before .before .before .loop .inv .1) (rw (← c .before .before .before .successor .ensures, ← c .before .before .successor2 .ensures) (sym (c .before .joined2 .ensures) ∙ not-false _ (c .if2 .left))))
+loop-again c = (omega arith, passed-more (c .before .before .before .before .before .loop .inv .1) (rw (← c .before .before .before .successor .ensures .0, ← c .before .before .successor2 .ensures .0) (sym (c .before .joined2 .ensures) ∙ not-false _ (c .if2 .left))))
 
 returns-3 : tie.Need-returns-3 Inv-loop μ-loop
 returns-3 c = let s = c .before .before .before .before in step-is (firstEvents (s .args .events)) (now (s .args .rows)) (now (s .args .group)) (s .args .j) (s .args .i) true (sym (c .before .before .before .joined .ensures) ∙ not-false _ (c .before .before .if1 .left)) (sym (passed-all (c .before .loop .inv .1) (s .args .events) (omega arith)))

@@ -17,17 +17,14 @@ Inv-loop rows group events i slot₀ e₀ slot e = (e ≤ events) × (slot ≡ m
 abbrev μ-loop : tie.MeasureT-loop
 μ-loop rows group events i slot₀ e₀ slot e = events - e
 
-mul-wide16 : tie.Need-mul-wide16 Inv-loop μ-loop
-mul-wide16 c = search needs
+element-copy-out-wide : tie.Need-element-copy-out-wide Inv-loop μ-loop
+element-copy-out-wide c = search needs
 
-element-copy-out-wide16 : tie.Need-element-copy-out-wide16 Inv-loop μ-loop
-element-copy-out-wide16 c = search needs
-
-wide16-requires : tie.Need-wide16-requires Inv-loop μ-loop
-wide16-requires c κs = search needs
+wide-requires : tie.Need-wide-requires Inv-loop μ-loop
+wide-requires c κs = search needs
 
 loop-holds : tie.Need-loop-holds Inv-loop μ-loop
-loop-holds c = (omega arith, mixed-none _ _ _ (ap (λ (x : ℕ). x % 1024) (c .wide16 .ensures .0)), omega arith)
+loop-holds c = (omega arith, mixed-none _ _ _ (ap (λ (x : ℕ). x % 1024) (c .wide .ensures .0)), omega arith)
 
 successor-requires : tie.Need-successor-requires Inv-loop μ-loop
 successor-requires c κs = search needs
@@ -35,17 +32,14 @@ successor-requires c κs = search needs
 mul-slot : tie.Need-mul-slot Inv-loop μ-loop
 mul-slot c = search needs
 
-mul-wide16-2 : tie.Need-mul-wide16-2 Inv-loop μ-loop
-mul-wide16-2 c = omega (arith, c .successor .ensures, c .before .before .before .before .before .pre .1 .to (c .before .before .loop .e) (omega arith))
+element-copy-out-wide-2 : tie.Need-element-copy-out-wide-2 Inv-loop μ-loop
+element-copy-out-wide-2 c = search needs
 
-element-copy-out-wide16-2 : tie.Need-element-copy-out-wide16-2 Inv-loop μ-loop
-element-copy-out-wide16-2 c = omega (arith, c .successor .ensures, c .before .before .before .before .before .pre .1 .to (c .before .before .loop .e) (omega arith))
-
-wide16-requires-2 : tie.Need-wide16-requires-2 Inv-loop μ-loop
-wide16-requires-2 c κs = search needs
+wide-requires-2 : tie.Need-wide-requires-2 Inv-loop μ-loop
+wide-requires-2 c κs = search needs
 
 add-slot : tie.Need-add-slot Inv-loop μ-loop
-add-slot c = omega (arith, c .wide162 .ensures .1, c .before .before .before .before .loop .inv .2)
+add-slot c = omega (arith, c .wide2 .ensures .1, c .before .before .before .before .loop .inv .2)
 
 add-e : tie.Need-add-e Inv-loop μ-loop
 add-e c = search needs
@@ -54,7 +48,7 @@ loop-less : tie.Need-loop-less Inv-loop μ-loop
 loop-less c = search needs
 
 loop-again : tie.Need-loop-again Inv-loop μ-loop
-loop-again c = (omega arith, mixed-more (c .before .before .before .before .loop .e) _ _ (c .before .before .before .before .loop .slot) (c .wide162 .result) (c .before .before .before .before .loop .inv .1) (c .wide162 .ensures .0 ∙ ap (λ (x : ℕ). getD (now (c .before .before .before .before .before .before .before .args .group)) x 0) (c .before .before .successor .ensures)), omega arith)
+loop-again c = (omega arith, mixed-more (c .before .before .before .before .loop .e) _ _ (c .before .before .before .before .loop .slot) (c .wide2 .result) (c .before .before .before .before .loop .inv .1) (c .wide2 .ensures .0 ∙ ap (λ (x : ℕ). getD (now (c .before .before .before .before .before .before .before .args .group)) x 0) (c .before .before .successor .ensures .0)), omega arith)
 
 returns : tie.Need-returns Inv-loop μ-loop
 returns c = (mixed-end (c .before .before .before .before .args .events) (c .before .loop .e) _ _ (c .before .loop .slot) (c .before .loop .inv .1) (omega arith), c .before .loop .inv .2)
@@ -65,15 +59,13 @@ slot-of-spec =
     (tie.spec
     Inv-loop
     μ-loop
-    mul-wide16
-    element-copy-out-wide16
-    wide16-requires
+    element-copy-out-wide
+    wide-requires
     loop-holds
     successor-requires
     mul-slot
-    mul-wide16-2
-    element-copy-out-wide16-2
-    wide16-requires-2
+    element-copy-out-wide-2
+    wide-requires-2
     add-slot
     add-e
     loop-less

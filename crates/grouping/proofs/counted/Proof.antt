@@ -9,25 +9,22 @@ use lib.ListN.{getD}
 use Rattle.grouping.proofs.counted.Statement.{statement}
 use Rattle.grouping.proofs.counted.Tie as tie
 
-mul-wide16 : tie.Need-mul-wide16
-mul-wide16 c = search needs
+element-copy-out-wide : tie.Need-element-copy-out-wide
+element-copy-out-wide c = search needs
 
-element-copy-out-wide16 : tie.Need-element-copy-out-wide16
-element-copy-out-wide16 c = search needs
-
-wide16-requires : tie.Need-wide16-requires
-wide16-requires c κs = search needs
+wide-requires : tie.Need-wide-requires
+wide-requires c κs = search needs
 
 add-result : tie.Need-add-result
 add-result c = search needs
 
 returns : tie.Need-returns
-returns c = let s = c .before .before .before in let g = now (s .args .group) in let i = s .args .i in let q = s .args .count in sym (ap (λ (b : Bool). cond b (q + 1) q) (eq-eqb (getD g i 0) i (sym (c .before .wide16 .ensures .0) ∙ c .if1 .taken)))
+returns c = let s = c .before .before .before in let g = now (s .args .group) in let i = s .args .i in let q = s .args .count in sym (ap (λ (b : Bool). cond b (q + 1) q) (eq-eqb (getD g i 0) i (sym (c .before .wide .ensures .0) ∙ c .if1 .taken)))
 
 returns-2 : tie.Need-returns-2
-returns-2 c = let s = c .before .before .before in let g = now (s .args .group) in let i = s .args .i in let q = s .args .count in sym (ap (λ (b : Bool). cond b (q + 1) q) (ne-eqb (getD g i 0) i (λ e. c .if1 .left (c .before .wide16 .ensures .0 ∙ e))))
+returns-2 c = let s = c .before .before .before in let g = now (s .args .group) in let i = s .args .i in let q = s .args .count in sym (ap (λ (b : Bool). cond b (q + 1) q) (ne-eqb (getD g i 0) i (λ e. c .if1 .left (c .before .wide .ensures .0 ∙ e))))
 
 pub counted-spec : {M : Type 1} → statement M
 counted-spec =
     tie.close
-    (tie.spec mul-wide16 element-copy-out-wide16 wide16-requires add-result returns returns-2)
+    (tie.spec element-copy-out-wide wide-requires add-result returns returns-2)

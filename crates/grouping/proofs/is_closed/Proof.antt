@@ -24,11 +24,11 @@ successor-requires : tie.Need-successor-requires Inv-loop μ-loop
 successor-requires c κs = search needs
 
 joined-requires : tie.Need-joined-requires Inv-loop μ-loop
-joined-requires c κs = (omega (arith, c .successor .ensures, c .before .before .before .pre .1 .to (c .before .before .loop .e) (omega arith)), omega arith)
+joined-requires c κs = search needs
 
 returns : tie.Need-returns Inv-loop μ-loop
 unfolding closed
-returns c = let s = c .before .before .before .before .before in sym (all-not (s .args .events) (λ k. together (now (s .args .group)) (entry (now (s .args .rows)) (s .args .s) k) (s .args .s)) (c .before .before .before .before .loop .e) (c .before .before .before .loop-test .taken) (rw (← c .before .before .successor .ensures) (sym (c .before .joined .ensures) ∙ not-true _ (c .if1 .taken))))
+returns c = let s = c .before .before .before .before .before in sym (all-not (s .args .events) (λ k. together (now (s .args .group)) (entry (now (s .args .rows)) (s .args .s) k) (s .args .s)) (c .before .before .before .before .loop .e) (c .before .before .before .loop-test .taken) (rw (← c .before .before .successor .ensures .0) (sym (c .before .joined .ensures) ∙ not-true _ (c .if1 .taken))))
 
 add-e : tie.Need-add-e Inv-loop μ-loop
 add-e c = search needs
@@ -37,7 +37,7 @@ loop-less : tie.Need-loop-less Inv-loop μ-loop
 loop-less c = search needs
 
 loop-again : tie.Need-loop-again Inv-loop μ-loop
-loop-again c = (omega arith, passed-more (c .before .before .before .before .loop .inv .1) (rw (← c .before .before .successor .ensures) (sym (c .before .joined .ensures) ∙ not-false _ (c .if1 .left))))
+loop-again c = (omega arith, passed-more (c .before .before .before .before .loop .inv .1) (rw (← c .before .before .successor .ensures .0) (sym (c .before .joined .ensures) ∙ not-false _ (c .if1 .left))))
 
 returns-2 : tie.Need-returns-2 Inv-loop μ-loop
 unfolding closed

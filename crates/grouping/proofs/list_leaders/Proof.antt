@@ -23,9 +23,6 @@ loop-holds c = (omega arith, omega arith, search needs, refl, listed-none)
 cast-least : tie.Need-cast-least Inv-loop μ-loop
 cast-least c = search needs
 
-mul-least : tie.Need-mul-least Inv-loop μ-loop
-mul-least c = search needs
-
 element-write-least : tie.Need-element-write-least Inv-loop μ-loop
 element-write-least c = search needs
 
@@ -58,7 +55,6 @@ list-leaders-spec =
     μ-loop
     loop-holds
     cast-least
-    mul-least
     element-write-least
     counted-requires
     add-i

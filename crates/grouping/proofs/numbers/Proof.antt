@@ -24,23 +24,14 @@ ranks-requires c κs = search needs
 loop-holds : tie.Need-loop-holds Inv-loop μ-loop
 loop-holds c = (omega arith, filled-none)
 
-mul-wide16 : tie.Need-mul-wide16 Inv-loop μ-loop
-mul-wide16 c = search needs
+element-copy-out-wide : tie.Need-element-copy-out-wide Inv-loop μ-loop
+element-copy-out-wide c = search needs
 
-element-copy-out-wide16 : tie.Need-element-copy-out-wide16 Inv-loop μ-loop
-element-copy-out-wide16 c = search needs
-
-wide16-requires : tie.Need-wide16-requires Inv-loop μ-loop
-wide16-requires c κs = search needs
-
-mul-out : tie.Need-mul-out Inv-loop μ-loop
-mul-out c = omega (arith, c .wide16 .ensures .0, c .before .before .before .before .before .pre .1 .least (c .before .before .before .loop .i) (omega arith))
+wide-requires : tie.Need-wide-requires Inv-loop μ-loop
+wide-requires c κs = search needs
 
 array-read-out : tie.Need-array-read-out Inv-loop μ-loop
-array-read-out c = omega (arith, c .wide16 .ensures .0, c .before .before .before .before .before .pre .1 .least (c .before .before .before .loop .i) (omega arith))
-
-mul-out-2 : tie.Need-mul-out-2 Inv-loop μ-loop
-mul-out-2 c = search needs
+array-read-out c = search needs
 
 array-write-out : tie.Need-array-write-out Inv-loop μ-loop
 array-write-out c = search needs
@@ -59,8 +50,8 @@ loop-again c =
     let start = at .before .before in
     let rank : ℕ → ℕ = λ x. countBelow x (leads (now (start .args .group))) in
     let inside = start .pre .1 .least (at .loop .i) (omega arith) in
-    let taken = taken-at (start .args .states) (ranks .result) rank (ranks .ensures) (c .wide16 .result) 0 (omega (arith, c .wide16 .ensures .0, inside)) in
-    (omega arith, filled-more (at .loop .inv .1) (taken ∙ ap rank (c .wide16 .ensures .0)) (let l : at .loop .i < 256 = omega arith in search needs))
+    let taken = taken-at (start .args .states) (ranks .result) rank (ranks .ensures) (c .wide .result) 0 (omega (arith, c .wide .ensures .0, inside)) in
+    (omega arith, filled-more (at .loop .inv .1) (taken ∙ ap rank (c .wide .ensures .0)) (let l : at .loop .i < 256 = omega arith in search needs))
 
 returns : tie.Need-returns Inv-loop μ-loop
 returns c = filled-take (c .before .before .before .args .states) (c .before .loop .inv .1) (omega arith)
@@ -73,12 +64,9 @@ numbers-spec =
     μ-loop
     ranks-requires
     loop-holds
-    mul-wide16
-    element-copy-out-wide16
-    wide16-requires
-    mul-out
+    element-copy-out-wide
+    wide-requires
     array-read-out
-    mul-out-2
     array-write-out
     add-i
     loop-less

@@ -1,13 +1,11 @@
 -- `grouping::put_rows` meets its contract.
 use native.Mathlib.Omega.{arith}
 use borrow.Author.Needs.{needs}
-use mathlib.Core.Path.{sym, _∙_, ap, subst}
-use Prim.Native.Nat.{ℕ, _-_, _≤_}
-use mathlib.Core.List.{[]}
+use mathlib.Core.Path.{_∙_, ap}
+use Prim.Native.Nat.{_-_, _≤_}
 use denote.Ref.{now}
 use lib.ListN.{getD}
 use Rattle.sequences.proofs.Loops.{Filled, filled-none, filled-more, filled-to}
-use Rattle.group_slots.specs.Groups.{RowBelow}
 use Rattle.grouping.specs.Machines.{rowAt}
 use Rattle.grouping.proofs.put_rows.Statement.{statement}
 use Rattle.grouping.proofs.put_rows.Tie as tie
@@ -21,25 +19,17 @@ abbrev μ-loop : tie.MeasureT-loop
 loop-holds : tie.Need-loop-holds Inv-loop μ-loop
 loop-holds c = (omega arith, filled-none)
 
-mul-wide16 : tie.Need-mul-wide16 Inv-loop μ-loop
-mul-wide16 c = search needs
+element-copy-out-wide : tie.Need-element-copy-out-wide Inv-loop μ-loop
+element-copy-out-wide c = search needs
 
-element-copy-out-wide16 : tie.Need-element-copy-out-wide16 Inv-loop μ-loop
-element-copy-out-wide16 c = search needs
-
-wide16-requires : tie.Need-wide16-requires Inv-loop μ-loop
-wide16-requires c κs = search needs
+wide-requires : tie.Need-wide-requires Inv-loop μ-loop
+wide-requires c κs = search needs
 
 row-of-requires : tie.Need-row-of-requires Inv-loop μ-loop
-row-of-requires c κs =
-    let at = c .before .before .before in
-    let start = at .before in
-    let inside = start .pre .1 .state (at .loop .q) (omega arith) in
-    let row = start .pre .1 .row (at .loop .q) (omega arith) in
-    ((omega arith, omega (arith, c .wide16 .ensures .0, inside)), subst (λ (x : ℕ). RowBelow (start .args .events) 256 (getD (now (start .args .rows)) x [])) (sym (c .wide16 .ensures .0)) row)
+row-of-requires c κs = search needs
 
-mul-t10 : tie.Need-mul-t10 Inv-loop μ-loop
-mul-t10 c = search needs
+mul-t14 : tie.Need-mul-t14 Inv-loop μ-loop
+mul-t14 c = search needs
 
 element-set-from-to : tie.Need-element-set-from-to Inv-loop μ-loop
 element-set-from-to c = search needs
@@ -51,7 +41,7 @@ loop-less : tie.Need-loop-less Inv-loop μ-loop
 loop-less c = search needs
 
 loop-again : tie.Need-loop-again Inv-loop μ-loop
-loop-again c = (omega arith, filled-more (c .before .before .before .before .loop .inv .1) (c .row-of .ensures ∙ ap (rowAt (c .before .before .before .before .before .args .events) (now (c .before .before .before .before .before .args .rows)) (now (c .before .before .before .before .before .args .numbers))) (c .before .wide16 .ensures .0)) (omega arith))
+loop-again c = (omega arith, filled-more (c .before .before .before .before .loop .inv .1) (c .row-of .ensures ∙ ap (rowAt (c .before .before .before .before .before .args .events) (now (c .before .before .before .before .before .args .rows)) (now (c .before .before .before .before .before .args .numbers))) (c .before .wide .ensures .0)) (omega arith))
 
 returns : tie.Need-returns Inv-loop μ-loop
 returns c = filled-to (c .before .before .args .count) (c .before .loop .inv .1) (omega arith)
@@ -63,11 +53,10 @@ put-rows-spec =
     Inv-loop
     μ-loop
     loop-holds
-    mul-wide16
-    element-copy-out-wide16
-    wide16-requires
+    element-copy-out-wide
+    wide-requires
     row-of-requires
-    mul-t10
+    mul-t14
     element-set-from-to
     add-q
     loop-less

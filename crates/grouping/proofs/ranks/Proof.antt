@@ -24,9 +24,6 @@ loop-holds c = (omega arith, omega arith, refl, filled-none)
 cast-rank : tie.Need-cast-rank Inv-loop μ-loop
 cast-rank c = search needs
 
-mul-rank : tie.Need-mul-rank Inv-loop μ-loop
-mul-rank c = search needs
-
 array-write-rank : tie.Need-array-write-rank Inv-loop μ-loop
 array-write-rank c = search needs
 
@@ -45,7 +42,7 @@ loop-again c =
     let p = leads (now (c .before .before .before .args .group)) in
     let bound = count-step-le p (loop .i) (loop .below) (c .counted .result) (loop .inv .2) (c .counted .ensures) in
     let counted = count-step p (loop .i) (loop .below) (c .counted .result) (loop .inv .2) (c .counted .ensures) in
-    (omega arith, bound, counted, filled-more (loop .inv .3) (loop .inv .2) (let l : loop .i < 256 = omega arith in search needs))
+    (omega arith, bound, counted, filled-more (loop .inv .3) (omega (arith, loop .inv .2)) (let l : loop .i < 256 = omega arith in search needs))
 
 returns : tie.Need-returns Inv-loop μ-loop
 returns c = filled-take (c .before .before .args .states) (c .before .loop .inv .3) (omega arith)
@@ -58,7 +55,6 @@ ranks-spec =
     μ-loop
     loop-holds
     cast-rank
-    mul-rank
     array-write-rank
     counted-requires
     add-i

@@ -5,8 +5,7 @@ use Prim.Native.Nat.{_≤_}
 use denote.Ref.{now}
 use Rattle.meaning.specs.Traces.{firstEvents}
 use Rattle.moore.specs.Grouping.{Machine}
-use Rattle.grouping.specs.Machines.{ListBelow}
-use Rattle.grouping.proofs.Reductions.{machine-at, rows-in, group-least, leaders-in, leaders-fewer, reduction}
+use Rattle.grouping.proofs.Reductions.{machine-at, rows-in, group-least, leaders-fewer, reduction}
 use Rattle.grouping.proofs.reduce.Statement.{statement}
 use Rattle.grouping.proofs.reduce.Tie as tie
 
@@ -21,9 +20,6 @@ count-few : (c : tie.After-list-leaders) → c .list-leaders .result ≤ 256
 count-few c =
     let g = c .before .before .before .before .before in
     omega (arith, few (g .before), leaders-fewer (machine (g .before)) (g .groups .result) (g .groups .ensures) (c .list-leaders .ensures))
-
-leaders-below : (c : tie.After-list-leaders) → ListBelow (c .list-leaders .result) (c .before .before .before .before .before .before .before .width .result) 256 (c .before .before .before .before .before .before .before .before .args .t4) (c .list-leaders .last .1 .1 .0)
-leaders-below c = let g = c .before .before .before .before .before in leaders-in (machine (g .before)) (g .groups .result) (g .groups .ensures) (c .list-leaders .ensures) (few (g .before))
 
 width-requires : tie.Need-width-requires
 width-requires c κs = search needs
@@ -44,13 +40,13 @@ put-verdicts-requires : tie.Need-put-verdicts-requires
 put-verdicts-requires c κs =
     let leaders = c .before .before .before .before in
     let wide = leaders .before .before .before .before .before .before .before in
-    ((wide .width .ensures .1, count-few leaders, wide .before .pre .1 .1 .0), leaders-below leaders)
+    (wide .width .ensures .1, count-few leaders, wide .before .pre .1 .1 .0)
 
 put-rows-requires : tie.Need-put-rows-requires
 put-rows-requires c κs =
     let leaders = c .before .before .before .before .before .before .before .before .before in
     let wide = leaders .before .before .before .before .before .before .before in
-    ((wide .width .ensures .1, count-few leaders, wide .before .pre .1 .1 .1), leaders-below leaders)
+    (wide .width .ensures .1, count-few leaders, wide .before .pre .1 .1 .1)
 
 cast-result : tie.Need-cast-result
 cast-result c = let h = count-few (c .before .before .before .before .before .before .before .before .before .before) in omega arith

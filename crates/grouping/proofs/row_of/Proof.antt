@@ -24,14 +24,8 @@ loop-holds c = (omega arith, filled-none)
 successor-requires : tie.Need-successor-requires Inv-loop μ-loop
 successor-requires c κs = search needs
 
-mul-row : tie.Need-mul-row Inv-loop μ-loop
-mul-row c = omega (arith, c .successor .ensures, c .before .before .before .pre .1 .to (c .before .before .loop .e) (omega arith))
-
 element-copy-out-row : tie.Need-element-copy-out-row Inv-loop μ-loop
-element-copy-out-row c = omega (arith, c .successor .ensures, c .before .before .before .pre .1 .to (c .before .before .loop .e) (omega arith))
-
-mul-row-2 : tie.Need-mul-row-2 Inv-loop μ-loop
-mul-row-2 c = search needs
+element-copy-out-row c = search needs
 
 array-write-row : tie.Need-array-write-row Inv-loop μ-loop
 array-write-row c = search needs
@@ -43,7 +37,7 @@ loop-less : tie.Need-loop-less Inv-loop μ-loop
 loop-less c = search needs
 
 loop-again : tie.Need-loop-again Inv-loop μ-loop
-loop-again c = (omega arith, filled-more (c .before .before .before .loop .inv .1) (ap (λ (x : ℕ). getD (now (c .before .before .before .before .args .numbers)) x 0) (c .before .successor .ensures)) (omega arith))
+loop-again c = (omega arith, filled-more (c .before .before .before .loop .inv .1) (ap (λ (x : ℕ). getD (now (c .before .before .before .before .args .numbers)) x 0) (c .before .successor .ensures .0)) (omega arith))
 
 returns : tie.Need-returns Inv-loop μ-loop
 unfolding rowAt
@@ -57,9 +51,7 @@ row-of-spec =
     μ-loop
     loop-holds
     successor-requires
-    mul-row
     element-copy-out-row
-    mul-row-2
     array-write-row
     add-e
     loop-less

@@ -30,9 +30,6 @@ element-set-from-key c = search needs
 cast-slots : tie.Need-cast-slots
 cast-slots c = search needs
 
-mul-slots : tie.Need-mul-slots
-mul-slots c = search needs
-
 element-write-slots : tie.Need-element-write-slots
 element-write-slots c = search needs
 
@@ -62,7 +59,6 @@ enter-spec =
     mul-key
     element-set-from-key
     cast-slots
-    mul-slots
     element-write-slots
     add-t10
     returns-2

@@ -21,9 +21,6 @@ loop-holds c = (omega arith, filled-none)
 least-of-class-requires : tie.Need-least-of-class-requires Inv-loop μ-loop
 least-of-class-requires c κs = search needs
 
-mul-group : tie.Need-mul-group Inv-loop μ-loop
-mul-group c = search needs
-
 array-write-group : tie.Need-array-write-group Inv-loop μ-loop
 array-write-group c = search needs
 
@@ -48,7 +45,6 @@ first-groups-spec =
     μ-loop
     loop-holds
     least-of-class-requires
-    mul-group
     array-write-group
     add-i
     loop-less

@@ -7,7 +7,7 @@ use lib.ListN.{take}
 use Rattle.meaning.specs.Traces.{firstEvents}
 use Rattle.moore.specs.Grouping.{rounds}
 use Rattle.group_slots.specs.Groups.{Least}
-use Rattle.refinement.proofs.Laws.{rows-fewer, next-least}
+use Rattle.refinement.proofs.Laws.{next-least}
 use Rattle.refinement.proofs.Front.{rounds-stop, rounds-step}
 use Rattle.refinement.proofs.refined.Statement.{statement}
 use Rattle.refinement.proofs.refined.Tie as tie
@@ -22,7 +22,7 @@ loop-holds : tie.Need-loop-holds Inv-loop μ-loop
 loop-holds c = (omega arith, c .pre .1 .1, refl)
 
 round-requires : tie.Need-round-requires Inv-loop μ-loop
-round-requires c κs = let s = c .before .before .before in ((omega arith, omega arith), (rows-fewer (s .args .states) 256 (s .pre .1 .0) (omega arith) (omega arith), c .before .before .loop .inv .1))
+round-requires c κs = ((omega arith, omega arith), c .before .before .loop .inv .1)
 
 same-groups-requires : tie.Need-same-groups-requires Inv-loop μ-loop
 same-groups-requires c κs = search needs

@@ -1,13 +1,13 @@
 -- `grouping::round` meets its contract.
 use native.Mathlib.Omega.{arith}
 use borrow.Author.Needs.{needs}
-use Prim.Native.Nat.{_+_, _-_, _≤_, _<_}
+use Prim.Native.Nat.{_-_, _≤_, _<_}
 use Rattle.meaning.specs.Traces.{firstEvents}
 use Rattle.sequences.specs.Tabulate.{leastBelow}
 use Rattle.sequences.proofs.Loops.{Filled, filled-none, filled-more}
 use Rattle.moore.specs.Grouping.{sameStep, nextGroups}
 use Rattle.group_slots.specs.Slots.{Slotted}
-use Rattle.refinement.proofs.Laws.{filled-take, rows-fewer}
+use Rattle.refinement.proofs.Laws.{filled-take}
 use Rattle.group_slots.proofs.Slots.{left-below, in-slot, slotted-none, slotted-more}
 use Rattle.refinement.proofs.round.Statement.{statement}
 use Rattle.refinement.proofs.round.Tie as tie
@@ -25,38 +25,28 @@ loop-holds : tie.Need-loop-holds Inv-loop μ-loop
 loop-holds c = (omega arith, filled-none, slotted-none _ _ _ (c .no-slots .result) (c .no-slots .ensures))
 
 slot-of-requires : tie.Need-slot-of-requires Inv-loop μ-loop
-slot-of-requires c κs = ((omega arith, omega arith), rows-fewer (c .before .before .loop .i + 1) 256 (c .before .before .before .before .pre .1 .0) (omega arith) (omega arith) .row (c .before .before .loop .i) (omega arith))
+slot-of-requires c κs = search needs
 
-mul-wide16 : tie.Need-mul-wide16 Inv-loop μ-loop
-mul-wide16 c = omega (arith, c .before .before .before .loop .inv .2 .long, c .slot-of .ensures .1)
+array-read-wide : tie.Need-array-read-wide Inv-loop μ-loop
+array-read-wide c = omega (arith, c .before .before .before .loop .inv .2 .long, c .slot-of .ensures .1)
 
-array-read-wide16 : tie.Need-array-read-wide16 Inv-loop μ-loop
-array-read-wide16 c = omega (arith, c .before .before .before .loop .inv .2 .long, c .slot-of .ensures .1)
-
-wide16-requires : tie.Need-wide16-requires Inv-loop μ-loop
-wide16-requires c κs = search needs
+wide-requires : tie.Need-wide-requires Inv-loop μ-loop
+wide-requires c κs = search needs
 
 least-by-slot-requires : tie.Need-least-by-slot-requires Inv-loop μ-loop
 least-by-slot-requires c κs =
-    let wide16 = c .before .before .wide16 in
+    let wide = c .before .before .wide in
     let slot-of = c .before .before .before .slot-of in
     let loop = c .before .before .before .before .before .before .loop in
     let start = c .before .before .before .before .before .before .before .before in
-    let below = rows-fewer (loop .i + 1) 256 (start .pre .1 .0) (omega arith) (omega arith) in
-    let slotted = in-slot _ _ _ (loop .i) (slot-of .result) (wide16 .result) (loop .slots) (loop .inv .2) (slot-of .ensures .0) (wide16 .ensures .0) in
-    ((omega arith, omega arith), (below, (record { least = λ k l. start .pre .1 .1 .least k (omega arith) }, (left-below _ _ _ (loop .i) (loop .inv .1), slotted))))
-
-mul-next : tie.Need-mul-next Inv-loop μ-loop
-mul-next c = search needs
+    let slotted = in-slot _ _ _ (loop .i) (slot-of .result) (wide .result) (loop .slots) (loop .inv .2) (slot-of .ensures .0) (slot-of .ensures .1) (wide .ensures .0) in
+    ((omega arith, omega arith), (record { least = λ k l. start .pre .1 .least k (omega arith) }, (left-below _ _ _ (loop .i) (loop .inv .1), slotted)))
 
 array-write-next : tie.Need-array-write-next Inv-loop μ-loop
 array-write-next c = search needs
 
 cast-slots : tie.Need-cast-slots Inv-loop μ-loop
 cast-slots c = search needs
-
-mul-slots : tie.Need-mul-slots Inv-loop μ-loop
-mul-slots c = omega (arith, c .before .before .before .before .before .before .before .loop .inv .2 .long, c .before .before .before .before .slot-of .ensures .1)
 
 array-write-slots : tie.Need-array-write-slots Inv-loop μ-loop
 array-write-slots c = omega (arith, c .before .before .before .before .before .before .before .loop .inv .2 .long, c .before .before .before .before .slot-of .ensures .1)
@@ -87,14 +77,11 @@ round-spec =
     no-slots-requires
     loop-holds
     slot-of-requires
-    mul-wide16
-    array-read-wide16
-    wide16-requires
+    array-read-wide
+    wide-requires
     least-by-slot-requires
-    mul-next
     array-write-next
     cast-slots
-    mul-slots
     array-write-slots
     add-i
     loop-less

@@ -27,11 +27,11 @@ mul-put-u16 c = search needs
 add-put-u16 : tie.Need-add-put-u16 Inv-loop μ-loop
 add-put-u16 c = search needs
 
-mul-put-u16-2 : tie.Need-mul-put-u16-2 Inv-loop μ-loop
-mul-put-u16-2 c = search needs
-
 array-read-put-u16 : tie.Need-array-read-put-u16 Inv-loop μ-loop
 array-read-put-u16 c = search needs
+
+cast-put-u16 : tie.Need-cast-put-u16 Inv-loop μ-loop
+cast-put-u16 c = search needs
 
 put-u16-requires : tie.Need-put-u16-requires Inv-loop μ-loop
 put-u16-requires c κs = omega (arith, c .before .before .loop .inv .1)
@@ -60,8 +60,8 @@ put-successors-spec =
     loop-holds
     mul-put-u16
     add-put-u16
-    mul-put-u16-2
     array-read-put-u16
+    cast-put-u16
     put-u16-requires
     add-e
     loop-less
