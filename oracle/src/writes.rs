@@ -127,8 +127,8 @@ fn long() -> Vec<Typed> {
     let pairs = |before, after| repeated(&[("(", before), ("s0", 1), (")", after), ("\n", 1)]);
     typed.push(Typed::new("pairs_511", 1, pairs(511, 511)));
     typed.push(Typed::new("pairs_512", 1, pairs(512, 512)));
-    typed.push(Typed::new("one_short", 1, pairs(512, 510)));
-    typed.push(Typed::new("one_too_many", 1, pairs(510, 511)));
+    typed.push(Typed::new("bracket_missing", 1, pairs(512, 510)));
+    typed.push(Typed::new("bracket_too_many", 1, pairs(510, 511)));
     typed.push(Typed::new("opening_1024", 1, vec![b'('; TEXT_LIMIT]));
     typed
 }
