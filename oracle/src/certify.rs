@@ -239,14 +239,14 @@ fn lists_of(length: usize, signals: u8) -> impl Iterator<Item = Vec<u8>> {
 }
 
 /// How many of the lists leave different properties, as far as the given
-/// continuations, each a stem followed by event 0 for ever, can tell.
-pub fn different_residuals(rule: &Rule, lists: &[Vec<u8>], stems: &[Vec<u8>]) -> usize {
+/// continuations, in each of which the last event comes for ever, can tell.
+pub fn different_residuals(rule: &Rule, lists: &[Vec<u8>], continuations: &[Vec<u8>]) -> usize {
     let signature = |list: &Vec<u8>| -> Vec<bool> {
-        let holds = |stem: &Vec<u8>| {
-            let trace = [&list[..], stem, &[0]].concat();
+        let holds = |continuation: &Vec<u8>| {
+            let trace = [&list[..], continuation].concat();
             satisfies(rule, &trace, trace.len() - 1)
         };
-        stems.iter().map(holds).collect()
+        continuations.iter().map(holds).collect()
     };
     lists.iter().map(signature).collect::<HashSet<_>>().len()
 }

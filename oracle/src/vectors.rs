@@ -3,6 +3,7 @@
 mod build_answers;
 mod build_cases;
 mod build_samples;
+mod edge_tables;
 mod rule_cases;
 pub mod rule_faults;
 pub mod rule_samples;

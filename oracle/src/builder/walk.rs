@@ -189,7 +189,7 @@ fn rank_of(number: u8, set: LabelSet) -> usize {
 mod tests {
     use super::*;
     use crate::rule::{kind, Rule};
-    use crate::vectors::rule_samples::{nexts, p3, p9, rule, shared_nexts, P, Q};
+    use crate::vectors::rule_samples::{edge_rules, nexts, p3, p9, rule, shared_nexts, P, Q};
 
     fn residual_count(rule: &Rule) -> Option<usize> {
         Walk::over(&Labels::of(rule)).map(|walk| walk.count)
@@ -202,6 +202,8 @@ mod tests {
         assert_eq!(residual_count(&nexts(7)), Some(10));
         assert_eq!(residual_count(&shared_nexts(5)), Some(244));
         assert_eq!(residual_count(&shared_nexts(6)), None);
+        let at_the_edge: Vec<_> = edge_rules().iter().map(residual_count).collect();
+        assert_eq!(at_the_edge, [Some(256), Some(256), None, None]);
         let infinitely_often = [P, (kind::EVENTUALLY, 0, 0), (kind::ALWAYS, 1, 0)];
         assert_eq!(residual_count(&rule(1, &infinitely_often)), Some(1));
     }

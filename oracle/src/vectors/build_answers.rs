@@ -68,14 +68,53 @@ fn built_line(table: &[u8], events: &[u8]) -> String {
     line + " run " + &outcome
 }
 
-/// Finds more than 256 lists that leave different properties: six events, each
-/// of them none, signal 0 or signal 1, told apart by what signal 2 does in the
-/// six events behind them. These are the lists for document 01's six nexts.
+/// Finds more than 256 lists that leave different properties, in one of the two
+/// ways that are known.
 fn confirm_refusal_11(rule: &Rule) -> Result<(), String> {
-    let count = different_residuals(rule, &lists_over(&[0, 1, 2], 6), &lists_over(&[0, 4], 6));
-    match count > 256 {
+    let counts = [behind_delays(), behind_numbers()].map(|way| way.count(rule));
+    match counts.iter().any(|&count| count > 256) {
         true => Ok(()),
-        false => Err(format!("{rule}: refused by 11, and {count} remaining properties found")),
+        false => Err(format!("{rule}: refused by 11, and {counts:?} remaining properties found")),
+    }
+}
+
+/// Lists, and continuations that tell apart what they leave.
+struct Way {
+    lists: Vec<Vec<u8>>,
+    continuations: Vec<Vec<u8>>,
+}
+
+impl Way {
+    /// The lists leave at least so many different properties.
+    fn count(&self, rule: &Rule) -> usize {
+        different_residuals(rule, &self.lists, &self.continuations)
+    }
+}
+
+/// For document 01's six nexts: six events, each of them none, signal 0 or
+/// signal 1, told apart by what signal 2 does in the six events behind them.
+fn behind_delays() -> Way {
+    let followed_by_none = |stem: Vec<u8>| [&stem[..], &[0]].concat();
+    Way {
+        lists: lists_over(&[0, 1, 2], 6),
+        continuations: lists_over(&[0, 4], 6).into_iter().map(followed_by_none).collect(),
+    }
+}
+
+/// For the rules at the edge of 256: no event at all, and each event followed by
+/// each set of numbers from 1 to 7, as signals 0 to 2 show them. Told apart by all
+/// numbers, all but one, signal 3 with the first of them, and 1 for ever behind them.
+fn behind_numbers() -> Way {
+    let numbers_of = |set: u8| (1..=7).filter(move |number| set >> number & 1 == 1);
+    let behind = |event: u8| {
+        let sets = (0..=254).step_by(2);
+        sets.map(move |set| [event].into_iter().chain(numbers_of(set)).collect::<Vec<u8>>())
+    };
+    let all_but = |left_out: u8| numbers_of(!(1 << left_out)).chain([0]).collect::<Vec<u8>>();
+    let others = [vec![9, 2, 3, 4, 5, 6, 7, 0], vec![1, 2, 3, 4, 5, 6, 7, 1]];
+    Way {
+        lists: [vec![]].into_iter().chain((0..16).flat_map(behind)).collect(),
+        continuations: (0..=7).map(all_but).chain(others).collect(),
     }
 }
 
@@ -91,7 +130,7 @@ fn lists_over(events: &[u8], length: usize) -> Vec<Vec<u8>> {
 
 #[cfg(test)]
 mod tests {
-    use super::super::rule_samples::{p12, p3, shared_nexts};
+    use super::super::rule_samples::{edge_rules, p12, p3, shared_nexts};
     use super::*;
 
     fn line(rule: Rule, output: u16, events: &[u8]) -> String {
@@ -111,10 +150,20 @@ mod tests {
 
     #[test]
     fn six_nexts_leave_729_properties_and_the_violated_one() {
-        let (lists, stems) = (lists_over(&[0, 1, 2], 6), lists_over(&[0, 4], 6));
-        assert_eq!((lists.len(), stems.len()), (729, 64));
-        assert_eq!(different_residuals(&shared_nexts(6), &lists, &stems), 729);
+        let way = behind_delays();
+        assert_eq!((way.lists.len(), way.continuations.len()), (729, 64));
+        assert_eq!(way.count(&shared_nexts(6)), 729);
         assert!(confirm_refusal_11(&shared_nexts(6)).is_ok());
         assert!(confirm_refusal_11(&shared_nexts(5)).is_err());
+    }
+
+    #[test]
+    fn the_rules_at_the_edge_leave_256_properties_and_257() {
+        let way = behind_numbers();
+        assert_eq!((way.lists.len(), way.continuations.len()), (1 + 16 * 128, 10));
+        for (rule, count) in edge_rules().iter().zip([256, 256, 257, 257]) {
+            assert_eq!(way.count(rule), count, "{rule}");
+            assert_eq!(confirm_refusal_11(rule).is_ok(), count > 256, "{rule}");
+        }
     }
 }

@@ -1,12 +1,14 @@
 //! The cases of the build stream: document 01's table of known rules, document
-//! 02's counts between two bounds, and rules made at random. The results of the
-//! known rules are written out by hand from document 01, or, for seven nexts and
-//! the counts, counted; only the rows of the table with 244 states, and the lines
-//! of the random rules, come from certified tables.
+//! 02's counts between two bounds, the rules at the edge of 256, and rules made at
+//! random. The results of the known rules are written out by hand from document 01,
+//! or, for seven nexts, the counts and the edge, counted; only the rows of the table
+//! with 244 states, and the lines of the random rules, come from certified tables.
 
 use super::build_answers::Answers;
 use super::build_samples;
+use super::edge_tables;
 use super::rule_samples::{always, counted_until, flap_pair, longest_file};
+use super::rule_samples::{full_table, merged_states, one_too_many, one_too_many_merged};
 use super::rule_samples::{nexts, p12, p3, p9, rule, shared_nexts, NodeBytes, P, Q};
 use super::{append_counted, Case};
 use crate::certify::Summary;
@@ -97,12 +99,17 @@ fn case(rule: Rule, output: u16, events: &[u8], line: &str) -> KnownCase {
 
 /// A rule whose table is given row by row, run on the empty list.
 fn known(rule: Rule, rows: &[impl AsRef<str>], end: &str) -> KnownCase {
+    ran(rule, rows, ROOM, &[], &format!("state 0 {end}"))
+}
+
+/// A rule whose table is given row by row, and how a run over it ends.
+fn ran(rule: Rule, rows: &[impl AsRef<str>], output: u16, events: &[u8], end: &str) -> KnownCase {
     let signals = rule.signals;
     let length = 7 + rows.len() * (5 + 2 * (1 << signals));
     let count = rows.len();
     let rows: String = rows.iter().map(|row| format!(" | {} ", row.as_ref())).collect();
     let start = format!("built {length} signals {signals} states {count}");
-    case(rule, ROOM, &[], &format!("{start}{rows} run state 0 {end} kept"))
+    case(rule, output, events, &format!("{start}{rows} run {end} kept"))
 }
 
 /// The five shared nexts: the document gives their size and not their rows.
@@ -366,11 +373,42 @@ fn runs() -> Vec<KnownCase> {
     ]
 }
 
+/// The rules at the edge of 256. Their tables are counted, and the ends of the runs by hand:
+/// sets of j numbers come in the order 12, 13, .., 67, those where the first event had signal 3
+/// on after the others. So the full table has the seven numbers in states 254 and 255, and {2, 3,
+/// .., 7} is the last before them; the merged states have the six in 127 and 128, and 8 is the
+/// first event that shows 7. Where there are 257 properties, it does not matter that a table of
+/// them would have 130 states.
+fn edge_of_256() -> Vec<KnownCase> {
+    let full_rows = edge_tables::rows(7);
+    let merged_rows = edge_tables::rows(6);
+    let full = |output, events: &[u8], end| ran(full_table(), &full_rows, output, events, end);
+    let merged =
+        |output, events: &[u8], end| ran(merged_states(), &merged_rows, output, events, end);
+    let refused = |rule, output, by| case(rule, output, &[], &format!("refused {by} at 0 kept"));
+    vec![
+        full(9479, &[], "state 0 undecided none"),
+        full(ROOM, &[9, 2, 3, 4, 5, 6, 7], "state 255 violated 7"),
+        full(9479, &[1, 2, 3, 4, 5, 6, 7, 8], "state 254 satisfied 7"),
+        full(9480, &[15, 14, 5, 4, 3, 2], "state 253 undecided none"),
+        full(9479, &[15, 14, 16, 4, 3, 2], "refused 12 at 2"),
+        refused(full_table(), 9478, 10),
+        merged(4780, &[], "state 0 undecided none"),
+        merged(4780, &[7, 1], "state 8 moot 1"),
+        merged(ROOM, &[9, 2, 3, 4, 5, 6], "state 128 satisfied 6"),
+        refused(merged_states(), 4779, 10),
+        refused(one_too_many(), ROOM, 11),
+        refused(one_too_many(), 0, 11),
+        refused(one_too_many_merged(), ROOM, 11),
+        refused(one_too_many_merged(), 0, 11),
+    ]
+}
+
 fn known_rules() -> Vec<KnownCase> {
     let document_01 = [one_signal(), two_signals(), limits(), runs()];
     let counts = [flap_pairs(), always_of_two(), counts_of_two(), counts_of_more()];
     let all = document_01.into_iter().chain(counts).flatten();
-    all.chain(bare_counts_of_four()).collect()
+    all.chain(bare_counts_of_four()).chain(edge_of_256()).collect()
 }
 
 #[cfg(test)]
@@ -386,7 +424,7 @@ mod tests {
             let line = answers.line(&case.question);
             assert!(case.is_answered_by(&line), "{:?} and not {line}", case.written);
         }
-        assert_eq!(answers.summary.rules(), 17 + 55);
+        assert_eq!(answers.summary.rules(), 17 + 55 + 2);
     }
 
     #[test]

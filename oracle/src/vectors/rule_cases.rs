@@ -92,8 +92,7 @@ impl RuleCases {
     }
 
     fn add_good_rules(&mut self) {
-        let known = [samples::document_rules(), samples::limit_rules(), samples::count_rules()];
-        for rule in known.concat() {
+        for rule in samples::known_rules() {
             self.add_good(rule);
         }
         let place_of_the_eighth = samples::nexts(7).to_bytes().len();

@@ -1,5 +1,5 @@
 //! Good rules: those of document 01, those at the limits, those with counts between two
-//! bounds, and random ones.
+//! bounds, those at the edge of 256 remaining properties, and random ones.
 
 use crate::random_rules::any_count;
 use crate::rng::Rng;
@@ -180,6 +180,130 @@ pub fn count_rules() -> Vec<Rule> {
     rules
 }
 
+/// Nodes of which each stands once, however often it is used.
+#[derive(Default)]
+struct SharedNodes {
+    nodes: Vec<NodeBytes>,
+}
+
+impl SharedNodes {
+    /// The number of the node, which is added unless it stands already.
+    fn add(&mut self, kind: u8, first: u8, second: u8) -> u8 {
+        let node = (kind, first, second);
+        let number = self.nodes.iter().position(|&other| other == node);
+        number.unwrap_or_else(|| {
+            self.nodes.push(node);
+            self.nodes.len() - 1
+        }) as u8
+    }
+
+    fn signal(&mut self, signal: u8) -> u8 {
+        self.add(kind::SIGNAL, signal, 0)
+    }
+
+    /// The signal is on where its bit of the number is set, and off where it is not.
+    fn like_bit(&mut self, number: u8, signal: u8) -> u8 {
+        let is_on = self.signal(signal);
+        match number >> signal & 1 {
+            0 => self.add(kind::NOT, is_on, 0),
+            _ => is_on,
+        }
+    }
+
+    /// Signals 0 to 2 show exactly this number.
+    fn shows(&mut self, number: u8) -> u8 {
+        let (first, second) = (self.like_bit(number, 0), self.like_bit(number, 1));
+        let both = self.add(kind::AND, first, second);
+        let third = self.like_bit(number, 2);
+        self.add(kind::AND, both, third)
+    }
+
+    /// Signals 0 to 2 eventually show the number, for each number from 1 on.
+    fn eventually_shows(&mut self, last: u8) -> Vec<u8> {
+        let numbers = 1..=last;
+        let due = numbers.map(|number| {
+            let shows = self.shows(number);
+            self.add(kind::EVENTUALLY, shows, 0)
+        });
+        due.collect()
+    }
+
+    /// Any of signals 0 to 2 is on.
+    fn shows_any(&mut self) -> u8 {
+        let (first, second, third) = (self.signal(0), self.signal(1), self.signal(2));
+        let either = self.add(kind::OR, first, second);
+        self.add(kind::OR, either, third)
+    }
+
+    /// Signals 0 to 2 show 7, and what is due comes for ever, which no event decides.
+    fn undecidable(&mut self, due: u8) -> u8 {
+        let seventh = self.shows(7);
+        let for_ever = self.add(kind::ALWAYS, due, 0);
+        self.add(kind::AND, seventh, for_ever)
+    }
+
+    /// The exclusive or of a node with others, over four signals.
+    fn exclusive_or(mut self, first: u8, others: &[u8]) -> Rule {
+        others.iter().fold(first, |whole, &other| self.add(kind::EXCLUSIVE_OR, whole, other));
+        rule(4, &self.nodes)
+    }
+}
+
+/// The exclusive or of (signal 3, and any of signals 0 to 2) and of "signals 0 to 2 eventually
+/// show k", k from 1 to 7. Behind the first event it matters which of the seven have come, and
+/// whether the first made the first term true, which it cannot where it shows 0: with the start,
+/// 1 + 2 * 128 - 1 remaining properties, and as many states.
+pub fn full_table() -> Rule {
+    let mut nodes = SharedNodes::default();
+    let due = nodes.eventually_shows(7);
+    let any = nodes.shows_any();
+    let fourth = nodes.signal(3);
+    let first = nodes.add(kind::AND, fourth, any);
+    nodes.exclusive_or(first, &due)
+}
+
+/// The same to 6, and (7, and always eventually 1): 2 * 64 - 1 remaining properties where the
+/// first event does not show 7, and 2 * 64 where it does. Those are never decided, so they are
+/// one state: with the start, 256 remaining properties and 129 states.
+pub fn merged_states() -> Rule {
+    let mut nodes = SharedNodes::default();
+    let due = nodes.eventually_shows(6);
+    let any = nodes.shows_any();
+    let undecidable = nodes.undecidable(due[0]);
+    let fourth = nodes.signal(3);
+    let first = nodes.add(kind::AND, fourth, any);
+    nodes.exclusive_or(first, &[&[undecidable], &due[..]].concat())
+}
+
+/// Like the full table, with signal 3 alone for the first term, which an event that shows 0 can
+/// make true as well: 1 + 2 * 128 remaining properties.
+pub fn one_too_many() -> Rule {
+    let mut nodes = SharedNodes::default();
+    let due = nodes.eventually_shows(7);
+    let fourth = nodes.signal(3);
+    nodes.exclusive_or(fourth, &due)
+}
+
+/// Like the merged states, with signal 3 alone for the first term: 1 + 2 * 64 + 2 * 64 remaining
+/// properties, and they would be 130 states.
+pub fn one_too_many_merged() -> Rule {
+    let mut nodes = SharedNodes::default();
+    let due = nodes.eventually_shows(6);
+    let undecidable = nodes.undecidable(due[0]);
+    let fourth = nodes.signal(3);
+    nodes.exclusive_or(fourth, &[&[undecidable], &due[..]].concat())
+}
+
+/// The rules at the edge of 256 remaining properties.
+pub fn edge_rules() -> Vec<Rule> {
+    vec![full_table(), merged_states(), one_too_many(), one_too_many_merged()]
+}
+
+/// All of these that are not drawn.
+pub fn known_rules() -> Vec<Rule> {
+    [document_rules(), limit_rules(), count_rules(), edge_rules()].concat()
+}
+
 /// A good rule of any size.
 pub fn random_rule(rng: &mut Rng) -> Rule {
     let signals = 1 + rng.byte_below(4);
@@ -283,7 +407,7 @@ mod tests {
     #[test]
     fn every_good_rule_is_read_back() {
         let mut rng = Rng::new(11);
-        let mut rules = [document_rules(), limit_rules(), count_rules()].concat();
+        let mut rules = known_rules();
         rules.push(largest(&mut rng));
         rules.extend((0..200).map(|_| random_rule(&mut rng)));
         for rule in rules {
@@ -303,6 +427,19 @@ mod tests {
     #[test]
     fn the_longest_file_has_454_bytes() {
         assert_eq!(longest_file().to_bytes().len(), 454);
+    }
+
+    #[test]
+    fn the_rules_at_the_edge_are_those_of_the_examples() {
+        let files: [&[u8]; 3] = [
+            include_bytes!("../../../examples/full_table.rule"),
+            include_bytes!("../../../examples/merged_states.rule"),
+            include_bytes!("../../../examples/one_too_many.rule"),
+        ];
+        for (rule, file) in edge_rules().iter().zip(files) {
+            assert_eq!(rule.to_bytes(), file, "{rule}");
+        }
+        assert_eq!(files.map(<[u8]>::len), [202, 208, 184]);
     }
 
     #[test]
