@@ -1,5 +1,6 @@
 //! The generator of cases. A case depends on the seed and its number only.
 
+mod edge;
 mod events;
 mod planned;
 mod rules;
@@ -39,7 +40,10 @@ impl Generator {
         Generator { rules: Rules::new(rng), tables: Tables::new(rng), texts: Texts::new() }
     }
 
-    pub fn case(&self, rng: &mut Rng) -> Case {
+    pub fn case(&self, rng: &mut Rng, number: u64) -> Case {
+        if number < edge::CASES {
+            return edge::case(rng, number);
+        }
         match rng.below(112) {
             0..=34 => self.build(rng),
             35..=49 => self.check(rng),

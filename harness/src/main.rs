@@ -65,7 +65,7 @@ fn run(cases: u64, seed: u64) -> Result<String, String> {
     let generator = Generator::new(&mut Rng::new(seed_of(seed, u64::MAX)));
     let mut tally = Tally::default();
     for number in 0..cases {
-        let case = generator.case(&mut Rng::new(seed_of(seed, number)));
+        let case = generator.case(&mut Rng::new(seed_of(seed, number)), number);
         let compared = catch_unwind(AssertUnwindSafe(|| compare::case(&case, &mut tally)));
         let failed = |how: &dyn Display| format!("seed {seed}, case {number}\n{case}\n{how}");
         match compared {

@@ -8,6 +8,10 @@ const REFUSALS: std::ops::RangeInclusive<u8> = 1..=16;
 /// The refusals of write, which have others' numbers and places of its own.
 const WRITE_REFUSALS: [u8; 6] = [15, 4, 16, 7, 8, 10];
 
+/// The most states of a table, and the least number of rules with as many.
+const FULL: u16 = 256;
+const FULL_TABLES: u64 = 100;
+
 /// How far a step with counts that need not be the table's comes.
 const STRAYS: [&str; 5] = [
     "no table's counts or length",
@@ -24,6 +28,7 @@ pub struct Tally {
     refused: BTreeMap<u8, u64>,
     refused_by_write: BTreeMap<u8, u64>,
     stray_steps: BTreeMap<&'static str, u64>,
+    full_tables: u64,
 }
 
 impl Tally {
@@ -43,12 +48,17 @@ impl Tally {
         }
     }
 
+    /// Adds a rule whose table both sides have built, with this number of states.
+    pub fn add_table(&mut self, states: u16) {
+        self.full_tables += u64::from(states == FULL);
+    }
+
     /// Adds a step with counts that need not be the table's, by how far it came.
     pub fn add_stray(&mut self, came: &'static str) {
         *self.stray_steps.entry(came).or_default() += 1;
     }
 
-    /// What has to be met at least once and was not.
+    /// What has to be met, most of it once, and was not.
     pub fn missing(&self) -> Vec<String> {
         let kinds = KINDS.iter().filter(|kind| !self.accepted.contains_key(*kind));
         let numbers = REFUSALS.filter(|number| !self.refused.contains_key(number));
@@ -58,7 +68,9 @@ impl Tally {
         let written = written.map(|number| format!("refusal {number} of write"));
         let strays = STRAYS.iter().filter(|came| !self.stray_steps.contains_key(*came));
         let strays = strays.map(|came| format!("a step with other counts, {came}"));
-        kinds.chain(numbers).chain(written).chain(strays).collect()
+        let few = (self.full_tables < FULL_TABLES)
+            .then(|| format!("{FULL_TABLES} tables with {FULL} states"));
+        kinds.chain(numbers).chain(written).chain(strays).chain(few).collect()
     }
 
     fn write_kind(&self, out: &mut fmt::Formatter<'_>, kind: &str) -> fmt::Result {
@@ -78,6 +90,7 @@ impl fmt::Display for Tally {
         }
         write!(out, "refused {}; ", listed(&self.refused))?;
         write!(out, "of these by write {}; ", listed(&self.refused_by_write))?;
+        write!(out, "tables with {FULL} states: {}; ", self.full_tables)?;
         let strays = self.stray_steps.iter().map(|(came, count)| format!("{came} {count}"));
         write!(out, "steps with other counts: {}", strays.collect::<Vec<_>>().join(", "))
     }

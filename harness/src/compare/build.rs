@@ -12,10 +12,15 @@ use crate::tefuji::{self, TABLE_MAX};
 const NO_TABLE: usize = 64;
 
 pub fn compare(rule: &[u8], rooms: &[Room], paint: u8, tally: &mut Tally) -> Compared {
-    let built = builder::build(rule, &mut [0; TABLE_MAX]);
+    let mut table = [0; TABLE_MAX];
+    let built = builder::build(rule, &mut table);
     let table_length = built.unwrap_or(NO_TABLE);
-    for room in rooms {
-        compare_into(rule, room.length(table_length, TABLE_MAX), paint, tally)?;
+    let lengths = rooms.iter().map(|room| room.length(table_length, TABLE_MAX));
+    for length in lengths.clone() {
+        compare_into(rule, length, paint, tally)?;
+    }
+    if built.is_ok_and(|least| lengths.max() >= Some(least)) {
+        tally.add_table(u16::from_le_bytes([table[5], table[6]]));
     }
     Ok(())
 }

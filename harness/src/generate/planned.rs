@@ -55,14 +55,14 @@ pub fn recurring(rng: &mut Rng) -> Rule {
     Rule { signals, nodes: drawing.nodes }
 }
 
-struct Drawing {
-    signals: u8,
-    nodes: Vec<FormulaNode>,
+pub struct Drawing {
+    pub signals: u8,
+    pub nodes: Vec<FormulaNode>,
 }
 
 impl Drawing {
     /// The number of the new node, whose body has at most two bytes.
-    fn add(&mut self, kind: u8, first: u8, second: u8) -> u8 {
+    pub fn add(&mut self, kind: u8, first: u8, second: u8) -> u8 {
         self.push(FormulaNode::new(kind, first, second))
     }
 

@@ -23,9 +23,9 @@ pub struct Rules {
 
 impl Rules {
     pub fn new(rng: &mut Rng) -> Self {
-        let good = [samples::document_rules(), samples::limit_rules(), samples::count_rules()];
         let is_large = |rule: &Rule| temporal_count(&rule.nodes) > FEW_TEMPORAL;
-        let (large, known): (Vec<_>, Vec<_>) = good.concat().into_iter().partition(is_large);
+        let (large, known): (Vec<_>, Vec<_>) =
+            samples::known_rules().into_iter().partition(is_large);
         let to_bytes = |rules: Vec<Rule>| rules.iter().map(Rule::to_bytes).collect();
         let starts = (0..8).flat_map(|_| rule_faults::starts(rng));
         let with_faults = starts.map(|start| (start.to_bytes(), rule_faults::node_faults(&start)));
