@@ -8,6 +8,7 @@ use oracle::rng::Rng;
 use oracle::rule::Rule;
 use oracle::vectors::rule_samples::{counted_until, flap_pair};
 use oracle::vectors::rule_samples::{document_rules, nexts, p3, shared_nexts};
+use oracle::vectors::rule_samples::{full_table, merged_states, one_too_many};
 
 use crate::clock::Work;
 use crate::tefuji;
@@ -58,6 +59,15 @@ fn sum(work: &Work, rules: &[Rule]) -> Cost {
     total
 }
 
+/// The rules at the edge of 256 remaining properties, under their names.
+pub fn edge_rules() -> [(&'static str, Rule); 3] {
+    [
+        ("256 states, 4 signals", full_table()),
+        ("256 remaining properties, 129 states", merged_states()),
+        ("257 remaining properties, refused", one_too_many()),
+    ]
+}
+
 pub fn report(work: &Work) {
     println!("\n| building, µs | proved | plain | ratio |\n|---|---|---|---|");
     let known = document_rules();
@@ -66,6 +76,9 @@ pub fn report(work: &Work) {
         [(3, p3()), (28, shared_nexts(3)), (82, shared_nexts(4)), (244, shared_nexts(5))]
     {
         Cost::of(work, &rule).print(&format!("{states} states"));
+    }
+    for (name, rule) in edge_rules() {
+        Cost::of(work, &rule).print(name);
     }
     for signals in 1..=4 {
         let rule = Rule { signals, ..nexts(7) };

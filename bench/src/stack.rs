@@ -1,10 +1,12 @@
-//! How much stack each call needs: the stack below the caller is painted first, and looked at after the call.
+//! How much stack each call needs: the stack below the caller is painted first, and looked at after the call. A call that needs more than
+//! include/tefuji.h says ends the report.
 
 use std::hint::black_box;
 use std::ptr;
 
 use oracle::vectors::rule_samples::shared_nexts;
 
+use crate::building;
 use crate::tefuji::{self, Opened};
 use crate::writing;
 
@@ -13,6 +15,14 @@ const DEPTH: usize = 1 << 20;
 /// What is left alone for the frames of the functions here.
 const FRAMES: usize = 1 << 10;
 const PAINT: u8 = 0xa5;
+
+/// The most bytes of stack that include/tefuji.h allows a call. What is measured has the frames of the functions here in it.
+const WRITING: usize = 128 << 10;
+const BUILDING: usize = 48 << 10;
+/// From 4,096 events on.
+const LONG_RUNS: usize = 17 << 10;
+/// Where nothing is said. Less is not told apart.
+const OTHERS: usize = FRAMES;
 
 /// The thread's stack has room for all that is painted, and nothing lives there while it is.
 #[inline(never)]
@@ -39,8 +49,13 @@ fn stack_of(call: &mut dyn FnMut()) -> usize {
     touched(top)
 }
 
-fn print(name: &str, mut call: impl FnMut()) {
-    println!("| {name} | {} |", stack_of(&mut call));
+fn print(name: &str, allowed: usize, mut call: impl FnMut()) {
+    let bytes = stack_of(&mut call);
+    println!("| {name} | {bytes} |");
+    assert!(
+        bytes <= allowed,
+        "{name}: {bytes} bytes of stack, where include/tefuji.h allows {allowed}"
+    );
 }
 
 fn measure() {
@@ -56,19 +71,28 @@ fn measure() {
     let mut file = vec![0; tefuji::RULE_MAX];
     for text in [writing::typical()].iter().chain(&writing::longest()) {
         let name = format!("write, {}", text.name);
-        print(&name, || _ = black_box(tefuji::write(&text.bytes, 2, &mut file)));
+        print(&name, WRITING, || _ = black_box(tefuji::write(&text.bytes, 2, &mut file)));
     }
-    print("build, 244 states", || _ = black_box(tefuji::build(&rule, &mut spare)));
-    print("check", || _ = black_box(Opened::open(table)));
-    print("run, 10 events", || _ = black_box(tefuji::run(table, 0, &events[..10])));
-    print("run, 4,095 events", || _ = black_box(tefuji::run(table, 0, &events[..4095])));
-    print("run, 4,096 events", || _ = black_box(tefuji::run(table, 0, &events[..4096])));
-    print("step", || _ = black_box(opened.step(0, 0)));
-    print("text", || _ = black_box(tefuji::text(table, &mut text)));
+    let edge = building::edge_rules().map(|(name, rule)| (name, rule.to_bytes()));
+    for (name, rule) in [("244 states", rule)].iter().chain(&edge) {
+        let name = format!("build, {name}");
+        print(&name, BUILDING, || _ = black_box(tefuji::build(rule, &mut spare)));
+    }
+    print("check", OTHERS, || _ = black_box(Opened::open(table)));
+    for (name, count, allowed) in [
+        ("run, 10 events", 10, OTHERS),
+        ("run, 4,095 events", 4095, OTHERS),
+        ("run, 4,096 events", 4096, LONG_RUNS),
+    ] {
+        print(name, allowed, || _ = black_box(tefuji::run(table, 0, &events[..count])));
+    }
+    print("step", OTHERS, || _ = black_box(opened.step(0, 0)));
+    print("text", OTHERS, || _ = black_box(tefuji::text(table, &mut text)));
 }
 
 /// On a thread of its own, with room to paint.
 pub fn report() {
     let thread = std::thread::Builder::new().stack_size(8 * DEPTH).spawn(measure);
-    thread.expect("a thread can be started").join().expect("the measurement ends");
+    let measured = thread.expect("a thread can be started").join();
+    measured.unwrap_or_else(|panic| std::panic::resume_unwind(panic));
 }
