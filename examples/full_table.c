@@ -1,15 +1,16 @@
 /* A rule with the largest table, one with as many remaining properties that fall into fewer states, and one with a property too many.
  *
- * Write ek for "signals 0 to 2 show exactly the number k". full_table is the exclusive or of (signal 3, and any other with it) and of "eventually
- * ek", k from 1 to 7. After the first event it matters which of the seven have come, and whether the first had signal 3 and another on: 128 sets,
- * twice, but for "none has come" with them on. With the start that is 1 + 255 states and 7 + 256 * 37 bytes. Where nothing has to be on with signal
- * 3, that pair is reached too: one_too_many leaves 257 properties. merged_states has six of the seven, and "always eventually e1" where the
- * first event shows 7: 64 sets twice, less one, 64 sets twice after a 7, which no event ever decides and which so are one state, and the start
- * make 256 properties, 1 + 127 + 1 states and 7 + 129 * 37 bytes.
+ * Write ek for "signals 0 to 2 show exactly the number k". full_table is the exclusive or of (signal 3 with any other) and of "eventually ek", k from
+ * 1 to 7. Behind the first event it matters which of the seven have come, and whether that event had signal 3 and another on: 128 sets, twice, less
+ * "none has come, and they were on". With the start that is 1 + 255 states and 7 + 256 * 37 bytes. one_too_many asks for no other with signal 3, so
+ * that the pair left out here is reached: 257 properties. merged_states has six of the seven, and (e7 and "always eventually e1"): 64 sets, twice,
+ * less one; where the first event shows 7, another 64 sets, twice, which no event ever decides, so that they are one state. With the start that is
+ * 1 + 127 + 128 properties, 1 + 127 + 1 states and 7 + 129 * 37 bytes.
  *
- * States are numbered as they are met, shortest lists first: the sets of j numbers in the order 12, 13, .., 67, first those without signal 3. In
- * the full table 0 is the start, 1 "none has come", and the sets of 1, 2, .., 7 begin at 2, 16, 58, 128, 198, 240, 254 without signal 3, and as many
- * sets later, at 9, 37, 93, 163, 219, 247, 255, with it.
+ * States are numbered as they are met, shortest lists first: the sets of j numbers in the order 12, 13, .., 67, first those without signal 3. In the
+ * full table 0 is the start and 1 "none has come", and {1}, {1, 2}, .., {1, .., 7} are 2, 16, 58, 128, 198, 240, 254 without signal 3, and with it,
+ * 7, 21, 35, 35, 21, 7 and 1 later, 9, 37, 93, 163, 219, 247, 255. All seven are an odd number of true terms, satisfied (1); with the first term the
+ * number is even, violated (2). In the other, after 0 to 7, 8 is a first event that shows 7: moot (3).
  *
  * Build: rt staticlib tefuji && cc -I include examples/full_table.c target/staticlib/libtefuji.a -o full_table
  * Run:   ./full_table (here, where examples/ is)
@@ -35,12 +36,14 @@ static uint64_t build(const char *path) {
     return length;
 }
 
-/* Reads events one at a time from the start. */
+/* Reads events one at a time from the start, if a table was built. */
 static void watch(uint64_t length, const uint8_t *events, size_t size) {
+    if (tefuji_refusal(length)) return;
     uint64_t counts = tefuji_check(table, length);
     uint16_t state = 0;
     for (size_t i = 0; i < size; i++) {
         uint64_t answer = tefuji_step(table, length, counts, state, events[i]);
+        if (tefuji_refusal(answer)) return;
         state = tefuji_state(answer);
         printf("event %u: state %u, verdict %u\n", events[i], state, tefuji_verdict(answer));
     }

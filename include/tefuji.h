@@ -71,7 +71,7 @@ enum { TEFUJI_UNDECIDED = 0, TEFUJI_SATISFIED = 1, TEFUJI_VIOLATED = 2, TEFUJI_M
 uint64_t tefuji_write(const uint8_t *text, size_t text_length, uint8_t signals, uint8_t *rule, size_t rule_length);
 
 /* Builds the smallest table of a rule file into the front of `table`. Bytes past the table keep their values.
- * Answers the table's length in bytes, or refuses by 1 to 9, then 11, then 10. Needs less than 48 KiB of stack (measured: docs/BENCHMARKS.md). */
+ * Answers the table's length in bytes, or refuses by 1 to 9, then 11, then 10. Needs less than 28 KiB of stack (measured: docs/BENCHMARKS.md). */
 uint64_t tefuji_build(const uint8_t *rule, size_t rule_length, uint8_t *table, size_t table_length);
 
 /* Checks that the bytes are exactly a table; not its order, nor that it is the smallest.

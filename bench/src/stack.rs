@@ -18,7 +18,7 @@ const PAINT: u8 = 0xa5;
 
 /// The most bytes of stack that include/tefuji.h allows a call. What is measured has the frames of the functions here in it.
 const WRITING: usize = 128 << 10;
-const BUILDING: usize = 48 << 10;
+const BUILDING: usize = 28 << 10;
 /// From 4,096 events on.
 const LONG_RUNS: usize = 17 << 10;
 /// Where nothing is said. Less is not told apart.
