@@ -13,14 +13,14 @@ use meaning::Built;
 use meaning::Checked;
 use meaning::Ran;
 
-// A state's row, read from the table.
-fn row_of(t: &[u8], signals: u8, state: u16) -> [u16; 16]
+// A state's row, read from the table. In a checked table a successor is below 256; what is read past the last event is not written again.
+fn row_of(t: &[u8], signals: u8, state: u16) -> [u8; 16]
     requires { ⌜ signals ≤ 4 ⌝ }
 {
-    let mut row = [0u16; 16];
+    let mut row = [0u8; 16];
     let mut e: u8 = 0;
     while e < 16 {
-        row[wire::wide(e)] = table_layout::successor_at(t, signals, state, e);
+        row[wire::wide(e)] = (table_layout::successor_at(t, signals, state, e) % 256) as u8;
         e += 1;
     }
     row
@@ -42,7 +42,7 @@ fn kept(a: &[u8], b: &[u8]) -> bool {
 fn rewritten(t: &[u8], signals: u8, states: u16) -> bool
     requires { ⌜ (signals ≤ 4) × (states ≤ 256) ⌝ }
 {
-    let mut rows = [[0u16; 16]; 256];
+    let mut rows = [[0u8; 16]; 256];
     let mut verdicts = [0u8; 256];
     let mut s: u16 = 0;
     while s < states {

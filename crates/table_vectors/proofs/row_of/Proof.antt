@@ -18,11 +18,11 @@ loop-holds c = search needs
 successor-at-requires : tie.Need-successor-at-requires Inv-loop μ-loop
 successor-at-requires c κs = search needs
 
+cast-row : tie.Need-cast-row Inv-loop μ-loop
+cast-row c = search needs
+
 wide-requires : tie.Need-wide-requires Inv-loop μ-loop
 wide-requires c κs = search needs
-
-mul-row : tie.Need-mul-row Inv-loop μ-loop
-mul-row c = search needs
 
 array-write-row : tie.Need-array-write-row Inv-loop μ-loop
 array-write-row c = search needs
@@ -47,8 +47,8 @@ row-of-spec =
     μ-loop
     loop-holds
     successor-at-requires
+    cast-row
     wide-requires
-    mul-row
     array-write-row
     add-e
     loop-less
