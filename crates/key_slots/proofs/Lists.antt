@@ -6,7 +6,7 @@ use Prim.Native.Nat.{ℕ, zero, suc, _+_, _%_, _^_, _≤_, _<_}
 use native.Mathlib.Numerals.{add-one}
 use native.Mathlib.Decide.{ℕ-discrete}
 use native.Mathlib.Omega.{arith}
-use lib.ListN.{length, getD, set, length-set}
+use lib.ListN.{length, getD, set, length-set, replicate, length-replicate}
 use lib.Seq.{getD-set-same, getD-set-other}
 use lib.Dec.{T, eqb, eqb→eq}
 use borrow.Author.Tests.{eq-eqb, ne-eqb}
@@ -101,8 +101,8 @@ pub slot-small : (words : List ℕ) → slotOf words < 1024
 unfolding slotOf
 slot-small words = omega arith
 
-pub slotted-first : {keys : List (List ℕ)} {slots : List ℕ} → length slots ≡ 1024 → Slotted 1 keys slots
-slotted-first l = record { long = l; met = λ i m n. absurd (omega arith) }
+pub slotted-first : {keys : List (List ℕ)} {slots : List ℕ} → slots ≡ replicate 1024 0 → Slotted 1 keys slots
+slotted-first e = record { long = ap length e ∙ length-replicate {A = ℕ} 1024 0; met = λ i m n. absurd (omega arith) }
 
 module _ {count : ℕ} {keys : List (List ℕ)} {slots : List ℕ} (fit : KeysFit count keys) (h : Slotted count keys slots) (key : List ℕ) (slot : ℕ) (at : slot ≡ slotOf key) where
   pub slotted-added : count < 256 → Slotted (count + 1) (set keys count key) (set slots slot count)

@@ -1,7 +1,7 @@
 // The keys met, and their slots: a hash table that has the numbers of the keys. A key is a set of at most 256 profiles, in four words.
 ghost use mathlib.Core.Path.{_≡_};
 ghost use Prim.Native.Nat.{_<_};
-ghost use lib.ListN.{length, getD};
+ghost use lib.ListN.{replicate};
 ghost use Rattle.sequences.specs.Tabulate.{leastBelow};
 ghost use Rattle.profile_sets.specs.Arrays.{keyOf, WordsFit};
 ghost use Rattle.key_slots.specs.Arrays.{keysIn, KeysFit, metAt, slotOf, Slotted, MetThere};
@@ -42,7 +42,7 @@ fn slot_of(key: [u64; 4]) -> usize
 
 // The slots where there is the first key only.
 pub fn first_slots() -> [u8; 1024]
-    ensures { λ r. ⌜ length r ≡ 1024 ⌝ }
+    ensures { λ r. ⌜ r ≡ replicate 1024 0 ⌝ }
 {
     [0; 1024]
 }

@@ -1,7 +1,7 @@
 -- `grouping::least_by_slot` meets its contract.
 use native.Mathlib.Omega.{arith}
 use borrow.Author.Needs.{needs}
-use mathlib.Core.Path.{refl, sym, ap, _∙_}
+use mathlib.Core.Path.{_≡_, sym, ap, _∙_}
 use Prim.Native.Nat.{ℕ}
 use denote.Ref.{now}
 use Rattle.sequences.specs.Tabulate.{leastBelow}
@@ -12,7 +12,10 @@ use Rattle.group_slots.proofs.least_by_slot.Statement.{statement}
 use Rattle.group_slots.proofs.least_by_slot.Tie as tie
 
 returns : tie.Need-returns
-returns c = let a = c .before .args in ap (λ (i : ℕ). leastBelow i (λ k. sameStep (firstEvents (a .events)) (now (a .rows)) (now (a .group)) k (a .i))) (sym (c .if1 .taken))
+returns c =
+    let a = c .before .args in
+    let first : 0 ≡ a .i = omega (arith, c .if1 .taken) in
+    ap (λ (i : ℕ). leastBelow i (λ k. sameStep (firstEvents (a .events)) (now (a .rows)) (now (a .group)) k (a .i))) first
 
 same-step-requires : tie.Need-same-step-requires
 same-step-requires c κs = let h = c .before .pre .1 .1 .1 .low in (c .before .pre .0 .0, omega arith, c .before .pre .0 .1)

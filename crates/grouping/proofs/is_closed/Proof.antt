@@ -3,7 +3,8 @@ use native.Mathlib.Omega.{arith}
 use borrow.Author.Needs.{needs}
 use mathlib.Core.Path.{sym, _∙_}
 use borrow.Author.Tests.{not-true, not-false}
-use Prim.Native.Nat.{_-_, _≤_}
+use mathlib.Core.Bool.{Bool}
+use Prim.Native.Nat.{ℕ, _-_, _≤_}
 use denote.Ref.{now}
 use Rattle.sequences.proofs.Loops.{Passed, passed-none, passed-more, passed-all, all-not}
 use Rattle.moore.specs.Grouping.{entry, together}
@@ -28,7 +29,12 @@ joined-requires c κs = search needs
 
 returns : tie.Need-returns Inv-loop μ-loop
 unfolding closed
-returns c = let s = c .before .before .before .before .before in sym (all-not (s .args .events) (λ k. together (now (s .args .group)) (entry (now (s .args .rows)) (s .args .s) k) (s .args .s)) (c .before .before .before .before .loop .e) (c .before .before .before .loop-test .taken) (rw (← c .before .before .successor .ensures .0) (sym (c .before .joined .ensures) ∙ not-true _ (c .if1 .taken))))
+returns c =
+    let in-loop = c .before .before .before in
+    let a = in-loop .before .before .args in
+    let stays : ℕ → Bool = λ k. together (now (a .group)) (entry (now (a .rows)) (a .s) k) (a .s) in
+    sym (all-not (a .events) stays (in-loop .before .loop .e) (in-loop .loop-test .taken)
+    (rw (← c .before .before .successor .ensures .0) (sym (c .before .joined .ensures) ∙ not-true _ (c .if1 .taken))))
 
 add-e : tie.Need-add-e Inv-loop μ-loop
 add-e c = search needs
