@@ -10,7 +10,8 @@ use lib.Dec.{lit<, leb}
 use lib.Pow.{pow-pos, pow-mono, mod-pow-add}
 use lib.Bits.{bitAnd, and-mod, and-shr, and-mask}
 use lib.Count.{ones, ones-cat}
-use Rattle.meaning.specs.Formulas.{bit, countOn}
+use Rattle.meaning.specs.Bytes.{bit}
+use Rattle.meaning.specs.Formulas.{countOn}
 
 digit-and : (a b : ℕ) → a < 2 → b < 2 → bitAnd a b ≡ b * a
 digit-and zero zero p q = refl
@@ -54,6 +55,6 @@ module _ (n c k u : ℕ) (q : n ≡ c) where
   pub too-few : n < k → leb k n ≡ (leb k c && leb c u)
   too-few h = rw (q, lt-leb k c (omega arith))
 
--- a byte has no signal past the eighth
-pub off-above : (e s : ℕ) → e < 256 → 8 < suc s → bit s e ≡ 0
-off-above e s p q = ap (λ (x : ℕ). x % 2) (div-eq-of-lt (omega (arith, pow-mono {i = 8} {j = s} (omega arith))))
+-- a number of n bits has none past them: a byte no signal past the eighth, a mask no event past the sixteenth
+pub off-above : (n e s : ℕ) → e < 2 ^ n → n ≤ s → bit s e ≡ 0
+off-above n e s p q = ap (λ (x : ℕ). x % 2) (div-eq-of-lt (omega (arith, p, pow-mono {i = n} {j = s} q)))

@@ -1,9 +1,11 @@
-// Events: how many there are, which signals are on, and how many of a mask's.
+// Events: how many there are, which of them can happen, which signals are on, and how many of a mask's.
 ghost use mathlib.Core.Path.{_≡_};
 ghost use mathlib.Core.Bool.{_&&_};
 ghost use Prim.Native.Nat.{_^_, _≤_};
 ghost use lib.Dec.{leb, eqb};
-ghost use Rattle.meaning.specs.Formulas.{bit, countOn};
+ghost use Rattle.meaning.specs.Bytes.{bit};
+ghost use Rattle.meaning.specs.Traces.{fullMask};
+ghost use Rattle.meaning.specs.Formulas.{countOn};
 
 // A power of 2: how many sets of k things there are.
 pub fn power(k: u8) -> usize
@@ -19,6 +21,30 @@ pub fn width(signals: u8) -> usize
     ensures { λ r. ⌜ (r ≡ 2 ^ signals) × (r ≤ 16) ⌝ }
 {
     power(signals)
+}
+
+// The mask of all events over so many signals.
+pub fn full_mask(signals: u8) -> u16
+    requires { ⌜ signals ≤ 4 ⌝ }
+    ensures { λ r. ⌜ r ≡ fullMask signals ⌝ }
+{
+    match signals {
+        0 => 1,
+        1 => 3,
+        2 => 15,
+        3 => 255,
+        _ => 65535,
+    }
+}
+
+// Whether an event can happen, by the mask. A mask has sixteen; any other cannot.
+pub fn can_happen(mask: u16, event: usize) -> bool
+    ensures { λ r. ⌜ r ≡ eqb (bit event mask) 1 ⌝ }
+{
+    if event < 16 {
+        return (mask >> event) % 2 == 1;
+    }
+    false
 }
 
 // Whether a signal is on. A byte has eight; any other is off.

@@ -4,11 +4,11 @@ use mathlib.Core.Logic.{_⊎_, _↔_}
 use mathlib.Core.List.{List}
 use mathlib.Core.Bool.{true}
 use Prim.Native.Nat.{ℕ, _≤_}
-use Rattle.meaning.specs.Traces.{Word}
+use Rattle.meaning.specs.Traces.{isEvent, Word}
 use Rattle.meaning.specs.Verdicts.{Judged, MoreThan}
 use Rattle.meaning.specs.Monitors.{Monitor, Over, shows, ShowsVerdicts, Renumbered, BreadthFirst}
 use Rattle.meaning.specs.RuleFiles.{Rule, alphabetOf, propertyOf, Judgement, judge}
-use Rattle.meaning.specs.TableFiles.{isTable, signalsIn, statesIn, monitorOf}
+use Rattle.meaning.specs.TableFiles.{isTable, alphabetIn, signalsIn, statesIn, monitorOf}
 use Rattle.meaning.specs.declared.Verdict.{Verdict}
 
 -- the file is well-formed, and the rule is what it says
@@ -31,15 +31,18 @@ module _ (Built : List ℕ → List ℕ → Type 0) where
   -- that demand 2 gives. Any table set beside it, of any make and size, over as many signals, that shows these same verdicts after every list from
   -- its start has at least as many states as the number written in ours; with exactly as many it is ours renumbered. Two built rules over equally
   -- many signals have the same table (the same length and the same byte in every place) exactly if demand 2 gives both the same verdict after every list."
+  -- C-14: "Rules compared must have the same mask. A table of another make may write anything for impossible events: with equally many states it is
+  -- ours renumbered, save for its successors there." Our table says itself which events can happen.
   pub record Demand-3 (file : List ℕ) (rule : Rule) (table : List ℕ) : Type 0 where
     pub form : isTable table ≡ true
     pub signals : signalsIn table ≡ rule .signals
+    pub events : (e : ℕ) → isEvent (alphabetIn table (signalsIn table)) e ≡ isEvent (alphabetOf rule) e
     pub order : BreadthFirst (alphabetOf rule) (monitorOf table)
     pub verdicts : ShowsVerdicts (alphabetOf rule) (propertyOf rule) (monitorOf table)
     pub smallest : (m : Monitor) → Over (alphabetOf rule) m → ShowsVerdicts (alphabetOf rule) (propertyOf rule) m → statesIn table ≤ m .states
     pub unique : (m : Monitor) → Over (alphabetOf rule) m → ShowsVerdicts (alphabetOf rule) (propertyOf rule) m → m .states ≡ statesIn table
         → Renumbered (alphabetOf rule) (monitorOf table) m
-    pub canonical : (file′ : List ℕ) (rule′ : Rule) (table′ : List ℕ) → Reads file′ rule′ → Built file′ table′ → rule′ .signals ≡ rule .signals
+    pub canonical : (file′ : List ℕ) (rule′ : Rule) (table′ : List ℕ) → Reads file′ rule′ → Built file′ table′ → rule′ .signals ≡ rule .signals → rule′ .mask ≡ rule .mask
         → (table ≡ table′)
         ↔ ((w : List ℕ) → Word (alphabetOf rule) w → (v : Verdict) → Judged (alphabetOf rule) (propertyOf rule) w v ↔ Judged (alphabetOf rule′) (propertyOf rule′) w v)
 

@@ -1,7 +1,8 @@
 -- Linear temporal logic: source document 001, section 2.1, by position in the whole trace.
 use mathlib.Core.Path.{_≡_}
 use mathlib.Core.Logic.{_⊎_, _↔_}
-use Prim.Native.Nat.{ℕ, zero, suc, _+_, _*_, _/_, _%_, _^_, _≤_, _<_}
+use Prim.Native.Nat.{ℕ, zero, suc, _+_, _*_, _≤_, _<_}
+use Rattle.meaning.specs.Bytes.{bit}
 use Rattle.meaning.specs.Traces.{Lasso, at}
 
 pub data Formula : Type 0 where
@@ -14,11 +15,7 @@ pub data Formula : Type 0 where
   until : Formula → Formula → Formula
   eventually always : Formula → Formula
 
--- "bit s (bit 0 lowest) says that signal s is on": 1 if it is, else 0
-abbrev pub bit : ℕ → ℕ → ℕ
-bit s e = (e / 2 ^ s) % 2
-
--- how many of the signals below n are in the mask m and on in the event e, counted one by one
+-- how many of the signals below n are in the mask m and on in the event e, counted one by one: "bit s (bit 0 lowest) says that signal s is on"
 abbrev pub countOn : ℕ → ℕ → ℕ → ℕ
 countOn zero m e = 0
 countOn (suc s) m e = bit s m * bit s e + countOn s m e

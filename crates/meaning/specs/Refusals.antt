@@ -1,7 +1,7 @@
 -- Document 01's table "Refusing", and the numbers that document 02 adds.
 use Prim.Native.Nat.{ℕ}
 use Rattle.meaning.specs.declared.Refusal.{Refusal}
-use Rattle.meaning.specs.declared.Refusal.the-variants.{Truncated, WrongLength, WrongKind, WrongSignals, WrongCount, WrongOperand, OutOfRange, EighthTemporal, TrailingBytes, ShortOutput, TooManyResiduals, WrongEvent, WrongState, WrongTable, WrongText, TooManyNodes}
+use Rattle.meaning.specs.declared.Refusal.the-variants.{Truncated, WrongLength, WrongKind, WrongSignals, WrongCount, WrongOperand, OutOfRange, EighthTemporal, TrailingBytes, ShortOutput, TooManyResiduals, WrongEvent, WrongState, WrongTable, WrongText, TooManyNodes, NoEvent}
 
 -- "Returned" and "Place", of each case
 abbrev pub codeOf : Refusal → ℕ × ℕ
@@ -21,3 +21,4 @@ codeOf WrongState = (13, 0)
 codeOf WrongTable = (14, 0)
 codeOf (WrongText p) = (15, p)
 codeOf TooManyNodes = (16, 0)
+codeOf (NoEvent p) = (17, p)

@@ -1,24 +1,28 @@
 -- "Rule files": the nodes as formulas, and the judgement, record by record.
 use mathlib.Core.List.{List, [], _∷_, _++_}
-use mathlib.Core.Bool.{Bool, cond, not, _&&_, _||_}
+use mathlib.Core.Bool.{Bool, true, cond, not, _&&_, _||_}
 use Prim.Native.Nat.{ℕ, zero, suc, _+_, _-_, _^_}
 use lib.ListN.{length, getD}
 use lib.Dec.{ltb, leb, eqb}
 use Rattle.meaning.specs.Bytes.{u16At}
-use Rattle.meaning.specs.Traces.{Alphabet, over}
+use Rattle.meaning.specs.Traces.{Alphabet, masked, fullMask}
 use Rattle.meaning.specs.Formulas.{Formula, falsum, verum, signal, atLeast, neg, and, or, implies, iff, xor, next, until, eventually, always, Holds}
 use Rattle.meaning.specs.Verdicts.{Property}
 use Rattle.meaning.specs.declared.Node.{Node}
 use Rattle.meaning.specs.declared.Header.{Header}
 use Rattle.meaning.specs.declared.Refusal.{Refusal}
-use Rattle.meaning.specs.declared.Refusal.the-variants.{Truncated, WrongLength, WrongKind, WrongSignals, WrongCount, WrongOperand, OutOfRange, EighthTemporal, TrailingBytes}
+use Rattle.meaning.specs.declared.Refusal.the-variants.{Truncated, WrongLength, WrongKind, WrongSignals, WrongCount, WrongOperand, OutOfRange, EighthTemporal, TrailingBytes, NoEvent}
 use Rattle.meaning.specs.declared.HeaderReading.{HeaderReading}
 use Rattle.meaning.specs.declared.HeaderReading.the-variants as HeaderReading
+use Rattle.meaning.specs.declared.MaskReading.{MaskReading}
+use Rattle.meaning.specs.declared.MaskReading.the-variants as MaskReading
 use Rattle.meaning.specs.declared.Reading.{Reading}
 use Rattle.meaning.specs.declared.Reading.the-variants as Reading
 
+-- the number of signals, the mask of the events that can happen, and the nodes
 pub record Rule : Type 0 where
   pub signals : ℕ
+  pub mask : ℕ
   pub nodes : List Node
 
 -- ---- meaning
@@ -49,7 +53,7 @@ abbrev pub ruleFormula : Rule → Formula
 ruleFormula r = getD (formulas [] (r .nodes)) (length (r .nodes) - 1) falsum
 
 abbrev pub alphabetOf : Rule → Alphabet
-alphabetOf r = over (r .signals)
+alphabetOf r = masked (2 ^ r .signals) (r .mask)
 
 unfoldable pub propertyOf : Rule → Property
 propertyOf r ρ = Holds ρ 0 (ruleFormula r)
@@ -102,6 +106,20 @@ headerOf b =
     ∷ []))
     (HeaderReading.Header (record { signals = getD b 4 0; nodes = getD b 5 0 }))
 
+-- What stands between the first record and the nodes: the mask, and the place where the nodes begin. "A record of kind 257 may stand second and
+-- nowhere else, with a two-byte mask, low byte first"; "17 no event possible, place the record's start, after its length check; 7 if a bit at or
+-- above 2^P is set, before 17". "Without it all can."
+unfoldable pub maskOf : List ℕ → ℕ → MaskReading
+maskOf b P =
+    cond (eqb (u16At b 8) 257)
+    (firstOf MaskReading.Refused
+    (frameChecks b 6 true (eqb (u16At b 6) (2 + 2))
+    ++ ((leb (2 ^ 2 ^ P) (u16At b 10), OutOfRange 6)
+    ∷ (eqb (u16At b 10) 0, NoEvent 6)
+    ∷ []))
+    (MaskReading.Mask (u16At b 10) 12))
+    (MaskReading.Mask (fullMask P) 6)
+
 -- the upper count in the record at p, of this kind and length: "Two-byte bodies stay right and mean an upper count of 4."
 abbrev pub upperAt : List ℕ → ℕ → ℕ → ℕ → ℕ
 upperAt b p k l = cond (eqb k 3) (cond (eqb l (2 + 3)) (getD b (p + 6) 0) 4) 0
@@ -143,17 +161,25 @@ pub data Judgement : Type 0 where
   Refused : Refusal → Judgement
 
 -- k more nodes, from p on, after those read; a record's length counts "all that follows it in the record"; "After the last node: 9"
-unfoldable pub nodesFrom : ℕ → List ℕ → ℕ → ℕ → List Node → Judgement
-nodesFrom zero b P p earlier = cond (ltb p (length b)) (Refused (TrailingBytes p)) (Accepted (record { signals = P; nodes = earlier }))
-nodesFrom (suc k) b P p earlier =
+unfoldable pub nodesFrom : ℕ → List ℕ → ℕ → ℕ → ℕ → List Node → Judgement
+nodesFrom zero b P m p earlier = cond (ltb p (length b)) (Refused (TrailingBytes p)) (Accepted (record { signals = P; mask = m; nodes = earlier }))
+nodesFrom (suc k) b P m p earlier =
     elim (readingOf b P p (length earlier) (temporals earlier)) [
-      | Reading.Node n ↦ nodesFrom k b P (p + 2 + u16At b p) (earlier ++ (n ∷ []))
+      | Reading.Node n ↦ nodesFrom k b P m (p + 2 + u16At b p) (earlier ++ (n ∷ []))
       | Reading.Refused r ↦ Refused r
+    ]
+
+-- the mask and the nodes, of which there are so many
+unfoldable pub bodyFrom : ℕ → List ℕ → ℕ → Judgement
+bodyFrom k b P =
+    elim (maskOf b P) [
+      | MaskReading.Mask m p ↦ nodesFrom k b P m p []
+      | MaskReading.Refused r ↦ Refused r
     ]
 
 unfoldable pub judge : List ℕ → Judgement
 judge b =
     elim (headerOf b) [
-      | HeaderReading.Header h ↦ nodesFrom (h .nodes) b (h .signals) 6 []
+      | HeaderReading.Header h ↦ bodyFrom (h .nodes) b (h .signals)
       | HeaderReading.Refused r ↦ Refused r
     ]

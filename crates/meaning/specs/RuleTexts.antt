@@ -5,6 +5,7 @@ use Prim.Native.Nat.{ℕ, _+_, _-_}
 use lib.ListN.{length, take, drop, getD}
 use lib.Dec.{ltb, leb}
 use Rattle.meaning.specs.Formulas.{Formula, falsum, verum, signal, neg, and, or, implies, iff, xor, next, until, eventually, always}
+use Rattle.meaning.specs.Traces.{fullMask}
 use Rattle.meaning.specs.RuleFiles.{Rule, bodyLength, rangesFit, temporals, firstOf}
 use Rattle.meaning.specs.Grammar.{Tree, leaf, pre, bin, Parsed, Fitting, Outside}
 use Rattle.meaning.specs.declared.Node.{Node}
@@ -50,9 +51,9 @@ nodesOf k (leaf x) = node (kindOf x) (cond (ltb x 4) x 0) 0 ∷ []
 nodesOf k (pre x t) = nodesOf k t ++ (node (kindOf x) (k + size t - 1) 0 ∷ [])
 nodesOf k (bin x s t) = nodesOf k s ++ nodesOf (k + size s) t ++ (node (kindOf x) (k + size s - 1) (k + size s + size t - 1) ∷ [])
 
--- "The caller gives P."
+-- "The caller gives P." A text says nothing of events that cannot happen.
 abbrev pub ruleOf : ℕ → Tree → Rule
-ruleOf P t = record { signals = P; nodes = nodesOf 0 t }
+ruleOf P t = record { signals = P; mask = fullMask P; nodes = nodesOf 0 t }
 
 -- a node's record: its length and its kind, each two bytes, low byte first, and its body
 abbrev pub nodeBytes : Node → List ℕ

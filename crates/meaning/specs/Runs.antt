@@ -1,12 +1,13 @@
 -- "Opening and running".
 use mathlib.Core.List.{List, [], _∷_, _++_}
-use mathlib.Core.Bool.{Bool, true, false, cond, _&&_}
+use mathlib.Core.Bool.{Bool, true, false, cond, not, _&&_}
 use Prim.Native.Nat.{ℕ, suc, _^_}
 use lib.ListN.{length, getD, drop, replicate}
 use lib.Dec.{ltb, leb}
 use Rattle.sequences.specs.Tabulate.{every, leastBelow, tabulate}
+use Rattle.meaning.specs.Traces.{Alphabet, isEvent}
 use Rattle.meaning.specs.Monitors.{Monitor, follow}
-use Rattle.meaning.specs.TableFiles.{isTable, signalsIn, statesIn, verdictByte, successor, contentTests, countsTests, verdictOf, monitorIn, monitorOf}
+use Rattle.meaning.specs.TableFiles.{isTable, alphabetIn, signalsIn, statesIn, verdictByte, successor, contentTests, countsTests, verdictOf, monitorIn, monitorOf}
 use Rattle.meaning.specs.declared.Verdict.{Verdict}
 use Rattle.meaning.specs.declared.Verdict.the-variants.{Undecided, Satisfied, Violated, Moot}
 use Rattle.meaning.specs.declared.Refusal.{Refusal}
@@ -34,20 +35,20 @@ decidedFrom m n s (e ∷ es) = let later = decidedFrom m (suc n) (m .next s e) e
 abbrev pub endOf : Monitor → ℕ → List ℕ → Ran
 endOf m s es = Ran.Ended (follow m s es) (m .verdict (follow m s es)) (decidedFrom m 0 s es)
 
--- the index of the first event that is none over P signals, and the length where all are
-abbrev pub firstBad : ℕ → List ℕ → ℕ
-firstBad P es = leastBelow (length es) (λ i. leb (2 ^ P) (getD es i 0))
+-- the index of the first event that is none or cannot happen, and the length where all can. C-14: "Running such an event is refused by 12."
+abbrev pub firstBad : Alphabet → List ℕ → ℕ
+firstBad Σ es = leastBelow (length es) (λ i. not (isEvent Σ (getD es i 0)))
 
 -- "A run checks 13 before 12"
-abbrev pub ranOf : Monitor → ℕ → ℕ → List ℕ → Ran
-ranOf m P s es =
+abbrev pub ranOf : Monitor → Alphabet → ℕ → List ℕ → Ran
+ranOf m Σ s es =
     cond (ltb s (m .states))
-    (cond (ltb (firstBad P es) (length es)) (Ran.Refused (WrongEvent (firstBad P es))) (endOf m s es))
+    (cond (ltb (firstBad Σ es) (length es)) (Ran.Refused (WrongEvent (firstBad Σ es))) (endOf m s es))
     (Ran.Refused WrongState)
 
 -- "A run takes an opened table, a state and a list of events."
 abbrev pub runOf : List ℕ → ℕ → List ℕ → Ran
-runOf t s es = cond (isTable t) (ranOf (monitorOf t) (signalsIn t) s es) (Ran.Refused WrongTable)
+runOf t s es = cond (isTable t) (ranOf (monitorOf t) (alphabetIn t (signalsIn t)) s es) (Ran.Refused WrongTable)
 
 -- ---- from bytes and counts in hand, as a step takes them: whatever they are, no answer but a refusal leaves the table
 
@@ -71,7 +72,7 @@ tested ok (Ran.Refused x) = Ran.Refused x
 
 -- the run over the bytes t as a table of S states over P signals: 14 for counts and length, 13, 12, and 14 where the way leaves the table
 abbrev pub ranIn : List ℕ → ℕ → ℕ → ℕ → List ℕ → Ran
-ranIn t P S s es = cond (countsFit t P S) (tested (onTable t P S s es) (ranOf (monitorIn t P S) P s es)) (Ran.Refused WrongTable)
+ranIn t P S s es = cond (countsFit t P S) (tested (onTable t P S s es) (ranOf (monitorIn t P S) (alphabetIn t P) s es)) (Ran.Refused WrongTable)
 
 -- a row that is refused
 abbrev pub noRow : Refusal → StateRow

@@ -1,11 +1,12 @@
 -- "Table files", to the byte, and the monitor that a table file is.
 use mathlib.Core.List.{List, [], _∷_}
-use mathlib.Core.Bool.{Bool, cond, _&&_}
+use mathlib.Core.Bool.{Bool, cond, not, _&&_}
 use Prim.Native.Nat.{ℕ, _+_, _*_, _^_}
 use lib.ListN.{length, getD}
 use lib.Dec.{ltb, leb, eqb}
 use Rattle.sequences.specs.Tabulate.{every, allBelow}
 use Rattle.meaning.specs.Bytes.{u16At}
+use Rattle.meaning.specs.Traces.{Alphabet}
 use Rattle.meaning.specs.Monitors.{Monitor}
 use Rattle.meaning.specs.declared.Verdict.{Verdict}
 use Rattle.meaning.specs.declared.Verdict.the-variants.{Undecided, Satisfied, Violated, Moot}
@@ -38,9 +39,25 @@ successor t P s e = u16At t (rowAt P s + 5 + 2 * e)
 abbrev pub tableLength : ℕ → ℕ → ℕ
 tableLength P S = 7 + S * rowLength P
 
+-- C-14: "An impossible event's successor is written 65,535"
+abbrev pub noSuccessor : ℕ
+noSuccessor = 65535
+
+-- the events that can happen, read from the row of state 0
+abbrev pub alphabetIn : List ℕ → ℕ → Alphabet
+alphabetIn t P = record { width = 2 ^ P; possible = λ e. not (eqb (successor t P 0 e) noSuccessor) }
+
+-- "only for the same events in every row": below S where the event can happen, and 65,535 where it cannot
+abbrev pub successorFits : List ℕ → ℕ → ℕ → ℕ → ℕ → Bool
+successorFits t P S s e = cond (alphabetIn t P .possible e) (ltb (successor t P s e) S) (eqb (successor t P s e) noSuccessor)
+
+-- "with at least one event left"
+abbrev pub eventLeft : List ℕ → ℕ → Bool
+eventLeft t P = not (allBelow (2 ^ P) (λ e. not (alphabetIn t P .possible e)))
+
 -- what a state's record holds: "a verdict above 3", "a successor not below S" are refused
 abbrev pub contentTests : List ℕ → ℕ → ℕ → ℕ → List Bool
-contentTests t P S s = leb (verdictByte t P s) 3 ∷ allBelow (2 ^ P) (λ e. ltb (successor t P s e) S) ∷ []
+contentTests t P S s = leb (verdictByte t P s) 3 ∷ eventLeft t P ∷ allBelow (2 ^ P) (successorFits t P S s) ∷ []
 
 -- the whole record, with its length and kind
 abbrev pub rowTests : List ℕ → ℕ → ℕ → ℕ → List Bool

@@ -1,26 +1,34 @@
 -- Events, finite lists of them, and traces that go on for ever.
 use mathlib.Core.List.{List, [], _∷_, _++_}
-use mathlib.Core.Bool.{Bool, true}
-use Prim.Native.Nat.{ℕ, zero, suc, _%_, _^_, _<_}
+use mathlib.Core.Bool.{Bool, _&&_}
+use Prim.Native.Nat.{ℕ, zero, suc, _-_, _%_, _^_, _<_}
 use lib.ListN.{length, getD}
-use lib.Dec.{T}
+use lib.Dec.{T, ltb, eqb}
+use Rattle.meaning.specs.Bytes.{bit}
 
 -- "An event is one byte below 2^P." Which events can happen is a parameter of all that follows: those below `width` that `possible` admits.
 pub record Alphabet : Type 0 where
   pub width : ℕ
   pub possible : ℕ → Bool
 
--- every event below w can happen
-abbrev pub firstEvents : ℕ → Alphabet
-firstEvents w = record { width = w; possible = λ _. true }
+-- the events below w that are in the mask m: "bit e set means that event e can happen" (document 02, C-14)
+abbrev pub masked : ℕ → ℕ → Alphabet
+masked w m = record { width = w; possible = λ e. eqb (bit e m) 1 }
 
--- all events over P signals
+-- all events over P signals, as a mask: "Without it all can."
+abbrev pub fullMask : ℕ → ℕ
+fullMask P = 2 ^ 2 ^ P - 1
+
 abbrev pub over : ℕ → Alphabet
-over P = firstEvents (2 ^ P)
+over P = masked (2 ^ P) (fullMask P)
 
 -- e can happen
 abbrev pub Event : Alphabet → ℕ → Type 0
 Event Σ e = (e < Σ .width) × T (Σ .possible e)
+
+-- the same as a test
+abbrev pub isEvent : Alphabet → ℕ → Bool
+isEvent Σ e = ltb e (Σ .width) && Σ .possible e
 
 -- "a finite list of events", each of which can happen
 abbrev pub Word : Alphabet → List ℕ → Type 0

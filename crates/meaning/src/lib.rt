@@ -28,6 +28,7 @@ pub enum Refusal {
     WrongTable,
     WrongText(usize),
     TooManyNodes,
+    NoEvent(usize),
 }
 
 impl Refusal {
@@ -51,6 +52,7 @@ impl Refusal {
             Refusal::WrongTable => 14,
             Refusal::WrongText(_) => 15,
             Refusal::TooManyNodes => 16,
+            Refusal::NoEvent(_) => 17,
         }
     }
 
@@ -74,6 +76,7 @@ impl Refusal {
             Refusal::WrongTable => 0,
             Refusal::WrongText(p) => p,
             Refusal::TooManyNodes => 0,
+            Refusal::NoEvent(p) => p,
         }
     }
 }
@@ -96,6 +99,12 @@ pub struct Header {
 // The reading of the first record.
 pub enum HeaderReading {
     Header(Header),
+    Refused(Refusal),
+}
+
+// The reading of what may stand between the first record and the nodes: the mask of the events that can happen, and the place where the nodes begin.
+pub enum MaskReading {
+    Mask { mask: u16, nodes_at: usize },
     Refused(Refusal),
 }
 

@@ -15,7 +15,7 @@ returns : tie.Need-returns
 returns c = search needs
 
 returns-2 : tie.Need-returns-2
-returns-2 c = sym (ap (λ (n : ℕ). eqb n 1) (off-above (c .before .args .event) (c .before .args .signal) (omega arith) (omega arith)))
+returns-2 c = sym (ap (λ (n : ℕ). eqb n 1) (off-above 8 (c .before .args .event) (c .before .args .signal) (omega arith) (omega arith)))
 
 pub signal-on-spec : {M : Type 1} → statement M
 signal-on-spec = tie.close (tie.spec shr-result returns returns-2)
