@@ -17,8 +17,8 @@ use Rattle.meaning.specs.declared.Built.the-variants as Built
 use Rattle.ltl.proofs.Instance.{ltlSystem}
 use Rattle.smallest.specs.Table.{Outcome, Table, TooMany}
 use Rattle.smallest.specs.Builder.{Built as BuiltBy}
-use Rattle.smallest.proofs.Accepted.{accepted-signals}
-use Rattle.smallest.proofs.Tables.{over-signals}
+use Rattle.smallest.proofs.Accepted.{accepted-formed}
+use Rattle.smallest.proofs.Tables.{of-formed}
 use Rattle.smallest.proofs.Smallest.{too-many}
 use Rattle.smallest.proofs.Demands.{demands}
 use Rattle.building.specs.Build.{outcomeOf, answerTo, outputOf, answerOf, outputAfter, BuiltRight, RefusedRight, Right}
@@ -55,7 +55,7 @@ module _ (file : List ℕ) (r : Rule) (reads : Reads file r) where
   many-right : (room : ℕ) → outcomeOf r ≡ TooMany → RefusedRight file room 11
   unfolding outcomeOf
   many-right room q r′ reads′ =
-      inl (refl, subst (λ (x : Rule). MoreThan (alphabetOf x) (propertyOf x) 256) (same-rule file r r′ reads reads′) (too-many (over-signals (accepted-signals file r reads)) (ltlSystem r) q))
+      inl (refl, subst (λ (x : Rule). MoreThan (alphabetOf x) (propertyOf x) 256) (same-rule file r r′ reads reads′) (too-many (of-formed (accepted-formed file r reads)) (ltlSystem r) q))
 
   accepted-right : (out : List ℕ) (x : Outcome) → outcomeOf r ≡ x → Right file out (outputOf x out) (answerTo x out)
   accepted-right out (Table t) q = go (leb (length t) (length out)) refl

@@ -2,18 +2,17 @@
 use mathlib.Core.Path.{_≡_, refl, sym, ap, _∙_, subst}
 use mathlib.Core.Logic.{_↔_}
 use mathlib.Core.List.{List, [], _∷_}
-use mathlib.Core.Bool.{Bool, true, false, cond}
-use Prim.Native.Nat.{ℕ, zero, suc, _+_, _^_, _≤_, _<_}
+use mathlib.Core.Bool.{Bool, true, false, cond, not}
+use Prim.Native.Nat.{ℕ, zero, suc, _+_, _≤_, _<_}
 use native.Mathlib.Omega.{arith}
 use lib.ListN.{length, take, getD}
-use lib.Dec.{leb}
-use borrow.Author.Tests.{lt-ltb, le-ltb, lt-leb}
+use borrow.Author.Tests.{lt-ltb, le-ltb}
 use Rattle.sequences.proofs.Loops.{least-is}
-use Rattle.meaning.specs.Traces.{over, Event, Word}
+use Rattle.meaning.specs.Traces.{Alphabet, Event, isEvent, Word}
 use Rattle.meaning.specs.Verdicts.{Property, Judged}
 use Rattle.meaning.specs.Monitors.{Monitor, follow, shows}
 use Rattle.meaning.specs.RuleFiles.{alphabetOf, propertyOf}
-use Rattle.meaning.specs.TableFiles.{isTable, signalsIn, statesIn, successor, monitorOf}
+use Rattle.meaning.specs.TableFiles.{isTable, alphabetIn, signalsIn, statesIn, successor, monitorOf}
 use Rattle.meaning.specs.Runs.{decides, decidedFrom, endOf, firstBad, ranOf, runOf}
 use Rattle.meaning.specs.declared.Verdict.{Verdict}
 use Rattle.meaning.specs.declared.Verdict.the-variants.{Undecided, Satisfied, Violated, Moot}
@@ -21,7 +20,7 @@ use Rattle.meaning.specs.declared.Decided.{Decided}
 use Rattle.meaning.specs.declared.Decided.the-variants.{After, Never}
 use Rattle.meaning.specs.declared.Ran.{Ran}
 use Rattle.meaning.specs.declared.Ran.the-variants.{Ended}
-use Rattle.table_layout.proofs.Form.{table-header, states-some, table-inside}
+use Rattle.table_layout.proofs.Form.{event-test, test-event, table-header, states-some, table-inside}
 use Rattle.building.specs.Build.{BuiltRight}
 use Rattle.building.specs.Running.{CountRight, RunRight, StepRight, stepsFrom, steps}
 
@@ -66,18 +65,23 @@ counted m n s (e ∷ es) = go (decides (m .verdict s)) refl (counted m (suc n) (
 
 -- ---- words
 
-all-good : (P : ℕ) (es : List ℕ) → Word (over P) es → (k : ℕ) → k < length es → leb (2 ^ P) (getD es k 0) ≡ false
-all-good P [] a k h = absurd (omega arith)
-all-good P (e ∷ es) a zero h = lt-leb (2 ^ P) e (a .0 .0)
-all-good P (e ∷ es) a (suc k) h = all-good P es (a .1) k (omega arith)
+all-good : (Σ : Alphabet) (es : List ℕ) → Word Σ es → (k : ℕ) → k < length es → not (isEvent Σ (getD es k 0)) ≡ false
+all-good Σ [] a k h = absurd (omega arith)
+all-good Σ (e ∷ es) a zero h = ap not (event-test Σ e (a .0))
+all-good Σ (e ∷ es) a (suc k) h = all-good Σ es (a .1) k (omega arith)
 
-none-bad : (P : ℕ) (es : List ℕ) → Word (over P) es → firstBad P es ≡ length es
-none-bad P es a = least-is (length es) (λ i. leb (2 ^ P) (getD es i 0)) (length es) (omega arith) (all-good P es a) (λ h. absurd (omega arith))
+none-bad : (Σ : Alphabet) (es : List ℕ) → Word Σ es → firstBad Σ es ≡ length es
+none-bad Σ es a = least-is (length es) (λ i. not (isEvent Σ (getD es i 0))) (length es) (omega arith) (all-good Σ es a) (λ h. absurd (omega arith))
 
-word-take : (P k : ℕ) (es : List ℕ) → Word (over P) es → Word (over P) (take k es)
-word-take P zero es a = tt
-word-take P (suc k) [] a = tt
-word-take P (suc k) (e ∷ es) a = (a .0, word-take P k es (a .1))
+-- words over alphabets with the same events
+word-same : (Σ Σ′ : Alphabet) → ((e : ℕ) → isEvent Σ′ e ≡ isEvent Σ e) → (es : List ℕ) → Word Σ es → Word Σ′ es
+word-same Σ Σ′ q [] a = tt
+word-same Σ Σ′ q (e ∷ es) a = (test-event Σ′ e (q e ∙ event-test Σ e (a .0)), word-same Σ Σ′ q es (a .1))
+
+word-take : (Σ : Alphabet) (k : ℕ) (es : List ℕ) → Word Σ es → Word Σ (take k es)
+word-take Σ zero es a = tt
+word-take Σ (suc k) [] a = tt
+word-take Σ (suc k) (e ∷ es) a = (a .0, word-take Σ k es (a .1))
 
 undecided : (v : Verdict) → decides v ≡ false → v ≡ Undecided
 undecided Undecided q = refl
@@ -87,33 +91,34 @@ undecided Moot q = let z : _≡_ {A = ℕ} 0 1 = cc in absurd (omega arith)
 
 -- ---- the run
 
-module _ (P : ℕ) (L : Property) (m : Monitor) (start : m .start ≡ 0) (says : (w : List ℕ) → Word (over P) w → (v : Verdict) → (shows m w ≡ v) ↔ Judged (over P) L w v) (es : List ℕ) (a : Word (over P) es) where
+module _ (Σ : Alphabet) (L : Property) (m : Monitor) (start : m .start ≡ 0) (says : (w : List ℕ) → Word Σ w → (v : Verdict) → (shows m w ≡ v) ↔ Judged Σ L w v) (es : List ℕ) (a : Word Σ es) where
   from-start : (k : ℕ) → verdictAfter m 0 (take k es) ≡ decides (shows m (take k es))
   from-start k = ap (λ (s : ℕ). decides (m .verdict (follow m s (take k es)))) (sym start)
 
-  not-yet : (k : ℕ) → verdictAfter m 0 (take k es) ≡ false → Judged (over P) L (take k es) Undecided
-  not-yet k q = says (take k es) (word-take P k es a) Undecided .0 (undecided (shows m (take k es)) (sym (from-start k) ∙ q))
+  not-yet : (k : ℕ) → verdictAfter m 0 (take k es) ≡ false → Judged Σ L (take k es) Undecided
+  not-yet k q = says (take k es) (word-take Σ k es a) Undecided .0 (undecided (shows m (take k es)) (sym (from-start k) ∙ q))
 
-  count-right : (d : Decided) → Counted m 0 0 es d → CountRight (over P) L es d
+  count-right : (d : Decided) → Counted m 0 0 es d → CountRight Σ L es d
   count-right (After j) (i, p, l, t, b) =
       let e : j ≡ i = omega arith in
-      subst (λ (n : ℕ). CountRight (over P) L es (After n)) (sym e)
-      (l, λ u. (let q : shows m (take i es) ≡ Undecided = says (take i es) (word-take P i es a) Undecided .1 u in let f = sym t ∙ from-start i ∙ ap decides q in let z : _≡_ {A = ℕ} 0 1 = cc in omega arith), λ k h. not-yet k (b k h))
+      subst (λ (n : ℕ). CountRight Σ L es (After n)) (sym e)
+      (l, λ u. (let q : shows m (take i es) ≡ Undecided = says (take i es) (word-take Σ i es a) Undecided .1 u in let f = sym t ∙ from-start i ∙ ap decides q in let z : _≡_ {A = ℕ} 0 1 = cc in omega arith), λ k h. not-yet k (b k h))
   count-right Never b = λ k h. not-yet k (b k h)
 
-  end-right : RunRight (over P) L es (endOf m 0 es)
+  end-right : RunRight Σ L es (endOf m 0 es)
   end-right = (says es a (m .verdict (follow m 0 es)) .0 (ap (λ (s : ℕ). m .verdict (follow m s es)) start), count-right (decidedFrom m 0 0 es) (counted m 0 0 es))
 
-  run-right : 0 < m .states → RunRight (over P) L es (ranOf m P 0 es)
-  run-right h = rw (lt-ltb 0 (m .states) h, none-bad P es a, le-ltb (length es) (length es) (omega arith)) end-right
+  -- where the run takes the same events
+  run-right : (own : Alphabet) → ((e : ℕ) → isEvent own e ≡ isEvent Σ e) → 0 < m .states → RunRight Σ L es (ranOf m own 0 es)
+  run-right own q h = rw (lt-ltb 0 (m .states) h, none-bad own es (word-same Σ own q es a), le-ltb (length es) (length es) (omega arith)) end-right
 
 -- the second theorem: building and running together
 pub built-run : (file table : List ℕ) (b : BuiltRight file table) (es : List ℕ) → Word (alphabetOf (b .rule)) es
     → RunRight (alphabetOf (b .rule)) (propertyOf (b .rule)) es (runOf table 0 es)
 built-run file table b es a =
     rw (b .demand-3 .form)
-    (subst (λ (P : ℕ). RunRight (alphabetOf (b .rule)) (propertyOf (b .rule)) es (ranOf (monitorOf table) P 0 es)) (sym (b .demand-3 .signals))
-    (run-right (b .rule .signals) (propertyOf (b .rule)) (monitorOf table) refl (b .demand-2 .verdicts table (b .built)) es a (states-some table (table-header table (b .demand-3 .form)))))
+    (run-right (alphabetOf (b .rule)) (propertyOf (b .rule)) (monitorOf table) refl (b .demand-2 .verdicts table (b .built)) es a
+    (alphabetIn table (signalsIn table)) (b .demand-3 .events) (states-some table (table-header table (b .demand-3 .form))))
 
 -- ---- stepping
 
@@ -122,17 +127,17 @@ module _ (t : List ℕ) (form : isTable t ≡ true) where
   no-step : runOf t 0 [] ≡ endOf (monitorOf t) 0 []
   no-step = rw (form, lt-ltb 0 (statesIn t) (states-some t (table-header t form)))
 
-  one-step : (s e : ℕ) → s < statesIn t → Event (over (signalsIn t)) e → runOf t s (e ∷ []) ≡ endOf (monitorOf t) s (e ∷ [])
-  one-step s e l h = rw (form, lt-ltb s (statesIn t) l, none-bad (signalsIn t) (e ∷ []) (h, tt))
+  one-step : (s e : ℕ) → s < statesIn t → Event (alphabetIn t (signalsIn t)) e → runOf t s (e ∷ []) ≡ endOf (monitorOf t) s (e ∷ [])
+  one-step s e l h = rw (form, lt-ltb s (statesIn t) l, none-bad (alphabetIn t (signalsIn t)) (e ∷ []) (h, tt))
 
   -- stepping ends where the events lead, with the verdict of that state
-  steps-end : (s : ℕ) (d : Decided) (es : List ℕ) → s < statesIn t → Word (over (signalsIn t)) es
+  steps-end : (s : ℕ) (d : Decided) (es : List ℕ) → s < statesIn t → Word (alphabetIn t (signalsIn t)) es
       → (d′ : Decided) × (stepsFrom t (Ended s (monitorOf t .verdict s) d) es ≡ Ended (follow (monitorOf t) s es) (monitorOf t .verdict (follow (monitorOf t) s es)) d′)
   unfolding stepsFrom
   steps-end s d [] l a = (d, refl)
   steps-end s d (e ∷ es) l a =
       let q = one-step s e l (a .0) in
-      let h = steps-end (successor t (signalsIn t) s e) (decidedFrom (monitorOf t) 0 s (e ∷ [])) es (table-inside t form s e l (a .0 .0)) (a .1) in
+      let h = steps-end (successor t (signalsIn t) s e) (decidedFrom (monitorOf t) 0 s (e ∷ [])) es (table-inside t form s e l (a .0)) (a .1) in
       (h .0, ap (λ (r : Ran). stepsFrom t r es) q ∙ h .1)
 
 -- the third theorem: stepping event by event is never refused, and after every list the last step shows demand 2's verdict
@@ -141,7 +146,7 @@ pub built-steps : (file table : List ℕ) (b : BuiltRight file table) (es : List
 built-steps file table b es a =
     let form = b .demand-3 .form in
     let some = states-some table (table-header table form) in
-    let word = subst (λ (P : ℕ). Word (over P) es) (sym (b .demand-3 .signals)) a in
+    let word = word-same (alphabetOf (b .rule)) (alphabetIn table (signalsIn table)) (b .demand-3 .events) es a in
     let end = steps-end table form 0 (decidedFrom (monitorOf table) 0 0 []) es some word in
     let q : steps table es ≡ Ended _ (shows (monitorOf table) es) _ = ap (λ (r : Ran). stepsFrom table r es) (no-step table form) ∙ end .1 in
     subst (λ (r : Ran). StepRight (alphabetOf (b .rule)) (propertyOf (b .rule)) es r) (sym q)

@@ -7,7 +7,8 @@ use native.Mathlib.Decide.{ℕ-discrete, decLe}
 use native.Mathlib.Omega.{arith}
 use lib.ListN.{length}
 use Rattle.meaning.specs.Traces.{Lasso, at}
-use Rattle.meaning.specs.Formulas.{Formula, falsum, verum, signal, atLeast, neg, and, or, implies, iff, xor, next, until, eventually, always, Until, Sat, Holds, bit, countOn}
+use Rattle.meaning.specs.Bytes.{bit}
+use Rattle.meaning.specs.Formulas.{Formula, falsum, verum, signal, atLeast, neg, and, or, implies, iff, xor, next, until, eventually, always, Until, Sat, Holds, countOn}
 use Rattle.ltl.proofs.Shift.{holds-period}
 
 -- an until whose time is below i + n

@@ -7,7 +7,8 @@ use native.Mathlib.Nat.{suc-add, add-mod-right}
 use native.Mathlib.Omega.{arith}
 use lib.ListN.{length}
 use Rattle.meaning.specs.Traces.{Lasso, turn}
-use Rattle.meaning.specs.Formulas.{Formula, falsum, verum, signal, atLeast, neg, and, or, implies, iff, xor, next, until, eventually, always, Until, Sat, Holds, bit, countOn}
+use Rattle.meaning.specs.Bytes.{bit}
+use Rattle.meaning.specs.Formulas.{Formula, falsum, verum, signal, atLeast, neg, and, or, implies, iff, xor, next, until, eventually, always, Until, Sat, Holds, countOn}
 
 -- w from i on is v from j on
 pub record Agree (w : ℕ → ℕ) (i : ℕ) (v : ℕ → ℕ) (j : ℕ) : Type 0 where

@@ -10,7 +10,8 @@ use native.Mathlib.Omega.{arith}
 use lib.ListN.{length, length-append}
 use lib.Seq.{getD-at}
 use lib.Dec.{leb, eqb→eq, leb→le, le→leb}
-use Rattle.meaning.specs.Formulas.{Formula, Sat, bit, countOn}
+use Rattle.meaning.specs.Bytes.{bit}
+use Rattle.meaning.specs.Formulas.{Formula, Sat, countOn}
 use Rattle.ltl.specs.Sets.{on, put}
 use Rattle.ltl.specs.Nodes.{Plain, falsum, verum, signal, atLeast, neg, and, or, implies, iff, xor, Temporal, Split, plain, temporal, temporals, operand, plainFormula, temporalFormula}
 use Rattle.ltl.specs.Valuation.{plainValue, temporalValue, labelBit, fairBit, Valued, none, value, valueAll}

@@ -4,7 +4,7 @@ use Prim.Native.Nat.{ℕ, zero, suc, _+_, _^_}
 use lib.Dec.{eqb}
 use lib.Bits.{bitOr}
 use Rattle.meaning.specs.Traces.{Alphabet}
-use Rattle.meaning.specs.Formulas.{bit}
+use Rattle.meaning.specs.Bytes.{bit}
 
 -- i is in A
 abbrev pub on : ℕ → ℕ → Bool

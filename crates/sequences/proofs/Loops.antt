@@ -2,10 +2,12 @@
 --     Filled                  the invariant of a loop that fills a list of any element type from the front, with f i at turn i
 --     filled-none, -more, -to, -all, -length      where it begins, after a turn, at the end, and that the length is kept
 --     all-more, all-not       a loop that tests every index below n
+--     all-and                 one that does so without stopping
+--     all-at                  what such a test tells of an index
 --     least-is, least-none    a loop that looks for the first index
-use mathlib.Core.Path.{_≡_, refl, ap, _∙_, subst}
+use mathlib.Core.Path.{_≡_, refl, sym, ap, _∙_, subst}
 use mathlib.Core.List.{List, [], _∷_, _++_, append-nil}
-use mathlib.Core.Bool.{Bool, true, false, cond}
+use mathlib.Core.Bool.{Bool, true, false, cond, _&&_}
 use Prim.Native.Nat.{ℕ, zero, suc, _+_, _≤_, _<_}
 use native.Mathlib.Nat.{not-suc-le-zero, le-of-suc-le-suc}
 use native.Mathlib.Numerals.{add-one}
@@ -75,6 +77,28 @@ all-not (suc n) p (suc k) l q = go (p zero) (all-not n (λ i. p (suc i)) k (le-o
     go : (b : Bool) → allBelow n (λ i. p (suc i)) ≡ false → cond b (allBelow n (λ i. p (suc i))) false ≡ false
     go true ih = ih
     go false ih = refl
+
+pub all-and : (n : ℕ) (p : ℕ → Bool) → allBelow (n + 1) p ≡ (allBelow n p && p n)
+all-and n p = rw add-one (go n p)
+  where
+    go : (k : ℕ) (q : ℕ → Bool) → allBelow (suc k) q ≡ (allBelow k q && q k)
+    go zero q = at (q zero)
+      where
+        at : (b : Bool) → cond b true false ≡ b
+        at true = refl
+        at false = refl
+    go (suc k) q = ap (λ (b : Bool). cond (q zero) b false) (go k (λ i. q (suc i))) ∙ at (q zero)
+      where
+        at : (b : Bool) → cond b (allBelow k (λ i. q (suc i)) && q (suc k)) false ≡ (cond b (allBelow k (λ i. q (suc i))) false && q (suc k))
+        at true = refl
+        at false = refl
+
+pub all-at : (n : ℕ) (p : ℕ → Bool) → allBelow n p ≡ true → (i : ℕ) → i < n → p i ≡ true
+all-at n p h i l = go (p i) refl
+  where
+    go : (b : Bool) → p i ≡ b → p i ≡ true
+    go true e = e
+    go false e = e ∙ sym (all-not n p i l e) ∙ h
 
 -- j is the least: none below passes, and j passes unless it is the bound
 pub least-is : (n : ℕ) (p : ℕ → Bool) (j : ℕ) → j ≤ n → ((k : ℕ) → k < j → p k ≡ false) → (j < n → p j ≡ true) → leastBelow n p ≡ j

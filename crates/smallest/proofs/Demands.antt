@@ -1,9 +1,9 @@
 -- Demands 2 and 3 hold of every builder that reads rule files and has a residual system for each rule.
-use mathlib.Core.Path.{_≡_, refl, sym, subst}
+use mathlib.Core.Path.{_≡_, refl, sym, subst, subst₂}
 use mathlib.Core.Logic.{_⊎_, _↔_, inl, inr}
 use mathlib.Core.List.{List}
-use Prim.Native.Nat.{ℕ}
-use Rattle.meaning.specs.Traces.{over, Word}
+use Prim.Native.Nat.{ℕ, _^_}
+use Rattle.meaning.specs.Traces.{masked, Word}
 use Rattle.meaning.specs.Verdicts.{Property, Judged, MoreThan}
 use Rattle.meaning.specs.RuleFiles.{Rule, alphabetOf, propertyOf}
 use Rattle.meaning.specs.Demands.{Reads, Demand-2, Demand-3, Demands}
@@ -11,17 +11,18 @@ use Rattle.meaning.specs.declared.Verdict.{Verdict}
 use Rattle.residuals.specs.System.{System}
 use Rattle.smallest.specs.Table.{Outcome, Table, TooMany, tableOf}
 use Rattle.smallest.specs.Builder.{Built}
-use Rattle.smallest.proofs.Accepted.{Signals, accepted-signals}
-use Rattle.smallest.proofs.Tables.{over-signals, written-form, written-signals}
+use Rattle.smallest.proofs.Accepted.{accepted-formed}
+use Rattle.smallest.proofs.Tables.{OfSignals, of-formed, written-form, written-signals, written-events}
 use Rattle.smallest.proofs.Smallest.{Smallest, shows-verdicts, fewest-states, renumbered, table-smallest, too-many}
 use Rattle.smallest.proofs.Canonical.{tables-equal}
 
--- over equally many signals
-equal-over : {P P′ : ℕ} {L L′ : Property} {t t′ : List ℕ} → Signals P → P′ ≡ P → Smallest (over P) P L t → Smallest (over P′) P′ L′ t′
-    → (t ≡ t′) ↔ ((w : List ℕ) → Word (over P) w → (v : Verdict) → Judged (over P) L w v ↔ Judged (over P′) L′ w v)
-equal-over {P} {P′} {L} {L′} {t} {t′} s q h h′ =
-    subst (λ (n : ℕ). Smallest (over n) n L′ t′ → (t ≡ t′) ↔ ((w : List ℕ) → Word (over P) w → (v : Verdict) → Judged (over P) L w v ↔ Judged (over n) L′ w v))
-    (sym q) (λ k. tables-equal (over-signals s) h k) h′
+-- over equally many signals and the same mask
+equal-over : (r r′ : Rule) {t t′ : List ℕ} {L′ : Property} → OfSignals (alphabetOf r) (r .signals) → r′ .signals ≡ r .signals → r′ .mask ≡ r .mask
+    → Smallest (alphabetOf r) (r .signals) (propertyOf r) t → Smallest (alphabetOf r′) (r′ .signals) L′ t′
+    → (t ≡ t′) ↔ ((w : List ℕ) → Word (alphabetOf r) w → (v : Verdict) → Judged (alphabetOf r) (propertyOf r) w v ↔ Judged (alphabetOf r′) L′ w v)
+equal-over r r′ {t} {t′} {L′} s q m h h′ =
+    subst₂ (λ (P n : ℕ). Smallest (masked (2 ^ P) n) P L′ t′ → (t ≡ t′) ↔ ((w : List ℕ) → Word (alphabetOf r) w → (v : Verdict) → Judged (alphabetOf r) (propertyOf r) w v ↔ Judged (masked (2 ^ P) n) L′ w v))
+    (sym q) (sym m) (λ k. tables-equal s h k) h′
 
 module _ (system : (r : Rule) → System (alphabetOf r) (propertyOf r)) where
   module _ {file : List ℕ} {rule : Rule} (reads : Reads file rule) where
@@ -32,14 +33,14 @@ module _ (system : (r : Rule) → System (alphabetOf r) (propertyOf r)) where
         subst (λ (r : Rule). tableOf (system r) (r .signals) ≡ Table table) q (b .is)
 
     built-smallest : {table : List ℕ} → Built system file table → Smallest (alphabetOf rule) (rule .signals) (propertyOf rule) table
-    built-smallest {table} b = table-smallest (over-signals (accepted-signals file rule reads)) (system rule) table (built-is b)
+    built-smallest {table} b = table-smallest (of-formed (accepted-formed file rule reads)) (system rule) table (built-is b)
 
     built-or-many : ((table : List ℕ) × Built system file table) ⊎ MoreThan (alphabetOf rule) (propertyOf rule) 256
     built-or-many = go (tableOf (system rule) (rule .signals)) refl
       where
         go : (x : Outcome) → tableOf (system rule) (rule .signals) ≡ x → ((table : List ℕ) × Built system file table) ⊎ MoreThan (alphabetOf rule) (propertyOf rule) 256
         go (Table t) q = inl (t, record { rule = rule; reads = reads; is = q })
-        go TooMany q = inr (too-many (over-signals (accepted-signals file rule reads)) (system rule) q)
+        go TooMany q = inr (too-many (of-formed (accepted-formed file rule reads)) (system rule) q)
 
     second : Demand-2 (Built system) file rule
     second = record {
@@ -52,11 +53,12 @@ module _ (system : (r : Rule) → System (alphabetOf r) (propertyOf r)) where
   third file rule table reads b = record {
     form = written-form (h .written);
     signals = written-signals (h .written);
+    events = written-events (h .written) (of-formed (accepted-formed file rule reads));
     order = h .order;
     verdicts = shows-verdicts h;
     smallest = λ m o s. fewest-states h m o s;
     unique = λ m o s q. renumbered h m o s q;
-    canonical = λ file′ rule′ table′ reads′ b′ q. equal-over (accepted-signals file rule reads) q h (built-smallest reads′ b′);
+    canonical = λ file′ rule′ table′ reads′ b′ q m. equal-over rule rule′ (of-formed (accepted-formed file rule reads)) q m h (built-smallest reads′ b′);
   }
     where
       h : Smallest (alphabetOf rule) (rule .signals) (propertyOf rule) table

@@ -2,9 +2,9 @@
 use mathlib.Core.Path.{_≡_, refl}
 use mathlib.Core.List.{List, [], _∷_, append-nil}
 use Prim.Native.Nat.{ℕ}
-use native.Mathlib.Nat.{mod-one, one-le-pow}
+use native.Mathlib.Nat.{mod-one}
 use native.Mathlib.Omega.{arith}
-use Rattle.meaning.specs.Traces.{Alphabet, over, Event, Lasso, Continuation}
+use Rattle.meaning.specs.Traces.{Alphabet, Event, Lasso, Continuation}
 use Rattle.meaning.specs.Verdicts.{Property, NoneSatisfies, AllSatisfy, NeverDecided, Judged}
 use Rattle.meaning.specs.declared.Verdict.{Verdict}
 use Rattle.meaning.specs.declared.Verdict.the-variants.{Undecided, Satisfied, Violated, Moot}
@@ -13,9 +13,6 @@ use Rattle.meaning.specs.declared.Verdict.the-variants.{Undecided, Satisfied, V
 pub record Live (Σ : Alphabet) : Type 0 where
   pub event : ℕ
   pub possible : Event Σ event
-
-pub over-live : (P : ℕ) → Live (over P)
-over-live P = record { event = 0; possible = (one-le-pow P 2 (omega arith), tt) }
 
 -- one event, for ever
 abbrev forEver : ℕ → Lasso

@@ -8,3 +8,4 @@ pub mod Smallest
 pub mod Canonical
 pub mod Demands
 pub mod Extensional
+pub mod Alike

@@ -1,19 +1,19 @@
 -- The table of the smallest monitor of a machine of at most 256 states fits a table file, and is that monitor.
-use mathlib.Core.Path.{_≡_, refl, sym, ap, _∙_, subst}
-use mathlib.Core.Bool.{Bool, true, false, cond}
+use mathlib.Core.Path.{refl, sym, subst}
+use mathlib.Core.Bool.{Bool, true, false}
 use mathlib.Core.List.{List, []}
-use Prim.Native.Nat.{ℕ, zero, suc, _^_, _≤_, _<_}
+use Prim.Native.Nat.{ℕ, zero, suc, _≤_, _<_}
 use native.Mathlib.Omega.{arith}
 use lib.ListN.{getD}
 use lib.Dec.{eqb·suc-zero}
-use Rattle.sequences.specs.Tabulate.{tabulate}
 use Rattle.sequences.proofs.Loops.{getD-tab}
+use Rattle.sequences.proofs.Pointwise.{is-true}
 use Rattle.meaning.specs.Traces.{Alphabet}
 use Rattle.meaning.specs.Monitors.{Over}
 use Rattle.meaning.specs.TableFiles.{monitorOf}
 use Rattle.moore.specs.Reduced.{SameRows}
-use Rattle.moore.specs.Grouping.{entry, Machine, leads, grouping}
-use Rattle.moore.specs.Quotient.{leaders, leader, size, number, closed, verdictByte, verdicts, quotientRows, quotient, reduced}
+use Rattle.moore.specs.Grouping.{Machine, leads, grouping}
+use Rattle.moore.specs.Quotient.{leaders, leader, size, closed, verdictByte, verdicts, quotientRows, quotient, reduced}
 use Rattle.moore.proofs.Counting.{count-le}
 use Rattle.moore.proofs.Grouping.{grouping-grouped, grouping-stable}
 use Rattle.moore.proofs.Quotient.{leader-in, quotient-over}
@@ -39,18 +39,7 @@ module _ {Σ : Alphabet} {P : ℕ} (p : OfSignals Σ P) {n : ℕ} {rows : List (
       (sym (getD-tab (size n g) (λ q. verdictByte (getD classes (getD (leaders n g) q 0) 0) (closed Σ rows g (getD (leaders n g) q 0))) s 0 l))
       (byte-low (getD classes i 0) (closed Σ rows g i) (M .class i (leader-in M (grouping-grouped M) (grouping-stable M) s l)))
 
-  idle : (s e : ℕ) → s < size n (grouping Σ n rows classes) → e < 2 ^ P → Σ .possible e ≡ false → getD (getD (quotientRows Σ n rows (grouping Σ n rows classes)) s []) e 0 ≡ 0
-  unfolding quotientRows
-  idle s e l m q =
-      let g : List ℕ = grouping Σ n rows classes in
-      ap (λ (r : List ℕ). getD r e 0) (getD-tab (size n g) (λ i. tabulate (Σ .width) (at i)) s [] l)
-      ∙ getD-tab (Σ .width) (at s) e 0 (rw (p .width) m)
-      ∙ ap (λ (b : Bool). cond b (getD (tabulate n (number g)) (entry rows (getD (leaders n g) s 0) e) 0) 0) q
-    where
-      at : ℕ → ℕ → ℕ
-      at i e = cond (Σ .possible e) (getD (tabulate n (number (grouping Σ n rows classes))) (entry rows (getD (leaders n (grouping Σ n rows classes)) i 0) e) 0) 0
-
-  fits : Fitting P (size n (grouping Σ n rows classes)) (verdicts Σ n rows classes (grouping Σ n rows classes)) (quotientRows Σ n rows (grouping Σ n rows classes))
+  fits : Fitting Σ P (size n (grouping Σ n rows classes)) (verdicts Σ n rows classes (grouping Σ n rows classes)) (quotientRows Σ n rows (grouping Σ n rows classes))
   unfolding size
   fits = record {
     signals-low = p .signals .low;
@@ -58,13 +47,11 @@ module _ {Σ : Alphabet} {P : ℕ} (p : OfSignals Σ P) {n : ℕ} {rows : List (
     states-low = over .start-in;
     states-high = omega (arith, count-le n (leads (grouping Σ n rows classes)));
     verdict = verdict-low;
-    next = λ s e l m. next s e l m (Σ .possible e) refl;
+    next = λ s e l m q. over .next-in s e l (rw (p .width) m, rw q tt);
+    event = p .live .event;
+    event-low = subst (λ (n : ℕ). p .live .event < n) (p .width) (p .live .possible .0);
+    event-possible = is-true (Σ .possible (p .live .event)) (p .live .possible .1);
   }
-    where
-      next : (s e : ℕ) → s < size n (grouping Σ n rows classes) → e < 2 ^ P → (b : Bool) → Σ .possible e ≡ b
-          → getD (getD (quotientRows Σ n rows (grouping Σ n rows classes)) s []) e 0 < size n (grouping Σ n rows classes)
-      next s e l m true q = over .next-in s e l (rw (p .width) m, rw q tt)
-      next s e l m false q = rw (idle s e l m q) (over .start-in)
 
   pub reduced-written : Written Σ P (reducedBytes Σ P n rows classes)
   unfolding reducedBytes
@@ -73,7 +60,6 @@ module _ {Σ : Alphabet} {P : ℕ} (p : OfSignals Σ P) {n : ℕ} {rows : List (
     verdicts = verdicts Σ n rows classes (grouping Σ n rows classes);
     rows = quotientRows Σ n rows (grouping Σ n rows classes);
     fits = fits;
-    idle = idle;
     is = refl;
   }
 

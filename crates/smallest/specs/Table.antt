@@ -26,7 +26,7 @@ pub data Outcome : Type 0 where
 unfoldable pub reducedBytes : Alphabet → ℕ → ℕ → List (List ℕ) → List ℕ → List ℕ
 reducedBytes Σ P n rows classes =
     let group = grouping Σ n rows classes in
-    tableBytes P (size n group) (verdicts Σ n rows classes group) (quotientRows Σ n rows group)
+    tableBytes Σ P (size n group) (verdicts Σ n rows classes group) (quotientRows Σ n rows group)
 
 module _ {Σ : Alphabet} {L : Property} (S : System Σ L) where
   -- the class of a key: 2 if no continuation satisfies the property, 1 if every one does, 0 if neither
