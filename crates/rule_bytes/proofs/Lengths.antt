@@ -10,18 +10,23 @@ use lib.Seq.{length-take-le}
 use lib.Dec.{ltb, leb}
 use borrow.Author.Tests.{leb-true, ltb-false}
 use Rattle.meaning.specs.Bytes.{u16At}
-use Rattle.meaning.specs.RuleFiles.{Rule, bodyLength, temporals, headerOf, readingOf, Judgement, Accepted, Refused, nodesFrom, judge}
+use Rattle.meaning.specs.RuleFiles.{Rule, bodyLength, temporals, headerOf, maskOf, readingOf, Judgement, Accepted, Refused, nodesFrom, judge}
 use Rattle.meaning.specs.Grammar.{Tree, leaf, pre, bin}
 use Rattle.meaning.specs.RuleTexts.{kindOf, node, size, nodesOf, ruleOf, nodeBytes, nodesBytes, ruleBytes}
 use Rattle.meaning.specs.declared.Node.{Node}
+use Rattle.meaning.specs.declared.Header.{Header}
+use Rattle.meaning.specs.declared.Refusal.{Refusal}
 use Rattle.meaning.specs.declared.Refusal.the-variants.{TrailingBytes}
 use Rattle.meaning.specs.declared.HeaderReading.{HeaderReading}
 use Rattle.meaning.specs.declared.HeaderReading.the-variants as HeaderReading
+use Rattle.meaning.specs.declared.MaskReading.{MaskReading}
+use Rattle.meaning.specs.declared.MaskReading.the-variants as MaskReading
 use Rattle.meaning.specs.declared.Reading.{Reading}
 use Rattle.meaning.specs.declared.Reading.the-variants as Reading
 use Rattle.rule_nodes.proofs.Shapes.{Each, within}
 use Rattle.rule_records.proofs.Records.{header-few, node-told}
-use Rattle.rule_file.proofs.Nodes.{judged, judged-refused}
+use Rattle.rule_records.proofs.Masks.{mask-near}
+use Rattle.rule_file.proofs.Nodes.{judged, judged-refused, judged-mask-refused}
 use Rattle.grammar.specs.Signs.{Signs}
 use Rattle.rule_bytes.specs.WellFormed.{longestAccepted}
 
@@ -74,19 +79,19 @@ tree-file P t h = omega (arith, file-length (ruleOf P t), tree-bytes t 0 h)
 -- ---- files that are accepted
 
 -- with k more nodes to read from p on
-accepted-from : (k : ℕ) (b : List ℕ) (P p : ℕ) (earlier : List Node) (r : Rule) → nodesFrom k b P p earlier ≡ Accepted r → length b ≤ p + 7 * k
+accepted-from : (k : ℕ) (b : List ℕ) (P m p : ℕ) (earlier : List Node) (r : Rule) → nodesFrom k b P m p earlier ≡ Accepted r → length b ≤ p + 7 * k
 unfolding nodesFrom
-accepted-from zero b P p earlier r e = go (ltb p (length b)) refl e
+accepted-from zero b P m p earlier r e = go (ltb p (length b)) refl e
   where
-    go : (t : Bool) → ltb p (length b) ≡ t → cond t (Refused (TrailingBytes p)) (Accepted (record { signals = P; nodes = earlier })) ≡ Accepted r → length b ≤ p + 7 * 0
+    go : (t : Bool) → ltb p (length b) ≡ t → cond t (Refused (TrailingBytes p)) (Accepted (record { signals = P; mask = m; nodes = earlier })) ≡ Accepted r → length b ≤ p + 7 * 0
     go true q e = let z : _≡_ {A = ℕ} 0 1 = cc in absurd (omega arith)
     go false q e = omega (arith, ltb-false p (length b) q)
-accepted-from (suc k) b P p earlier r e =
-    go (readingOf b P p (length earlier) (temporals earlier)) refl (λ n. accepted-from k b P (p + 2 + u16At b p) (earlier ++ (n ∷ [])) r) e
+accepted-from (suc k) b P m p earlier r e =
+    go (readingOf b P p (length earlier) (temporals earlier)) refl (λ n. accepted-from k b P m (p + 2 + u16At b p) (earlier ++ (n ∷ [])) r) e
   where
     go : (x : Reading) → readingOf b P p (length earlier) (temporals earlier) ≡ x
-        → ((n : Node) → nodesFrom k b P (p + 2 + u16At b p) (earlier ++ (n ∷ [])) ≡ Accepted r → length b ≤ p + 2 + u16At b p + 7 * k)
-        → elim x as (λ _. Judgement) [ Reading.Node n ↦ nodesFrom k b P (p + 2 + u16At b p) (earlier ++ (n ∷ [])) | Reading.Refused r ↦ Refused r ] ≡ Accepted r
+        → ((n : Node) → nodesFrom k b P m (p + 2 + u16At b p) (earlier ++ (n ∷ [])) ≡ Accepted r → length b ≤ p + 2 + u16At b p + 7 * k)
+        → elim x as (λ _. Judgement) [ Reading.Node n ↦ nodesFrom k b P m (p + 2 + u16At b p) (earlier ++ (n ∷ [])) | Reading.Refused r ↦ Refused r ] ≡ Accepted r
         → length b ≤ p + 7 * suc k
     go (Reading.Node n) q ih e = omega (arith, ih n e, node-told b P p (length earlier) (temporals earlier) n q .length)
     go (Reading.Refused y) q ih e = let z : _≡_ {A = ℕ} 0 1 = cc in absurd (omega arith)
@@ -94,6 +99,14 @@ accepted-from (suc k) b P p earlier r e =
 pub accepted-file : (b : List ℕ) (r : Rule) → judge b ≡ Accepted r → length b ≤ longestAccepted
 accepted-file b r e = go (headerOf b) refl
   where
+    refused : (y : Refusal) → judge b ≡ Refused y → length b ≤ longestAccepted
+    refused y f = let z : _≡_ {A = ℕ} 0 1 = cc in absurd (omega arith)
+
+    after : (h : Header) → headerOf b ≡ HeaderReading.Header h → (x : MaskReading) → maskOf b (h .signals) ≡ x → length b ≤ longestAccepted
+    after h q (MaskReading.Mask m p) o =
+        omega (arith, accepted-from (h .nodes) b (h .signals) m p [] r (sym (judged b h q m p o) ∙ e), header-few b h q .1, mask-near b (h .signals) m p o)
+    after h q (MaskReading.Refused y) o = refused y (judged-mask-refused b h q y o)
+
     go : (x : HeaderReading) → headerOf b ≡ x → length b ≤ longestAccepted
-    go (HeaderReading.Header h) q = omega (arith, accepted-from (h .nodes) b (h .signals) 6 [] r (sym (judged b h q) ∙ e), header-few b h q .1)
-    go (HeaderReading.Refused y) q = let f = judged-refused b y q in let z : _≡_ {A = ℕ} 0 1 = cc in absurd (omega arith)
+    go (HeaderReading.Header h) q = after h q (maskOf b (h .signals)) refl
+    go (HeaderReading.Refused y) q = refused y (judged-refused b y q)

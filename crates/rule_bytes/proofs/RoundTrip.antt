@@ -9,12 +9,14 @@ use lib.Seq.{getD-append-add, length-take-le, append-snoc}
 use lib.Dec.{leb, eqb}
 use borrow.Author.Tests.{leb-true, eqb-true, le-ltb, le-leb, lt-leb}
 use Rattle.meaning.specs.Bytes.{u16At}
-use Rattle.meaning.specs.RuleFiles.{Rule, Accepted, bodyLength, lengthFits, upperAt, operandsFit, rangesFit, temporal, temporals, firstOf, frameChecks, headerOf, nodeAt, readingOf, nodesFrom, judge}
+use Rattle.meaning.specs.Traces.{fullMask}
+use Rattle.meaning.specs.RuleFiles.{Rule, Accepted, bodyLength, lengthFits, upperAt, operandsFit, rangesFit, temporal, temporals, firstOf, frameChecks, headerOf, maskOf, nodeAt, readingOf, nodesFrom, judge}
 use Rattle.meaning.specs.RuleTexts.{nodeBytes, nodesBytes, ruleBytes, anyOutOfRange}
 use Rattle.meaning.specs.declared.Node.{Node}
 use Rattle.meaning.specs.declared.Refusal.{Refusal}
 use Rattle.meaning.specs.declared.Refusal.the-variants.{WrongOperand, OutOfRange, EighthTemporal}
 use Rattle.meaning.specs.declared.HeaderReading.the-variants as HeaderReading
+use Rattle.meaning.specs.declared.MaskReading.the-variants as MaskReading
 use Rattle.meaning.specs.declared.Reading.{Reading}
 use Rattle.meaning.specs.declared.Reading.the-variants as Reading
 use Rattle.rule_nodes.specs.Shapes.{nodeOf}
@@ -22,6 +24,7 @@ use Rattle.rule_nodes.proofs.Shapes.{Each, within}
 use Rattle.rule_nodes.proofs.Fits.{length-own}
 use Rattle.rule_records.proofs.Checks.{Cleared, failsAt, first-none}
 use Rattle.rule_records.proofs.Records.{headerChecks}
+use Rattle.rule_records.proofs.Masks.{mask-absent}
 use Rattle.rule_file.proofs.Nodes.{temporals-more, nodes-more, nodes-end, judged}
 use Rattle.rule_bytes.specs.WellFormed.{Formed, AllFormed, WellFormed}
 
@@ -150,31 +153,46 @@ in-range-first P n ns e = go (rangesFit P n) refl
     go false q = absurd (true≢false (rw q at e))
 
 -- the nodes ns after the earlier ones, their records after the bytes in front of them
-nodes-back : (P : ℕ) (ns : List Node) (front : List ℕ) (earlier : List Node) → AllFormed (length earlier) ns → anyOutOfRange P ns ≡ false
+nodes-back : (P m : ℕ) (ns : List Node) (front : List ℕ) (earlier : List Node) → AllFormed (length earlier) ns → anyOutOfRange P ns ≡ false
     → temporals earlier + temporals ns ≤ 7
-    → nodesFrom (length ns) (front ++ nodesBytes ns) P (length front) earlier ≡ Accepted (record { signals = P; nodes = earlier ++ ns })
+    → nodesFrom (length ns) (front ++ nodesBytes ns) P m (length front) earlier ≡ Accepted (record { signals = P; mask = m; nodes = earlier ++ ns })
 unfolding nodesBytes
-nodes-back P [] front earlier h e l =
-    nodes-end (front ++ []) P (length front) earlier (omega (arith, length-append front []))
-    ∙ ap (λ (ns : List Node). Accepted (record { signals = P; nodes = ns })) (sym (append-nil earlier))
-nodes-back P (n ∷ ns) front earlier h e l =
+nodes-back P m [] front earlier h e l =
+    nodes-end (front ++ []) P m (length front) earlier (omega (arith, length-append front []))
+    ∙ ap (λ (ns : List Node). Accepted (record { signals = P; mask = m; nodes = ns })) (sym (append-nil earlier))
+nodes-back P m (n ∷ ns) front earlier h e l =
     let here = in-range-first P n ns e in
     let more : List ℕ = front ++ nodeBytes n in
     let later : List Node = earlier ++ (n ∷ []) in
     let number : suc (length earlier) ≡ length later = omega (arith, length-append earlier (n ∷ [])) in
     let place : length front + 2 + u16At (front ++ (nodeBytes n ++ nodesBytes ns)) (length front) ≡ length more =
     omega (arith, length-back front (nodesBytes ns) n, length-append front (nodeBytes n), node-length n (h .0 .kind)) in
-    nodes-more (front ++ (nodeBytes n ++ nodesBytes ns)) P (length front) earlier (length ns) n
+    nodes-more (front ++ (nodeBytes n ++ nodesBytes ns)) P m (length front) earlier (length ns) n
     (reading-back front (nodesBytes ns) n (h .0) P (temporals earlier) (here .0) (omega arith))
-    ∙ ap₂ (λ (b : List ℕ) (p : ℕ). nodesFrom (length ns) b P p later) (sym (append-assoc front (nodeBytes n) (nodesBytes ns))) place
-    ∙ nodes-back P ns more later (subst (λ (i : ℕ). AllFormed i ns) number (h .1)) (here .1) (omega (arith, temporals-more earlier n))
-    ∙ ap (λ (ns : List Node). Accepted (record { signals = P; nodes = ns })) (append-snoc earlier n ns)
+    ∙ ap₂ (λ (b : List ℕ) (p : ℕ). nodesFrom (length ns) b P m p later) (sym (append-assoc front (nodeBytes n) (nodesBytes ns))) place
+    ∙ nodes-back P m ns more later (subst (λ (i : ℕ). AllFormed i ns) number (h .1)) (here .1) (omega (arith, temporals-more earlier n))
+    ∙ ap (λ (ns : List Node). Accepted (record { signals = P; mask = m; nodes = ns })) (append-snoc earlier n ns)
+
+-- the kind of the first node, whose record is at 6, is not the mask's
+mask-back : (P m : ℕ) (front : List ℕ) (n : Node) (rest : List ℕ) → length front ≡ 6 → n .kind ≤ 13 → m ≡ fullMask P
+    → maskOf (front ++ (nodeBytes n ++ rest)) P ≡ MaskReading.Mask m 6
+mask-back P m front n rest e h q =
+    let file : List ℕ = front ++ (nodeBytes n ++ rest) in
+    let kind : u16At file 8 ≡ n .kind = ap (λ (i : ℕ). u16At file (i + 2)) (sym e) ∙ kind-back front rest n in
+    sym (mask-absent file P m (λ k. omega arith) q)
 
 -- a well-formed rule's file is accepted, and says this rule
+all-back : (P m : ℕ) (ns : List Node) → WellFormed (record { signals = P; mask = m; nodes = ns })
+    → judge (ruleBytes (record { signals = P; mask = m; nodes = ns })) ≡ Accepted (record { signals = P; mask = m; nodes = ns })
+unfolding ruleBytes nodesBytes
+all-back P m [] h = absurd (omega (arith, h .count-low))
+all-back P m (n ∷ ns) h =
+    let N : ℕ = suc (length ns) in
+    let front : List ℕ = 4 ∷ 0 ∷ 0 ∷ 1 ∷ P ∷ N ∷ [] in
+    judged (front ++ nodesBytes (n ∷ ns)) (record { signals = P; nodes = N })
+    (header-back P N (nodesBytes (n ∷ ns)) (omega (arith, h .signals-low)) (omega (arith, h .signals-high)) (omega (arith, h .count-low)) (omega (arith, h .count-high)))
+    m 6 (mask-back P m front n (nodesBytes ns) refl (h .formed .0 .kind) (omega (arith, h .mask-unsaid)))
+    ∙ nodes-back P m (n ∷ ns) front [] (h .formed) (h .in-range) (omega (arith, h .temporal-few))
+
 pub reads-back : (r : Rule) → WellFormed r → judge (ruleBytes r) ≡ Accepted r
-unfolding ruleBytes
-reads-back r h =
-    judged (ruleBytes r) (record { signals = r .signals; nodes = length (r .nodes) })
-    (header-back (r .signals) (length (r .nodes)) (nodesBytes (r .nodes)) (omega (arith, h .signals-low)) (omega (arith, h .signals-high))
-    (omega (arith, h .count-low)) (omega (arith, h .count-high)))
-    ∙ nodes-back (r .signals) (r .nodes) (4 ∷ 0 ∷ 0 ∷ 1 ∷ r .signals ∷ length (r .nodes) ∷ []) [] (h .formed) (h .in-range) (omega (arith, h .temporal-few))
+reads-back r h = all-back (r .signals) (r .mask) (r .nodes) h

@@ -94,6 +94,7 @@ tree-rule P t h low high few range temporal =
     record {
       signals-low = low;
       signals-high = high;
+      mask-unsaid = omega arith;
       count-low = omega (arith, nodes-length 0 t, size-some t);
       count-high = omega (arith, nodes-length 0 t);
       formed = nodes-formed t 0 h;

@@ -10,6 +10,7 @@ pub enum Outcome {
 pub struct Read {
     pub outcome: Outcome,
     pub signals: u8,
+    pub mask: u16,
     pub count: u8,
     pub nodes: [Node; 64],
 }

@@ -1,16 +1,19 @@
 // Rule files, read record by record: the rule, or the first refusal in the order of document 01.
 ghost use mathlib.Core.Path.{_≡_};
 ghost use mathlib.Core.Bool.{cond};
+ghost use mathlib.Core.List.{[]};
 ghost use Prim.Native.Nat.{_≤_};
 ghost use lib.ListN.{replicate};
-ghost use Rattle.meaning.specs.RuleFiles.{Refused, judge};
-ghost use Rattle.rule_file.specs.Reading.{blank, readOf, handedOnHeader, handedOn};
+ghost use Rattle.meaning.specs.RuleFiles.{Refused, nodesFrom, judge};
+ghost use Rattle.rule_file.specs.Reading.{blank, readOf, handedOnHeader, handedOnMask, handedOn};
 use meaning::HeaderReading;
+use meaning::MaskReading;
 use meaning::Node;
 use meaning::Reading;
 use meaning::Refusal;
 use rule_nodes::shape_of;
 use rule_records::read_header;
+use rule_records::read_mask;
 use rule_records::read_node;
 use wire::u16_at;
 use wire::wide;
@@ -40,6 +43,7 @@ fn refused(refusal: Refusal) -> Read
     Read {
         outcome: Outcome::Refused(refusal),
         signals: 0,
+        mask: 0,
         count: 0,
         nodes,
     }
@@ -52,6 +56,19 @@ fn handed_on_header(first: HeaderReading) -> Read
     match first {
         HeaderReading::Header(_) => refused(Refusal::Truncated(0)),
         HeaderReading::Refused(refusal) => refused(refusal),
+    }
+}
+
+// Hands on the refusal of the mask's record.
+fn handed_on_mask(second: MaskReading) -> Read
+    ensures { λ r. ⌜ r ≡ readOf (handedOnMask second) ⌝ }
+{
+    match second {
+        MaskReading::Mask {
+            mask: _,
+            nodes_at: _,
+        } => refused(Refusal::Truncated(0)),
+        MaskReading::Refused(refusal) => refused(refusal),
     }
 }
 
@@ -72,18 +89,13 @@ fn counted(temporal: bool) -> u8
     if temporal { 1 } else { 0 }
 }
 
-// The rule in the bytes, or the first refusal.
-pub fn read(bytes: &[u8]) -> Read
-    ensures { λ r. ⌜ r ≡ readOf (judge (now (bytes .entry))) ⌝ }
+// So many nodes, from a place on, and with the signals and the mask the rule.
+fn read_nodes(bytes: &[u8], signals: u8, mask: u16, count: u8, start: usize) -> Read
+    requires { ⌜ (signals ≤ 4) × (count ≤ 64) × (start ≤ 12) ⌝ }
+    ensures { λ r. ⌜ r ≡ readOf (nodesFrom count (now (bytes .entry)) signals mask start []) ⌝ }
 {
-    let first = read_header(bytes);
-    let HeaderReading::Header(header) = first else {
-        return handed_on_header(first);
-    };
-    let signals = header.signals;
-    let count = header.nodes;
     let mut nodes = blanks();
-    let mut p: usize = 6;
+    let mut p: usize = start;
     let mut seen: u8 = 0;
     let mut i: u8 = 0;
     while i < count {
@@ -103,7 +115,25 @@ pub fn read(bytes: &[u8]) -> Read
     Read {
         outcome: Outcome::Accepted,
         signals,
+        mask,
         count,
         nodes,
     }
+}
+
+// The rule in the bytes, or the first refusal.
+pub fn read(bytes: &[u8]) -> Read
+    ensures { λ r. ⌜ r ≡ readOf (judge (now (bytes .entry))) ⌝ }
+{
+    let first = read_header(bytes);
+    let HeaderReading::Header(header) = first else {
+        return handed_on_header(first);
+    };
+    let signals = header.signals;
+    let count = header.nodes;
+    let second = read_mask(bytes, signals);
+    let MaskReading::Mask { mask, nodes_at } = second else {
+        return handed_on_mask(second);
+    };
+    read_nodes(bytes, signals, mask, count, nodes_at)
 }

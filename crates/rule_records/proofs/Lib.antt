@@ -1,3 +1,4 @@
 pub mod Between
 pub mod Checks
+pub mod Masks
 pub mod Records

@@ -59,7 +59,7 @@ module _ (b : List ℕ) (p : ℕ) where
       other : (r : Refusal) → Framed.Refused r ≡ Framed.Record l k → ⊥
       other r e = let z : _≡_ {A = ℕ} 0 1 = cc in omega arith
 
-  framed-refused : {A : Type 0} (refuse : Refusal → A) (x : A) (r : Refusal) (ds : List (Bool × Refusal)) → framedOf b p ≡ Framed.Refused r
+  pub framed-refused : {A : Type 0} (refuse : Refusal → A) (x : A) (r : Refusal) (ds : List (Bool × Refusal)) → framedOf b p ≡ Framed.Refused r
       → firstOf refuse (framing ds p b) x ≡ refuse r
   unfolding framedOf
   framed-refused refuse x r ds e =

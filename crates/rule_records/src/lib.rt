@@ -1,10 +1,12 @@
-// The records of rule files: the first one and a node's, each read or refused by the first check that fails.
+// The records of rule files: the first one, the mask's and a node's, each read or refused by the first check that fails.
 ghost use mathlib.Core.Path.{_≡_};
 ghost use Prim.Native.Nat.{_≤_, _<_};
-ghost use Rattle.meaning.specs.RuleFiles.{headerOf, readingOf};
+ghost use Rattle.meaning.specs.RuleFiles.{headerOf, maskOf, readingOf};
 ghost use Rattle.rule_records.specs.Frames.{framedOf, refusalIn};
+use events::full_mask;
 use meaning::Header;
 use meaning::HeaderReading;
+use meaning::MaskReading;
 use meaning::Reading;
 use meaning::Refusal;
 use rule_nodes::eighth;
@@ -80,6 +82,32 @@ pub fn read_header(b: &[u8]) -> HeaderReading
         return HeaderReading::Refused(Refusal::WrongCount);
     }
     HeaderReading::Header(Header { signals, nodes })
+}
+
+// What stands between the first record and the nodes: the mask's record, or nothing, and then all events can happen.
+pub fn read_mask(b: &[u8], signals: u8) -> MaskReading
+    requires { ⌜ signals ≤ 4 ⌝ }
+    ensures { λ r. ⌜ r ≡ maskOf (now (b .entry)) signals ⌝ }
+{
+    if u16_at(b, 8) != 257 {
+        let mask = full_mask(signals);
+        return MaskReading::Mask { mask, nodes_at: 6 };
+    }
+    let framed = frame(b, 6);
+    let Framed::Record { length: n, kind: _ } = framed else {
+        return MaskReading::Refused(refusal_in(framed));
+    };
+    if n != 4 {
+        return MaskReading::Refused(Refusal::WrongLength(6));
+    }
+    let mask = u16_at(b, 10);
+    if full_mask(signals) < mask {
+        return MaskReading::Refused(Refusal::OutOfRange(6));
+    }
+    if mask < 1 {
+        return MaskReading::Refused(Refusal::NoEvent(6));
+    }
+    MaskReading::Mask { mask, nodes_at: 12 }
 }
 
 // The record at p, of the node with this number, after so many temporal ones.

@@ -23,7 +23,7 @@ use Rattle.meaning.specs.RuleFiles.{Rule}
 use Rattle.grammar.specs.Signs as Trees
 use Rattle.rule_bytes.specs.WellFormed.{KindsFit}
 use Rattle.rule_bytes.proofs.Trees.{tree-kinds}
-use Rattle.rule_file.specs.Reading.{ruleIn}
+use Rattle.rule_writer.specs.Writing.{unmasked}
 use Rattle.rule_text.specs.Writing.{Writes}
 
 -- ---- the pass
@@ -81,7 +81,7 @@ module _ (P room : ℕ) (t : Tree) (low : 1 ≤ P) (high : P ≤ 4) where
   few h = rw (le-leb 1 P low, le-leb P 4 high, le-ltb 64 (size t) h)
 
 -- the first k nodes are the tree's
-pub rule-is : (P k : ℕ) (nodes : List Node) (t : Tree) → k ≡ size t → take (size t) nodes ≡ nodesOf 0 t → ruleIn P k nodes ≡ ruleOf P t
+pub rule-is : (P k : ℕ) (nodes : List Node) (t : Tree) → k ≡ size t → take (size t) nodes ≡ nodesOf 0 t → unmasked P k nodes ≡ ruleOf P t
 rule-is P k nodes t e q = rw (e, q)
 
 pub kinds-fit : (k : ℕ) (nodes : List Node) (t : Tree) → Trees.Signs t → k ≡ size t → take (size t) nodes ≡ nodesOf 0 t → KindsFit (take k nodes)
@@ -89,7 +89,7 @@ kinds-fit k nodes t g e q = rw (e, q) (tree-kinds t 0 g)
 
 -- what was written for them
 pub written : (P k : ℕ) (nodes : List Node) (t : Tree) (before : List ℕ) (r : Written) (after : List ℕ) → 1 ≤ P → P ≤ 4 → k ≤ 64 → k ≡ size t → take (size t) nodes ≡ nodesOf 0 t
-    → r ≡ ruleAnswer (length before) (ruleIn P k nodes) → after ≡ outputOf (ruleAnswer (length before) (ruleIn P k nodes)) (ruleBytes (ruleIn P k nodes)) before
+    → r ≡ ruleAnswer (length before) (unmasked P k nodes) → after ≡ outputOf (ruleAnswer (length before) (unmasked P k nodes)) (ruleBytes (unmasked P k nodes)) before
     → (r ≡ treeAnswer P (length before) t) × (after ≡ outputOf r (ruleBytes (ruleOf P t)) before)
 written P k nodes t before r after low high h e q a o =
     let i = rule-is P k nodes t e q in

@@ -1,4 +1,4 @@
-// Reads rule files from standard input, each after its length in two bytes, and prints a line for each: the rule, or its refusal.
+// Reads rule files from standard input, each after its length in two bytes, and prints a line for each: the rule, its mask after its signals, or its refusal.
 use libc::STDIN_FILENO;
 use libc::STDOUT_FILENO;
 use meaning::Node;
@@ -38,6 +38,8 @@ fn print_nodes(nodes: [Node; 64], count: usize) {
 fn print_rule(read: Read) {
     io::write_all(STDOUT_FILENO, b"rule ");
     print_number(read.signals);
+    io::write_all(STDOUT_FILENO, b" ");
+    io::print_decimal(STDOUT_FILENO, read.mask as u64);
     io::write_all(STDOUT_FILENO, b" ");
     print_number(read.count);
     io::write_all(STDOUT_FILENO, b":");

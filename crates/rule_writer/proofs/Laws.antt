@@ -25,8 +25,7 @@ use Rattle.text_pieces.specs.Put.{Put}
 use Rattle.text_pieces.proofs.Laws.{put-more, put-is, put-front}
 use Rattle.rule_bytes.specs.WellFormed.{KindsFit}
 use Rattle.rule_bytes.proofs.Lengths.{bytes-append, bytes-one, file-length}
-use Rattle.rule_file.specs.Reading.{ruleIn}
-use Rattle.rule_writer.specs.Writing.{Wrote}
+use Rattle.rule_writer.specs.Writing.{unmasked, Wrote}
 
 -- ---- the last node of a list
 
@@ -120,8 +119,8 @@ module _ (r : Rule) (out : List ℕ) where
 
 -- the first record, and the nodes' after it
 pub file-put : (P count : ℕ) (nodes : List Node) {d s r : List ℕ} {i j : ℕ} → length (take count nodes) ≡ count → Put d 0 (4 ∷ 0 ∷ 0 ∷ 1 ∷ P ∷ count ∷ []) s i → Put s i (nodesBytes (take count nodes)) r j
-    → Put d 0 (ruleBytes (ruleIn P count nodes)) r j
+    → Put d 0 (ruleBytes (unmasked P count nodes)) r j
 unfolding ruleBytes
 file-put P count nodes e h k =
-    put-is (put-more h k) (ruleBytes (ruleIn P count nodes))
+    put-is (put-more h k) (ruleBytes (unmasked P count nodes))
     (ap (λ (n : ℕ). (4 ∷ 0 ∷ 0 ∷ 1 ∷ P ∷ n ∷ []) ++ nodesBytes (take count nodes)) (sym e))

@@ -8,8 +8,7 @@ ghost use Rattle.meaning.specs.RuleFiles.{bodyLength, temporal, temporals};
 ghost use Rattle.meaning.specs.RuleTexts.{nodeBytes, nodesBytes, ruleBytes, anyOutOfRange, ruleAnswer, outputOf};
 ghost use Rattle.rule_bytes.specs.WellFormed.{KindsFit};
 ghost use Rattle.text_pieces.specs.Put.{Put};
-ghost use Rattle.rule_file.specs.Reading.{ruleIn};
-ghost use Rattle.rule_writer.specs.Writing.{Wrote};
+ghost use Rattle.rule_writer.specs.Writing.{unmasked, Wrote};
 use meaning::Node;
 use meaning::Refusal;
 use meaning::Written;
@@ -124,7 +123,7 @@ fn put_nodes(out: &mut [u8], start: usize, count: usize, nodes: [Node; 64]) -> u
 // The checks in their order, and the file.
 fn write_rule(signals: u8, count: usize, nodes: [Node; 64], rule: &mut [u8]) -> Written
     requires { ⌜ (signals ≤ 4) × (count ≤ 64) × KindsFit (take count nodes) ⌝ }
-    ensures { λ r. ⌜ Wrote (ruleIn signals count nodes) (now (rule .entry)) r (now (rule .exit)) ⌝ }
+    ensures { λ r. ⌜ Wrote (unmasked signals count nodes) (now (rule .entry)) r (now (rule .exit)) ⌝ }
 {
     if any_out_of_range(signals, count, nodes) {
         return Written::Refused(Refusal::OutOfRange(0));
@@ -145,8 +144,8 @@ fn write_rule(signals: u8, count: usize, nodes: [Node; 64], rule: &mut [u8]) -> 
 // file are kept.
 pub fn write_nodes(signals: u8, count: u8, nodes: [Node; 64], rule: &mut [u8]) -> Written
     requires { ⌜ (signals ≤ 4) × (count ≤ 64) × KindsFit (take count nodes) ⌝ }
-    ensures answer { λ r. ⌜ r ≡ ruleAnswer (length (now (rule .entry))) (ruleIn signals count nodes) ⌝ }
-    ensures output { λ _. ⌜ now (rule .exit) ≡ outputOf (ruleAnswer (length (now (rule .entry))) (ruleIn signals count nodes)) (ruleBytes (ruleIn signals count nodes)) (now (rule .entry)) ⌝ }
+    ensures answer { λ r. ⌜ r ≡ ruleAnswer (length (now (rule .entry))) (unmasked signals count nodes) ⌝ }
+    ensures output { λ _. ⌜ now (rule .exit) ≡ outputOf (ruleAnswer (length (now (rule .entry))) (unmasked signals count nodes)) (ruleBytes (unmasked signals count nodes)) (now (rule .entry)) ⌝ }
 {
     write_rule(signals, wide(count), nodes, rule)
 }

@@ -1,170 +1,101 @@
--- `rule_file::read` meets its contract. The invariant is `Progress`: what is left to judge is what was to be judged. The measure is how many nodes are left.
+-- `rule_file::read` meets its contract. By the readings of the first record and of the mask.
 use native.Mathlib.Omega.{arith}
 use borrow.Author.Needs.{needs}
 use denote.Ref.{now}
-use mathlib.Core.Path.{sym, ap, _∙_}
-use mathlib.Core.Bool.{cond}
-use Prim.Native.Nat.{_-_}
+use mathlib.Core.Path.{_≡_, sym, ap, _∙_}
+use mathlib.Core.List.{List}
+use Prim.Native.Nat.{ℕ}
+use Rattle.meaning.specs.RuleFiles.{headerOf}
 use Rattle.meaning.specs.declared.HeaderReading.{HeaderReading}
-use Rattle.meaning.specs.declared.Reading.{Reading}
-use Rattle.rule_file.specs.Reading.{readOf, handedOnHeader, handedOn}
-use Rattle.rule_nodes.specs.declared.Shape.{Shape}
-use Rattle.rule_records.proofs.Records.{header-few, node-told}
-use Rattle.rule_file.proofs.Nodes.{Progress, judged, judged-refused, progress-none, progress-more, progress-refused, progress-over, progress-accepted}
+use Rattle.meaning.specs.declared.HeaderReading.the-variants as HeaderReading
+use Rattle.meaning.specs.declared.MaskReading.{MaskReading}
+use Rattle.rule_file.specs.Reading.{readOf, handedOnHeader, handedOnMask}
+use Rattle.rule_records.proofs.Records.{header-few}
+use Rattle.rule_records.proofs.Masks.{mask-near}
+use Rattle.rule_file.proofs.Nodes.{judged, judged-refused, judged-mask-refused}
 use Rattle.rule_file.proofs.read.Statement.{statement}
 use Rattle.rule_file.proofs.read.Tie as tie
 
-abbrev Inv-loop : tie.InvT-loop
-Inv-loop bytes signals count nodes₀ p₀ seen₀ i₀ nodes p seen i = Progress bytes signals count nodes p seen i
+-- ---- the first record
 
-abbrev μ-loop : tie.MeasureT-loop
-μ-loop bytes signals count nodes₀ p₀ seen₀ i₀ nodes p seen i = count - i
+abbrev bytes : tie.After-first → List ℕ
+bytes c = now (c .before .before .before .before .args .bytes)
 
-read-header-requires : tie.Need-read-header-requires Inv-loop μ-loop
+header : (c : tie.After-first) → headerOf (bytes c) ≡ HeaderReading.Header (c .first .given .0 .0)
+header c = sym (c .before .before .read-header .ensures) ∙ c .first .given .1
+
+-- ---- the needs
+
+read-header-requires : tie.Need-read-header-requires
 read-header-requires c κs = search needs
 
-enum-known-first : tie.Need-enum-known-first Inv-loop μ-loop
+enum-known-first : tie.Need-enum-known-first
 enum-known-first c = search needs
 
-enum-told : tie.Need-enum-told Inv-loop μ-loop
+enum-told : tie.Need-enum-told
 enum-told c = search needs
 
-handed-on-header-requires : tie.Need-handed-on-header-requires Inv-loop μ-loop
+handed-on-header-requires : tie.Need-handed-on-header-requires
 handed-on-header-requires c κs = search needs
 
-returns : tie.Need-returns Inv-loop μ-loop
-returns c = c .handed-on-header .ensures ∙ ap (λ (o : HeaderReading). readOf (handedOnHeader o)) (c .before .enum-told .given .1) ∙ sym (ap readOf (judged-refused (now (c .before .before .before .before .before .args .bytes)) _ (sym (c .before .before .before .read-header .ensures) ∙ c .before .enum-told .given .1)))
+returns : tie.Need-returns
+returns c =
+    let at-read-header = c .before .before .before in
+    let start = at-read-header .before .before in
+    let told = c .before .enum-told .given .1 in
+    c .handed-on-header .ensures ∙ ap (λ (o : HeaderReading). readOf (handedOnHeader o)) told
+    ∙ sym (ap readOf (judged-refused (now (start .args .bytes)) _ (sym (at-read-header .read-header .ensures) ∙ told)))
 
-blanks-requires : tie.Need-blanks-requires Inv-loop μ-loop
-blanks-requires c κs = search needs
+read-mask-requires : tie.Need-read-mask-requires
+read-mask-requires c κs = header-few (bytes (c .before)) _ (header (c .before)) .0
 
-loop-holds : tie.Need-loop-holds Inv-loop μ-loop
-loop-holds c = let few = header-few (now (c .before .before .before .before .before .before .args .bytes)) _ (sym (c .before .before .before .before .read-header .ensures) ∙ c .before .before .first .given .1) in progress-none (few .0) (few .1) (c .blanks .ensures)
+enum-known-second : tie.Need-enum-known-second
+enum-known-second c = search needs
 
-read-node-requires : tie.Need-read-node-requires Inv-loop μ-loop
-read-node-requires c κs = omega (arith, c .before .loop .inv .signals, c .before .loop .inv .near, c .before .loop .inv .within, c .before .loop .inv .room)
-
-enum-known-reading : tie.Need-enum-known-reading Inv-loop μ-loop
-enum-known-reading c = search needs
-
-enum-told-2 : tie.Need-enum-told-2 Inv-loop μ-loop
+enum-told-2 : tie.Need-enum-told-2
 enum-told-2 c = search needs
 
-handed-on-requires : tie.Need-handed-on-requires Inv-loop μ-loop
-handed-on-requires c κs = search needs
+handed-on-mask-requires : tie.Need-handed-on-mask-requires
+handed-on-mask-requires c κs = search needs
 
-returns-2 : tie.Need-returns-2 Inv-loop μ-loop
+returns-2 : tie.Need-returns-2
 returns-2 c =
-    let at-read-node = c .before .before .before in
-    let at-loop-test = at-read-node .before in
-    let at-loop = at-loop-test .before in
-    let at-first = at-loop .before .before .before in
-    let at-read-header = at-first .before .before in
-    let start = at-read-header .before .before in
-    c .handed-on .ensures ∙ ap (λ (r : Reading). readOf (handedOn r)) (c .before .enum-told2 .given .1) ∙ sym (ap readOf (judged (now (start .args .bytes)) _ (sym (at-read-header .read-header .ensures) ∙ at-first .first .given .1) ∙ progress-refused (at-loop .loop .inv) _ (at-loop-test .loop-test .taken) (sym (at-read-node .read-node .ensures) ∙ c .before .enum-told2 .given .1)))
+    let at-read-mask = c .before .before .before in
+    let at-first = at-read-mask .before .before in
+    let told = c .before .enum-told2 .given .1 in
+    c .handed-on-mask .ensures ∙ ap (λ (o : MaskReading). readOf (handedOnMask o)) told
+    ∙ sym (ap readOf (judged-mask-refused (bytes at-first) _ (header at-first) _ (sym (at-read-mask .read-mask .ensures) ∙ told)))
 
-shape-of-requires : tie.Need-shape-of-requires Inv-loop μ-loop
-shape-of-requires c κs =
-    let at-read-node = c .before .before .before in
-    let at-loop = at-read-node .before .before in
-    let start = at-loop .before .before .before .before .before .before .before in
-    node-told (now (start .args .bytes)) _ (at-loop .loop .p) (at-loop .loop .i) (at-loop .loop .seen) _ (sym (at-read-node .read-node .ensures) ∙ c .before .reading .given .1) .kind
+read-nodes-requires : tie.Need-read-nodes-requires
+read-nodes-requires c κs =
+    let at-second = c .before in
+    let at-read-mask = at-second .before .before in
+    let at-first = at-read-mask .before .before in
+    let few = header-few (bytes at-first) _ (header at-first) in
+    let near = mask-near (bytes at-first) _ _ _ (sym (at-read-mask .read-mask .ensures) ∙ at-second .second .given .1) in
+    omega (arith, few .0, few .1, near)
 
-wide-requires : tie.Need-wide-requires Inv-loop μ-loop
-wide-requires c κs = search needs
-
-mul-nodes : tie.Need-mul-nodes Inv-loop μ-loop
-mul-nodes c = omega (arith, c .wide .ensures .1)
-
-array-set-from-nodes : tie.Need-array-set-from-nodes Inv-loop μ-loop
-array-set-from-nodes c = omega (arith, c .wide .ensures .0, c .before .before .before .before .before .before .loop-test .taken, c .before .before .before .before .before .before .before .loop .inv .room)
-
-u16-at-requires : tie.Need-u16-at-requires Inv-loop μ-loop
-u16-at-requires c κs = let at-loop = c .before .before .before .before .before .before .before in omega (arith, at-loop .loop .inv .near, at-loop .loop .inv .within, at-loop .loop .inv .room)
-
-wide16-requires : tie.Need-wide16-requires Inv-loop μ-loop
-wide16-requires c κs = search needs
-
-add-p : tie.Need-add-p Inv-loop μ-loop
-add-p c = omega (arith, c .wide16 .ensures .1)
-
-add-p-2 : tie.Need-add-p-2 Inv-loop μ-loop
-add-p-2 c = let at-loop = c .before .before .before .before .before .before .before .before .before in omega (arith, c .wide16 .ensures .1, at-loop .loop .inv .near, at-loop .loop .inv .within, at-loop .loop .inv .room)
-
-counted-requires : tie.Need-counted-requires Inv-loop μ-loop
-counted-requires c κs = search needs
-
-add-seen : tie.Need-add-seen Inv-loop μ-loop
-add-seen c = let at-loop = c .before .before .before .before .before .before .before .before .before .before in omega (arith, c .counted .ensures .1, at-loop .loop .inv .few, at-loop .loop .inv .within, at-loop .loop .inv .room)
-
-add-i : tie.Need-add-i Inv-loop μ-loop
-add-i c = let at-loop-test = c .before .before .before .before .before .before .before .before .before in omega (arith, at-loop-test .loop-test .taken, at-loop-test .before .loop .inv .room)
-
-loop-less : tie.Need-loop-less Inv-loop μ-loop
-loop-less c = omega (arith, c .before .before .before .before .before .before .before .before .before .loop-test .taken)
-
-loop-again : tie.Need-loop-again Inv-loop μ-loop
-loop-again c =
-    let at-wide16 = c .before in
-    let at-u16-at = at-wide16 .before in
-    let at-wide = at-u16-at .before in
-    let at-shape-of = at-wide .before in
-    let at-reading = at-shape-of .before .before in
-    let at-read-node = at-reading .before .before in
-    let at-loop-test = at-read-node .before in
-    let at-loop = at-loop-test .before in
-    let found = sym (at-read-node .read-node .ensures) ∙ at-reading .reading .given .1 in
-    let temporal = c .counted .ensures .0 ∙ ap (λ (s : Shape). cond (s .temporal) 1 0) (at-shape-of .shape-of .ensures) in
-    progress-more (at-loop .loop .inv) (at-reading .reading .given .0 .0) (at-wide .wide .result) (at-wide16 .wide16 .result) (c .counted .result)
-    (at-loop-test .loop-test .taken) found (at-wide .wide .ensures .0)
-    (omega (arith, at-wide16 .wide16 .ensures .0, at-u16-at .u16-at .ensures)) temporal (c .counted .ensures .1)
-
-refused-requires : tie.Need-refused-requires Inv-loop μ-loop
-refused-requires c κs = search needs
-
-returns-3 : tie.Need-returns-3 Inv-loop μ-loop
+returns-3 : tie.Need-returns-3
 returns-3 c =
-    let at-loop-test = c .before .before in
-    let at-loop = at-loop-test .before in
-    let at-first = at-loop .before .before .before in
-    let at-read-header = at-first .before .before in
-    let start = at-read-header .before .before in
-    c .refused .ensures ∙ sym (ap readOf (judged (now (start .args .bytes)) _ (sym (at-read-header .read-header .ensures) ∙ at-first .first .given .1) ∙ progress-over (at-loop .loop .inv) (at-loop-test .loop-test .left) (c .before .if1 .taken)))
-
-returns-4 : tie.Need-returns-4 Inv-loop μ-loop
-returns-4 c = progress-accepted (c .before .before .loop .inv) (c .before .loop-test .left) (c .if1 .left) ∙ sym (ap readOf (judged (now (c .before .before .before .before .before .before .before .before .before .args .bytes)) _ (sym (c .before .before .before .before .before .before .before .read-header .ensures) ∙ c .before .before .before .before .before .first .given .1)))
+    let at-second = c .before .before in
+    let at-read-mask = at-second .before .before in
+    let at-first = at-read-mask .before .before in
+    c .read-nodes .ensures
+    ∙ sym (ap readOf (judged (bytes at-first) _ (header at-first) _ _ (sym (at-read-mask .read-mask .ensures) ∙ at-second .second .given .1)))
 
 pub read-spec : {M : Type 1} → statement M
 read-spec =
     tie.close
     (tie.spec
-    Inv-loop
-    μ-loop
     read-header-requires
     enum-known-first
     enum-told
     handed-on-header-requires
     returns
-    blanks-requires
-    loop-holds
-    read-node-requires
-    enum-known-reading
+    read-mask-requires
+    enum-known-second
     enum-told-2
-    handed-on-requires
+    handed-on-mask-requires
     returns-2
-    shape-of-requires
-    wide-requires
-    mul-nodes
-    array-set-from-nodes
-    u16-at-requires
-    wide16-requires
-    add-p
-    add-p-2
-    counted-requires
-    add-seen
-    add-i
-    loop-less
-    loop-again
-    refused-requires
-    returns-3
-    returns-4)
+    read-nodes-requires
+    returns-3)

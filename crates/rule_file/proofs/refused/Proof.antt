@@ -11,7 +11,7 @@ blanks-requires : tie.Need-blanks-requires
 blanks-requires c κs = search needs
 
 returns : tie.Need-returns
-returns c = ap (λ (ns : List Node). record { outcome = Outcome.Refused (c .before .args .refusal); signals = 0; count = 0; nodes = ns }) (c .blanks .ensures)
+returns c = ap (λ (ns : List Node). record { outcome = Outcome.Refused (c .before .args .refusal); signals = 0; mask = 0; count = 0; nodes = ns }) (c .blanks .ensures)
 
 pub refused-spec : {M : Type 1} → statement M
 refused-spec = tie.close (tie.spec blanks-requires returns)

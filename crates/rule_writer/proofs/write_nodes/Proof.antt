@@ -6,8 +6,7 @@ use denote.Ref.{now}
 use lib.ListN.{take}
 use borrow.Author.Needs.{needs}
 use Rattle.rule_bytes.specs.WellFormed.{KindsFit}
-use Rattle.rule_file.specs.Reading.{ruleIn}
-use Rattle.rule_writer.specs.Writing.{Wrote}
+use Rattle.rule_writer.specs.Writing.{unmasked, Wrote}
 use Rattle.rule_writer.proofs.write_nodes.Statement.{statement}
 use Rattle.rule_writer.proofs.write_nodes.Tie as tie
 
@@ -28,7 +27,7 @@ returns c =
     let at-wide = c .before .before .before .before in
     let start = at-wide .before .before in
     let h =
-    subst (λ (n : ℕ). Wrote (ruleIn (start .args .signals) n (start .args .nodes)) (now (start .args .rule)) (c .before .before .write-rule .result) (c .before .before .write-rule .last .1 .1 .1 .0))
+    subst (λ (n : ℕ). Wrote (unmasked (start .args .signals) n (start .args .nodes)) (now (start .args .rule)) (c .before .before .write-rule .result) (c .before .before .write-rule .last .1 .1 .1 .0))
     (at-wide .wide .ensures .0) (c .before .before .write-rule .ensures) in
     (h .answer, h .output)
 

@@ -3,7 +3,7 @@ use native.Mathlib.Omega.{arith}
 use mathlib.Core.Path.{sym, _∙_}
 use denote.Ref.{now}
 use borrow.Author.Needs.{needs}
-use Rattle.rule_file.specs.Reading.{ruleIn}
+use Rattle.rule_writer.specs.Writing.{unmasked}
 use Rattle.rule_writer.proofs.Laws.{wrote-range, wrote-temporal, wrote-short, wrote-file, file-put}
 use Rattle.rule_writer.proofs.write_rule.Statement.{statement}
 use Rattle.rule_writer.proofs.write_rule.Tie as tie
@@ -14,7 +14,7 @@ any-out-of-range-requires c κs = search needs
 returns : tie.Need-returns
 returns c =
     let start = c .before .before .before in
-    wrote-range (ruleIn (start .args .signals) (start .args .count) (start .args .nodes)) (now (start .args .rule)) (sym (c .before .any-out-of-range .ensures) ∙ c .if1 .taken)
+    wrote-range (unmasked (start .args .signals) (start .args .count) (start .args .nodes)) (now (start .args .rule)) (sym (c .before .any-out-of-range .ensures) ∙ c .if1 .taken)
 
 temporal-count-requires : tie.Need-temporal-count-requires
 temporal-count-requires c κs = search needs
@@ -23,7 +23,7 @@ returns-2 : tie.Need-returns-2
 returns-2 c =
     let at-range = c .before .before .before in
     let start = at-range .before .before in
-    wrote-temporal (ruleIn (start .args .signals) (start .args .count) (start .args .nodes)) (now (start .args .rule))
+    wrote-temporal (unmasked (start .args .signals) (start .args .count) (start .args .nodes)) (now (start .args .rule))
     (sym (at-range .any-out-of-range .ensures) ∙ c .before .before .if1 .left)
     (omega (arith, c .if2 .taken, c .before .temporal-count .ensures))
 
@@ -35,7 +35,7 @@ returns-3 c =
     let at-temporal = c .before .before .before in
     let at-range = at-temporal .before .before in
     let start = at-range .before .before in
-    wrote-short (ruleIn (start .args .signals) (start .args .count) (start .args .nodes)) (now (start .args .rule))
+    wrote-short (unmasked (start .args .signals) (start .args .count) (start .args .nodes)) (now (start .args .rule))
     (sym (at-range .any-out-of-range .ensures) ∙ at-temporal .before .if1 .left)
     (omega (arith, c .before .before .if2 .left, at-temporal .temporal-count .ensures))
     (omega (arith, c .if3 .taken, c .before .file-length .ensures .0))
@@ -61,7 +61,7 @@ returns-4 c =
     let at-temporal = at-length .before .before in
     let at-range = at-temporal .before .before in
     let start = at-range .before .before in
-    wrote-file (ruleIn (start .args .signals) (start .args .count) (start .args .nodes)) (now (start .args .rule))
+    wrote-file (unmasked (start .args .signals) (start .args .count) (start .args .nodes)) (now (start .args .rule))
     (sym (at-range .any-out-of-range .ensures) ∙ at-temporal .before .if1 .left)
     (omega (arith, at-length .before .if2 .left, at-temporal .temporal-count .ensures))
     _ _ _ (at-length .file-length .ensures .0)
