@@ -8,7 +8,7 @@ use lib.ListN.{length, getD, drop, length-append, length-drop, List·getD-append
 use lib.Dec.{eqb}
 use Rattle.sequences.specs.Tabulate.{tabulate}
 use Rattle.sequences.proofs.Loops.{length-tab, getD-tab}
-use Rattle.meaning.specs.Traces.{over, firstEvents}
+use Rattle.meaning.specs.Traces.{masked}
 use Rattle.ltl.specs.Sets.{on}
 use Rattle.ltl.specs.Keys.{Tables, startKey, stepKey, emptyKey}
 use Rattle.walk.specs.Explore.{Explored, within, beyond, explore}
@@ -17,16 +17,16 @@ use Rattle.profile_sets.specs.Arrays.{setIn, Marked, tablesBy, tablesIn, Tabled
 use Rattle.profile_sets.proofs.Tables.{step-held, whole-is, start-same, step-same}
 use Rattle.key_slots.specs.Arrays.{keysIn, KeysFit}
 use Rattle.key_slots.specs.Answers.{Beyond}
-use Rattle.exploration.specs.Answers.{expandKey, exploreBelow, exploreKeys, classOf, classBy, Ended, WalkedAs, ClosedAs, ExploredAs, Explores}
+use Rattle.exploration.specs.Answers.{expandKey, exploreKeys, classOf, classBy, Ended, WalkedAs, ClosedAs, ExploredAs, Explores}
 use Rattle.exploration.proofs.SameSteps.{row-same, explore-same}
 
 -- ---- the row of a key, from its array of bools
 
-pub held-row : {w n : ℕ} {profiles : List (List ℕ)} {W : ℕ} (A : ℕ) {held : List Bool} → Steppable w n profiles W → Marked (n + n) (on A) held
-    → (keys : List ℕ) → expandKey (tablesBy n profiles W) w (setIn held) keys ≡ expandKey (tablesBy n profiles W) w A keys
-held-row {w} {n} {profiles} {W} A {held} h m keys =
+pub held-row : {w n : ℕ} {profiles : List (List ℕ)} {W : ℕ} (mask A : ℕ) {held : List Bool} → Steppable w n profiles W → Marked (n + n) (on A) held
+    → (keys : List ℕ) → expandKey (tablesBy n profiles W) (masked w mask) (setIn held) keys ≡ expandKey (tablesBy n profiles W) (masked w mask) A keys
+held-row {w} {n} {profiles} {W} mask A {held} h m keys =
     let t = tablesBy n profiles W in
-    row-same eqb (stepKey t) (stepKey t) (startKey t) (firstEvents w) 256 (setIn held) A (λ e l. step-held h A e m l) keys
+    row-same eqb (stepKey t) (stepKey t) (startKey t) (masked w mask) 256 (setIn held) A (λ e l. step-held h A e m l) keys
 
 -- ---- the rows and keys of the walk
 
@@ -36,12 +36,12 @@ tabled-at {w} {w′} {n} {n′} {profiles} {whole} p q h =
     subst (λ (v : ℕ). Tabled v n profiles whole) (sym p) (subst (λ (k : ℕ). Tabled w′ k profiles whole) (sym q) h)
 
 -- the walk at other names of these and of the set of all profiles
-pub walked-at : {n n′ W W′ w w′ : ℕ} (profiles : List (List ℕ)) {keys : List (List ℕ)} {count : ℕ} {rows : List (List ℕ)} → w ≡ w′ → n ≡ n′ → W ≡ W′
-    → WalkedAs (exploreBelow (tablesBy n profiles W) w) w keys count rows → WalkedAs (exploreBelow (tablesBy n′ profiles W′) w′) w′ keys count rows
-walked-at {n} {n′} {W} {W′} {w} {w′} profiles {keys} {count} {rows} p q r h =
-    subst (λ (v : ℕ). WalkedAs (exploreBelow (tablesBy n′ profiles W′) v) v keys count rows) p
-    (subst (λ (k : ℕ). WalkedAs (exploreBelow (tablesBy k profiles W′) w) w keys count rows) q
-    (subst (λ (A : ℕ). WalkedAs (exploreBelow (tablesBy n profiles A) w) w keys count rows) r h))
+pub walked-at : {n n′ W W′ w w′ : ℕ} (mask : ℕ) (profiles : List (List ℕ)) {keys : List (List ℕ)} {count : ℕ} {rows : List (List ℕ)} → w ≡ w′ → n ≡ n′ → W ≡ W′
+    → WalkedAs (exploreKeys (tablesBy n profiles W) (masked w mask)) w keys count rows → WalkedAs (exploreKeys (tablesBy n′ profiles W′) (masked w′ mask)) w′ keys count rows
+walked-at {n} {n′} {W} {W′} {w} {w′} mask profiles {keys} {count} {rows} p q r h =
+    subst (λ (v : ℕ). WalkedAs (exploreKeys (tablesBy n′ profiles W′) (masked v mask)) v keys count rows) p
+    (subst (λ (k : ℕ). WalkedAs (exploreKeys (tablesBy k profiles W′) (masked w mask)) w keys count rows) q
+    (subst (λ (A : ℕ). WalkedAs (exploreKeys (tablesBy n profiles A) (masked w mask)) w keys count rows) r h))
 
 -- ---- the classes of the keys
 
@@ -82,19 +82,19 @@ module _ (P : ℕ) (t : Tables) (m : Explored ℕ (List (List ℕ))) (rows : Lis
   pub explored-over : {n : ℕ} → (n ≡ 257) × Beyond m → ExploredAs P t m n rows classes
   explored-over {n} h = subst (λ (x : Explored ℕ (List (List ℕ))). ExploredAs P t x n rows classes) (sym (h .1 .is)) (h .0)
 
-module _ (P : ℕ) {n : ℕ} {t : Tables} {profiles : List (List ℕ)} {whole : List Bool} (h : TablesIn (2 ^ P) n t profiles whole) where
-  pub walk-same : exploreKeys (tablesIn n profiles whole) P ≡ exploreKeys t P
+module _ (P mask : ℕ) {n : ℕ} {t : Tables} {profiles : List (List ℕ)} {whole : List Bool} (h : TablesIn (2 ^ P) n t profiles whole) where
+  pub walk-same : exploreKeys (tablesIn n profiles whole) (masked (2 ^ P) mask) ≡ exploreKeys t (masked (2 ^ P) mask)
   walk-same =
-      explore-same eqb (stepKey (tablesIn n profiles whole)) (stepKey t) (startKey (tablesIn n profiles whole)) (over P) 256 (step-same h)
-      ∙ ap (λ (k : ℕ). explore eqb (stepKey t) k (over P) 256) (start-same h)
+      explore-same eqb (stepKey (tablesIn n profiles whole)) (stepKey t) (startKey (tablesIn n profiles whole)) (masked (2 ^ P) mask) 256 (step-same h)
+      ∙ ap (λ (k : ℕ). explore eqb (stepKey t) k (masked (2 ^ P) mask) 256) (start-same h)
 
   class-same : (k : ℕ) → classOf (tablesIn n profiles whole) k ≡ classOf t k
   class-same k = ap (λ (A : ℕ). cond (emptyKey k) 2 (cond (eqb k A) 1 0)) (whole-is h)
 
   -- the answer holds at the tables themselves
-  pub explored-same : (r : ℕ) (rows : List (List ℕ)) (classes : List ℕ) → Explores P (tablesIn n profiles whole) r rows classes → Explores P t r rows classes
+  pub explored-same : (r : ℕ) (rows : List (List ℕ)) (classes : List ℕ) → Explores P mask (tablesIn n profiles whole) r rows classes → Explores P mask t r rows classes
   explored-same r rows classes a =
-      subst (λ (x : Explored ℕ (List (List ℕ))). ExploredAs P t x r rows classes) walk-same (go (exploreKeys (tablesIn n profiles whole) P) a)
+      subst (λ (x : Explored ℕ (List (List ℕ))). ExploredAs P t x r rows classes) walk-same (go (exploreKeys (tablesIn n profiles whole) (masked (2 ^ P) mask)) a)
     where
       go : (m : Explored ℕ (List (List ℕ))) → ExploredAs P (tablesIn n profiles whole) m r rows classes → ExploredAs P t m r rows classes
       go (within keys states) c = record {

@@ -5,25 +5,25 @@ use mathlib.Core.List.{List, []}
 use Prim.Native.Nat.{ℕ, _^_, _≤_, _<_}
 use lib.ListN.{length, getD}
 use lib.Dec.{eqb}
-use Rattle.meaning.specs.Traces.{over, firstEvents}
+use Rattle.meaning.specs.Traces.{Alphabet, masked}
 use Rattle.ltl.specs.Keys.{Tables, startKey, stepKey, emptyKey, fullKey}
-use Rattle.walk.specs.Explore.{Explored, within, beyond, expand, explore}
+use Rattle.walk.specs.Explore.{Explored, within, beyond, visit, expand, explore}
 use Rattle.key_slots.specs.Arrays.{keysIn, KeysFit}
-use Rattle.key_slots.specs.Answers.{Beyond, Within}
+use Rattle.key_slots.specs.Answers.{Beyond, Within, EnteredAs}
+use Rattle.key_slots.specs.declared.Entered.{Entered}
 use Rattle.exploration.specs.Rows.{rowIn}
 use Rattle.exploration.specs.declared.Grown.{Grown}
 use Rattle.exploration.specs.declared.Grown.the-variants as Grown
 
--- the walk over the keys of the tables, with the events below `width` and at most 256 keys
-abbrev pub expandKey : Tables → ℕ → ℕ → List ℕ → Explored ℕ (List ℕ)
-expandKey t width k keys = expand eqb (stepKey t) (startKey t) (firstEvents width) 256 k keys
+-- the walk over the keys of the tables, with the events that can happen and at most 256 keys
+abbrev pub visitKey : Tables → Alphabet → ℕ → ℕ → List ℕ → Explored ℕ ℕ
+visitKey t Σ k e keys = visit eqb (stepKey t) (startKey t) Σ 256 k e keys
 
-abbrev pub exploreBelow : Tables → ℕ → Explored ℕ (List (List ℕ))
-exploreBelow t width = explore eqb (stepKey t) (startKey t) (firstEvents width) 256
+abbrev pub expandKey : Tables → Alphabet → ℕ → List ℕ → Explored ℕ (List ℕ)
+expandKey t Σ k keys = expand eqb (stepKey t) (startKey t) Σ 256 k keys
 
--- over P signals
-abbrev pub exploreKeys : Tables → ℕ → Explored ℕ (List (List ℕ))
-exploreKeys t P = explore eqb (stepKey t) (startKey t) (over P) 256
+abbrev pub exploreKeys : Tables → Alphabet → Explored ℕ (List (List ℕ))
+exploreKeys t Σ = explore eqb (stepKey t) (startKey t) Σ 256
 
 -- the class of a key: 2 no continuation satisfies the rule, 1 every one does, 0 neither
 abbrev pub classOf : Tables → ℕ → ℕ
@@ -34,6 +34,10 @@ abbrev pub classBy : ℕ → ℕ → ℕ
 classBy full k = cond (eqb k 0) 2 (cond (eqb k full) 1 0)
 
 -- ---- the answers of the functions below `explore`
+
+-- the entry for the event e in the row of the key k, however many events there are
+abbrev pub Visits : Tables → ℕ → ℕ → ℕ → List ℕ → List (List ℕ) → List ℕ → Entered → Type 0
+Visits t mask k e ks keys slots r = (width : ℕ) → EnteredAs (visitKey t (masked width mask) k e ks) keys slots r
 
 abbrev pub GrownAs : Explored ℕ (List ℕ) → ℕ → List (List ℕ) → List ℕ → List ℕ → Grown → Type 0
 GrownAs m width keys slots row (Grown.To count) = Within m count keys slots (rowIn width row)
@@ -67,6 +71,6 @@ abbrev pub ExploredAs : ℕ → Tables → Explored ℕ (List (List ℕ)) → �
 ExploredAs P t (within keys states) n rows classes = ClosedAs P t keys states n rows classes
 ExploredAs P t (beyond keys k) n rows classes = n ≡ 257
 
--- the walk over the keys of the tables, at P signals
-abbrev pub Explores : ℕ → Tables → ℕ → List (List ℕ) → List ℕ → Type 0
-Explores P t n rows classes = ExploredAs P t (exploreKeys t P) n rows classes
+-- the walk over the keys of the tables, at P signals, with the events of the mask
+abbrev pub Explores : ℕ → ℕ → Tables → ℕ → List (List ℕ) → List ℕ → Type 0
+Explores P mask t n rows classes = ExploredAs P t (exploreKeys t (masked (2 ^ P) mask)) n rows classes

@@ -1,13 +1,15 @@
 // The breadth-first walk over the keys of remaining properties. A key is a set of at most 256 profiles, in four words.
 ghost use mathlib.Core.Path.{_≡_};
 ghost use mathlib.Core.List.{List, [], _++_};
-ghost use Prim.Native.Nat.{ℕ, _^_, _≤_};
+ghost use Prim.Native.Nat.{ℕ, _+_, _^_, _≤_, _<_};
 ghost use lib.ListN.{length, getD, drop};
 ghost use Rattle.sequences.specs.Tabulate.{tabulate};
+ghost use Rattle.meaning.specs.Traces.{masked};
 ghost use Rattle.ltl.specs.Keys.{startKey};
-ghost use Rattle.profile_sets.specs.Arrays.{tablesBy, tablesIn, Tabled, Steppable, keyOf, WordsFit};
+ghost use Rattle.profile_sets.specs.Arrays.{setIn, tablesBy, tablesIn, Tabled, Steppable, keyOf, WordsFit};
 ghost use Rattle.key_slots.specs.Arrays.{keysIn, KeysFit, Slotted};
-ghost use Rattle.exploration.specs.Answers.{expandKey, exploreBelow, classBy, GrownAs, WalkedAs, Explores};
+ghost use Rattle.exploration.specs.Answers.{expandKey, exploreKeys, classBy, Visits, GrownAs, WalkedAs, Explores};
+use events::can_happen;
 use events::power;
 use events::width;
 use key_slots::Entered;
@@ -26,28 +28,53 @@ pub enum Grown {
     Full,
 }
 
-// The row of a key, for event 0 upward.
+// The entry for an event in the row of a key, which `held` has: the number of the key after the event, which is added at the end if it is new. An event
+// that cannot happen, by the mask, has 0 and adds none.
+fn visit(
+    profiles: &[[u8; 128]; 16],
+    full: &[u64; 4],
+    n: usize,
+    held: &[bool; 256],
+    mask: u16,
+    e: usize,
+    keys: &mut [[u64; 4]; 256],
+    slots: &mut [u8; 1024],
+    count: usize,
+) -> Entered
+    requires { ⌜ Steppable (e + 1) n (now profiles) (keyOf (now full)) × (e < 16) ⌝ }
+    requires { ⌜ KeysFit count (now keys) × Slotted count (now keys) (now slots) ⌝ }
+    ensures { λ r. ⌜ Visits (tablesBy n (now (profiles .entry)) (keyOf (now (full .entry)))) mask (setIn (now (held .entry))) e (keysIn count (now (keys .entry))) (now (keys .exit)) (now (slots .exit)) r ⌝ }
+{
+    if can_happen(mask, e) {
+        let key = step_key(profiles, full, n, held, e);
+        return enter(keys, slots, count, key);
+    }
+    Entered::At(0, count)
+}
+
+// The row of key number `from`, for event 0 upward.
 fn expand(
     profiles: &[[u8; 128]; 16],
     full: &[u64; 4],
     n: usize,
     events: usize,
+    mask: u16,
     keys: &mut [[u64; 4]; 256],
     slots: &mut [u8; 1024],
     count: usize,
-    source: [u64; 4],
+    from: usize,
     row: &mut [u8; 16],
 ) -> Grown
     requires { ⌜ Steppable events n (now profiles) (keyOf (now full)) ⌝ }
-    requires { ⌜ (events ≤ 16) × KeysFit count (now keys) × Slotted count (now keys) (now slots) × (length (now row) ≡ 16) ⌝ }
-    ensures { λ r. ⌜ GrownAs (expandKey (tablesBy n (now (profiles .entry)) (keyOf (now (full .entry)))) events (keyOf source) (keysIn count (now (keys .entry)))) events (now (keys .exit)) (now (slots .exit)) (now (row .exit)) r ⌝ }
+    requires { ⌜ (events ≤ 16) × KeysFit count (now keys) × Slotted count (now keys) (now slots) × (length (now row) ≡ 16) × (from < count) ⌝ }
+    ensures { λ r. ⌜ GrownAs (expandKey (tablesBy n (now (profiles .entry)) (keyOf (now (full .entry)))) (masked events mask) (keyOf (getD (now (keys .entry)) from [])) (keysIn count (now (keys .entry)))) events (now (keys .exit)) (now (slots .exit)) (now (row .exit)) r ⌝ }
 {
+    let source = keys[from];
     let held = spread(&source, n + n);
     let mut met = count;
     let mut e: usize = 0;
     while e < events {
-        let key = step_key(profiles, full, n, &held, e);
-        let entered = enter(keys, slots, met, key);
+        let entered = visit(profiles, full, n, &held, mask, e, keys, slots, met);
         let Entered::At(i, next) = entered else {
             return Grown::Full;
         };
@@ -72,11 +99,12 @@ fn walk(
     full: &[u64; 4],
     n: usize,
     events: usize,
+    mask: u16,
     keys: &mut [[u64; 4]; 256],
     met: &mut u16,
 ) -> [[u8; 16]; 256]
     requires { ⌜ (events ≤ 16) × Steppable events n (now profiles) (keyOf (now full)) × KeysFit 1 (now keys) × (keyOf (getD (now keys) 0 []) ≡ startKey (tablesBy n (now profiles) (keyOf (now full)))) ⌝ }
-    ensures { λ r. ⌜ WalkedAs (exploreBelow (tablesBy n (now (profiles .entry)) (keyOf (now (full .entry)))) events) events (now (keys .exit)) (now (met .exit)) r ⌝ }
+    ensures { λ r. ⌜ WalkedAs (exploreKeys (tablesBy n (now (profiles .entry)) (keyOf (now (full .entry)))) (masked events mask)) events (now (keys .exit)) (now (met .exit)) r ⌝ }
 {
     let mut rows = no_rows();
     let mut slots = first_slots();
@@ -84,19 +112,18 @@ fn walk(
     let mut i: usize = 0;
     while i < count {
         let mut row = [0u8; 16];
-        let key = keys[i];
-        let grown = expand(
+        let Grown::To(next) = expand(
             profiles,
             full,
             n,
             events,
+            mask,
             keys,
             &mut slots,
             count,
-            key,
+            i,
             &mut row,
-        );
-        let Grown::To(next) = grown else {
+        ) else {
             *met = 257;
             return rows;
         };
@@ -135,10 +162,11 @@ fn classify(keys: &[[u64; 4]; 256], count: usize, full: [u64; 4], classes: &mut 
     }
 }
 
-// The states that the rule's remaining properties make, by the tables of its m temporal nodes: the rows of their successors, by value, how many
-// states there are, and their classes. Or there are more than 256 states: 257.
+// The states that the rule's remaining properties make, by the tables of its m temporal nodes and the mask of the events that can happen: the rows of
+// their successors, by value, how many states there are, and their classes. Or there are more than 256 states: 257.
 pub fn explore(
     signals: u8,
+    mask: u16,
     m: u8,
     profiles: &[[u8; 128]; 16],
     whole: &[bool; 256],
@@ -147,7 +175,7 @@ pub fn explore(
 ) -> [[u8; 16]; 256]
     requires { ⌜ (signals ≤ 4) × (m ≤ 7) × Tabled (2 ^ signals) (2 ^ m) (now profiles) (now whole) ⌝ }
     requires { ⌜ length (now classes) ≡ 256 ⌝ }
-    ensures { λ r. ⌜ Explores signals (tablesIn (2 ^ m) (now (profiles .entry)) (now (whole .entry))) (now (states .exit)) r (now (classes .exit)) ⌝ }
+    ensures { λ r. ⌜ Explores signals mask (tablesIn (2 ^ m) (now (profiles .entry)) (now (whole .entry))) (now (states .exit)) r (now (classes .exit)) ⌝ }
 {
     let events = width(signals);
     let labels = power(m);
@@ -155,7 +183,7 @@ pub fn explore(
     let first = start_profiles(whole, labels);
     keys[0] = pack(&first);
     let full = pack(whole);
-    let rows = walk(profiles, &full, labels, events, &mut keys, states);
+    let rows = walk(profiles, &full, labels, events, mask, &mut keys, states);
     let count = wide16(*states);
     if 256 < count {
         return rows;

@@ -10,13 +10,13 @@ use lib.ListN.{length, getD, set, length-set, replicate, getD-replicate}
 use lib.Seq.{getD-set-same, getD-set-other}
 use lib.Dec.{T, eqb, eqb→eq, eqb-refl}
 use borrow.Author.Tests.{eq-eqb, ne-eqb}
-use Rattle.meaning.specs.Traces.{over}
-use Rattle.ltl.specs.Sets.{on, someBelow, unionBelow}
+use Rattle.meaning.specs.Traces.{Alphabet, masked}
+use Rattle.ltl.specs.Sets.{on, someBelow, unionBelow, someEvent}
 use Rattle.ltl.specs.Residuals.{profileFrom, wholeOf}
 use Rattle.ltl.specs.Keys.{look}
 use Rattle.ltl.proofs.Truth.{t-equal}
 use Rattle.ltl.proofs.Sets.{single-in, in-single}
-use Rattle.ltl.proofs.Searches.{both, both-cases, only, only-cases, some→, →some, in-union, union-in, in-events, events-in}
+use Rattle.ltl.proofs.Searches.{both, both-cases, only, only-cases, some→, →some, in-union, union-in, some-event→, →some-event, in-events, events-in}
 use Rattle.labelling.specs.Marks.{hits, Marked, AllMarked}
 
 -- ---- one event
@@ -72,48 +72,56 @@ marked-to {f = f} {old} {new} h m e = subst (λ (k : ℕ). Marked k f old new) e
 
 -- ---- all events
 
-module _ {n : ℕ} {profiles : List (List ℕ)} {real : List Bool} where
-  pub all-none : AllMarked 0 n profiles real (replicate 256 false)
+module _ (mask : ℕ) {n : ℕ} {profiles : List (List ℕ)} {real : List Bool} where
+  pub all-none : AllMarked (masked 0 mask) n profiles real (replicate 256 false)
   all-none = record { long = refl; is = λ p h. getD-replicate 256 p false false h }
 
-  pub all-more : {e : ℕ} {whole : List Bool} → AllMarked e n profiles real whole → (new : List Bool) → Marked n (hits profiles real e) whole new → AllMarked (e + 1) n profiles real new
-  all-more {e} {whole} h new q = record {
-    long = q .long;
-    is = λ p a.
-        q .is p a ∙ ap (or (someBelow n (hits profiles real e p))) (h .is p a)
-        ∙ ap (λ (j : ℕ). someBelow j (λ e. someBelow n (hits profiles real e p))) (sym (add-one e));
-  }
+  module _ (e : ℕ) {whole : List Bool} (h : AllMarked (masked e mask) n profiles real whole) where
+    -- with what e hits, if e can happen, these are the profiles of the events up to e
+    one-more : (p : ℕ) → p < 256 → (t : Bool) → on mask e ≡ t
+        → or (if t (someBelow n (hits profiles real e p))) (getD whole p false) ≡ someEvent (masked (e + 1) mask) (λ e. someBelow n (hits profiles real e p))
+    one-more p a t k =
+        ap₂ (λ (t b : Bool). or (if t (someBelow n (hits profiles real e p))) b) (sym k) (h .is p a)
+        ∙ ap (λ (j : ℕ). someEvent (masked j mask) (λ e. someBelow n (hits profiles real e p))) (sym (add-one e))
 
-  pub all-to : {w : ℕ} {whole : List Bool} → AllMarked w n profiles real whole → (m : ℕ) → w ≡ m → AllMarked m n profiles real whole
-  all-to {whole = whole} h m e = subst (λ (k : ℕ). AllMarked k n profiles real whole) e h
+    -- the event e can happen, and what it hits is marked
+    pub all-more : on mask e ≡ true → {new whole′ : List Bool} → Marked n (hits profiles real e) whole new → whole′ ≡ new → AllMarked (masked (e + 1) mask) n profiles real whole′
+    all-more k q r = subst (λ (whole : List Bool). AllMarked (masked (e + 1) mask) n profiles real whole) (sym r) (record { long = q .long; is = λ p a. q .is p a ∙ one-more p a true k })
+
+    -- it cannot, and hits nothing
+    pub all-skip : on mask e ≡ false → {whole′ : List Bool} → whole′ ≡ whole → AllMarked (masked (e + 1) mask) n profiles real whole′
+    all-skip k r = subst (λ (whole : List Bool). AllMarked (masked (e + 1) mask) n profiles real whole) (sym r) (record { long = h .long; is = λ p a. one-more p a false k })
+
+  pub all-to : (w : ℕ) {whole : List Bool} → AllMarked (masked w mask) n profiles real whole → (j : ℕ) → w ≡ j → AllMarked (masked j mask) n profiles real whole
+  all-to w {whole} h j e = subst (λ (k : ℕ). AllMarked (masked k mask) n profiles real whole) e h
 
 -- ---- the set of profiles
 
-module _ (P n : ℕ) (profile : ℕ → ℕ → ℕ) (R p : ℕ) where
+module _ (Σ : Alphabet) (n : ℕ) (profile : ℕ → ℕ → ℕ) (R p : ℕ) where
   -- the label y, one of R, gives the profile p
   abbrev pub gives : ℕ → ℕ → Bool
   gives e y = elim (on R y) [ true ↦ eqb (profile e y) p | false ↦ false ]
 
-  pub marks-on : someBelow (2 ^ P) (λ e. someBelow n (gives e)) ≡ on (wholeOf (over P) n profile R) p
-  marks-on = t-equal (someBelow (2 ^ P) (λ e. someBelow n (gives e))) (on (wholeOf (over P) n profile R) p) into out
+  pub marks-on : someEvent Σ (λ e. someBelow n (gives e)) ≡ on (wholeOf Σ n profile R) p
+  marks-on = t-equal (someEvent Σ (λ e. someBelow n (gives e))) (on (wholeOf Σ n profile R) p) into out
     where
-      into : T (someBelow (2 ^ P) (λ e. someBelow n (gives e))) → T (on (wholeOf (over P) n profile R) p)
+      into : T (someEvent Σ (λ e. someBelow n (gives e))) → T (on (wholeOf Σ n profile R) p)
       into t =
-          let s = some→ (2 ^ P) (λ e. someBelow n (gives e)) t in
-          let e = s .index in
+          let s = some-event→ Σ (λ e. someBelow n (gives e)) t in
+          let e = s .event in
           let v = some→ n (gives e) (s .test) in
           let y = v .index in
           let q = both-cases (on R y) (eqb (profile e y) p) (v .test) in
-          events-in (over P) (λ e. unionBelow n (profileFrom profile R e)) p e (s .below, tt)
+          events-in Σ (λ e. unionBelow n (profileFrom profile R e)) p e (s .possible)
           (union-in n (profileFrom profile R e) p y (v .below)
           (only (on R y) (2 ^ profile e y) p (q .0) (subst (λ (i : ℕ). T (on (2 ^ profile e y) i)) (eqb→eq (profile e y) p (q .1)) (single-in (profile e y)))))
 
-      out : T (on (wholeOf (over P) n profile R) p) → T (someBelow (2 ^ P) (λ e. someBelow n (gives e)))
+      out : T (on (wholeOf Σ n profile R) p) → T (someEvent Σ (λ e. someBelow n (gives e)))
       out t =
-          let s = in-events (over P) (λ e. unionBelow n (profileFrom profile R e)) p t in
+          let s = in-events Σ (λ e. unionBelow n (profileFrom profile R e)) p t in
           let e = s .event in
           let v = in-union n (profileFrom profile R e) p (s .test) in
           let y = v .index in
           let q = only-cases (on R y) (2 ^ profile e y) p (v .test) in
-          →some (2 ^ P) (λ e. someBelow n (gives e)) e (s .possible .0)
+          →some-event Σ (λ e. someBelow n (gives e)) e (s .possible)
           (→some n (gives e) y (v .below) (both (on R y) (eqb (profile e y) p) (q .0) (subst (λ (i : ℕ). T (eqb (profile e y) i)) (sym (in-single (profile e y) p (q .1))) (eqb-refl (profile e y)))))

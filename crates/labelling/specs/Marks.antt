@@ -5,7 +5,8 @@ use mathlib.Core.Bool.{Bool, true, false}
 use Prim.Native.Nat.{ℕ, _<_}
 use lib.ListN.{length, getD}
 use lib.Dec.{eqb}
-use Rattle.ltl.specs.Sets.{someBelow}
+use Rattle.meaning.specs.Traces.{Alphabet}
+use Rattle.ltl.specs.Sets.{someBelow, someEvent}
 use Rattle.ltl.specs.Keys.{look}
 
 -- by the event e the label y, if some continuation has it, gives the profile p
@@ -17,7 +18,7 @@ pub record Marked (n : ℕ) (f : ℕ → ℕ → Bool) (old new : List Bool) : T
   pub long : length new ≡ 256
   pub is : (p : ℕ) → p < 256 → getD new p false ≡ elim (someBelow n (f p)) [ true ↦ true | false ↦ getD old p false ]
 
--- the profiles that some of w events and n labels hit
-pub record AllMarked (w n : ℕ) (profiles : List (List ℕ)) (real whole : List Bool) : Type 0 where
+-- the profiles that some event that can happen and some of n labels hit
+pub record AllMarked (Σ : Alphabet) (n : ℕ) (profiles : List (List ℕ)) (real whole : List Bool) : Type 0 where
   pub long : length whole ≡ 256
-  pub is : (p : ℕ) → p < 256 → getD whole p false ≡ someBelow w (λ e. someBelow n (hits profiles real e p))
+  pub is : (p : ℕ) → p < 256 → getD whole p false ≡ someEvent Σ (λ e. someBelow n (hits profiles real e p))

@@ -3,12 +3,13 @@ ghost use mathlib.Core.Path.{_≡_};
 ghost use mathlib.Core.List.{List};
 ghost use Prim.Native.Nat.{ℕ, _^_, _≤_, _<_};
 ghost use lib.ListN.{length, take};
-ghost use Rattle.meaning.specs.Traces.{over};
+ghost use Rattle.meaning.specs.Traces.{masked};
 ghost use Rattle.ltl.specs.Nodes.{splits, temporals};
 ghost use Rattle.ltl.specs.Keys.{tablesOf};
 ghost use Rattle.valuation.specs.Valued.{Valuable};
 ghost use Rattle.labelling.specs.Marks.{hits, Marked, AllMarked};
 ghost use Rattle.ltl.specs.Arrays.{TablesIn};
+use events::can_happen;
 use events::power;
 use events::width;
 use meaning::Node;
@@ -38,22 +39,25 @@ fn mark_event(
     }
 }
 
-// Marks the profiles of all continuations, and no other.
+// Marks the profiles of all continuations, and no other. The mask has the events that can happen.
 fn mark_all(
     whole: &mut [bool; 256],
     profiles: &[[u8; 128]; 16],
     real: &[bool; 128],
     events: usize,
+    mask: u16,
     labels: usize,
 )
     requires { ⌜ (labels ≤ 128) × (events ≤ 16) ⌝ }
     requires { ⌜ (length {A = List ℕ} (now profiles) ≡ 16) × (length (now real) ≡ 128) × (length (now whole) ≡ 256) ⌝ }
-    ensures { λ _. ⌜ AllMarked events labels (now (profiles .entry)) (now (real .entry)) (now (whole .exit)) ⌝ }
+    ensures { λ _. ⌜ AllMarked (masked events mask) labels (now (profiles .entry)) (now (real .entry)) (now (whole .exit)) ⌝ }
 {
     *whole = [false; 256];
     let mut e: usize = 0;
     while e < events {
-        mark_event(whole, profiles, real, labels, e);
+        if can_happen(mask, e) {
+            mark_event(whole, profiles, real, labels, e);
+        }
         e += 1;
     }
 }
@@ -62,6 +66,7 @@ fn mark_all(
 // Returns the number m of temporal nodes; there are 2^m labels.
 pub fn tables(
     signals: u8,
+    mask: u16,
     count: u8,
     nodes: [Node; 64],
     profiles: &mut [[u8; 128]; 16],
@@ -71,7 +76,7 @@ pub fn tables(
     requires { ⌜ Valuable count nodes ⌝ }
     requires { ⌜ (length {A = List ℕ} (now profiles) ≡ 16) × (length (now whole) ≡ 256) ⌝ }
     ensures { λ m. ⌜ m ≡ temporals (splits (take count nodes)) ⌝ }
-    ensures { λ m. ⌜ TablesIn (2 ^ signals) (2 ^ m) (tablesOf (over signals) (splits (take count nodes))) (now (profiles .exit)) (now (whole .exit)) ⌝ }
+    ensures { λ m. ⌜ TablesIn (2 ^ signals) (2 ^ m) (tablesOf (masked (2 ^ signals) mask) (splits (take count nodes))) (now (profiles .exit)) (now (whole .exit)) ⌝ }
 {
     let k = wide(count);
     let m = temporal_count(k, nodes);
@@ -79,7 +84,7 @@ pub fn tables(
     let labels = power(m);
     let mut fairs = [[0u8; 128]; 16];
     value_tables(events, labels, k, nodes, profiles, &mut fairs);
-    let real = realizable_labels(profiles, &fairs, m, events, labels);
-    mark_all(whole, profiles, &real, events, labels);
+    let real = realizable_labels(profiles, &fairs, m, events, mask, labels);
+    mark_all(whole, profiles, &real, events, mask, labels);
     m
 }

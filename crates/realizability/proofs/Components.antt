@@ -12,7 +12,8 @@ use lib.Dec.{T, eqb, eqb→eq}
 use borrow.Author.Tests.{eq-eqb}
 use Rattle.sequences.proofs.Pointwise.{is-true}
 use Rattle.sequences.proofs.Pigeonhole.{Least, least-below}
-use Rattle.ltl.specs.Sets.{unionBelow}
+use Rattle.meaning.specs.Traces.{Alphabet}
+use Rattle.ltl.specs.Sets.{unionBelow, unionEvents}
 use Rattle.ltl.specs.Realizable.{allOf}
 use Rattle.ltl.specs.Keys.{look}
 use Rattle.ltl.proofs.Truth.{t-equal}
@@ -20,7 +21,7 @@ use Rattle.ltl.proofs.Searches.{both, both-cases}
 use Rattle.valuation.specs.Entries.{Entries}
 use Rattle.relations.specs.Relations.{labelAt, onlyIf, Reaches}
 use Rattle.realizability.specs.Core.{leadsBy, viaBy, coreBy, bothWays, componentBy, Within, withinComponent, AllGathered, coreIn}
-use Rattle.relations.proofs.Searches.{union-same}
+use Rattle.relations.proofs.Searches.{union-same, union-events-same}
 use Rattle.realizability.proofs.Core.{leads-there, leads-else}
 
 both-true : (a b : Bool) → (a && b) ≡ true → (a ≡ true) × (b ≡ true)
@@ -153,17 +154,17 @@ module _ (n : ℕ) (r : ℕ → ℕ → Bool) (via : (x v y : ℕ) → x < n →
 
 -- ---- the core
 
-module _ (m w n : ℕ) (profiles fairs : List (List ℕ)) (r : ℕ → ℕ → Bool) (some : 1 ≤ n) (reach : Reaches w n profiles r) where
+module _ (m : ℕ) (Σ : Alphabet) (n : ℕ) (profiles fairs : List (List ℕ)) (r : ℕ → ℕ → Bool) (some : 1 ≤ n) (reach : Reaches Σ n profiles r) where
   pub within-components : (components : List ℕ) → Entries n (componentBy r) 0 components → Within n components
   within-components components h = components-within n r (reach .via) components h
 
-  pub core-components : (components sets : List ℕ) (core : List Bool) → Entries n (componentBy r) 0 components → AllGathered w n (withinComponent components (labelAt n profiles) (look fairs)) sets
-      → Entries n (coreIn m r components sets) false core → Entries n (coreBy m w n r (labelAt n profiles) (look fairs)) false core
+  pub core-components : (components sets : List ℕ) (core : List Bool) → Entries n (componentBy r) 0 components → AllGathered Σ n (withinComponent components (labelAt n profiles) (look fairs)) sets
+      → Entries n (coreIn m r components sets) false core → Entries n (coreBy m Σ n r (labelAt n profiles) (look fairs)) false core
   core-components components sets core h g k = record { entry = λ c l. k .entry c l ∙ ap (λ (A : ℕ). elim (r c c) [ true ↦ allOf m A | false ↦ false ]) (around c l) }
     where
-      around : (c : ℕ) → c < n → getD sets (getD components c 0) 0 ≡ unionBelow w (λ e. unionBelow n (viaBy r (labelAt n profiles) (look fairs) c e))
+      around : (c : ℕ) → c < n → getD sets (getD components c 0) 0 ≡ unionEvents Σ (λ e. unionBelow n (viaBy r (labelAt n profiles) (look fairs) c e))
       around c l =
           g .is (getD components c 0) (within-components components h .is c l)
-          ∙ union-same w (λ e. unionBelow n (withinComponent components (labelAt n profiles) (look fairs) e (getD components c 0))) (λ e. unionBelow n (viaBy r (labelAt n profiles) (look fairs) c e))
+          ∙ union-events-same Σ (λ e. unionBelow n (withinComponent components (labelAt n profiles) (look fairs) e (getD components c 0))) (λ e. unionBelow n (viaBy r (labelAt n profiles) (look fairs) c e))
           (λ e u. union-same n (withinComponent components (labelAt n profiles) (look fairs) e (getD components c 0)) (viaBy r (labelAt n profiles) (look fairs) c e)
           (λ y v. via-within n r (reach .via) components h (labelAt n profiles) (look fairs) c e y l (mod-lt (look profiles e y) some) v (reach .edges e y u v)))

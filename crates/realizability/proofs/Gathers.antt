@@ -1,5 +1,5 @@
 -- Loops that gather sets by the component of a label.
-use mathlib.Core.Path.{_≡_, refl, sym, ap, _∙_, subst}
+use mathlib.Core.Path.{_≡_, refl, sym, ap, ap₂, _∙_, subst}
 use mathlib.Core.Bool.{Bool, true, false, _||_}
 use mathlib.Core.List.{List}
 use Prim.Native.Nat.{ℕ, _+_, _≤_, _<_}
@@ -11,7 +11,8 @@ use lib.Seq.{getD-set-same, getD-set-other}
 use lib.Bits.{bitOr, or-zero-l}
 use lib.Dec.{eqb}
 use borrow.Author.Tests.{eq-eqb, ne-eqb}
-use Rattle.ltl.specs.Sets.{on, unionBelow}
+use Rattle.meaning.specs.Traces.{masked}
+use Rattle.ltl.specs.Sets.{on, unionBelow, unionEvents}
 use Rattle.ltl.proofs.Sets.{on-or, same-members}
 use Rattle.relations.specs.Relations.{onlyIf}
 use Rattle.realizability.specs.Core.{withinComponent, Gathered, AllGathered}
@@ -73,15 +74,27 @@ gathered-to {n = n} {f} {old} {m} h j e = subst (λ (k : ℕ). Gathered k n f ol
 
 -- ---- all events
 
-module _ {n : ℕ} {f : ℕ → ℕ → ℕ → ℕ} where
-  pub all-none : n ≤ 128 → AllGathered 0 n f (replicate 128 0)
+module _ (mask : ℕ) {n : ℕ} {f : ℕ → ℕ → ℕ → ℕ} where
+  pub all-none : n ≤ 128 → AllGathered (masked 0 mask) n f (replicate 128 0)
   all-none few = record { long = refl; is = λ p h. getD-replicate 128 p 0 0 (omega arith) }
 
-  pub all-more : {e : ℕ} {sets : List ℕ} → AllGathered e n f sets → (new : List ℕ) → Gathered n n (f e) sets new → AllGathered (e + 1) n f new
-  all-more {e} {sets} h new q = record {
-    long = q .long;
-    is = λ p a. q .is p a ∙ ap (bitOr (unionBelow n (f e p))) (h .is p a) ∙ ap (λ (j : ℕ). unionBelow j (λ e. unionBelow n (f e p))) (sym (add-one e));
-  }
+  module _ (e : ℕ) {sets : List ℕ} (h : AllGathered (masked e mask) n f sets) where
+    -- with what e gives, if e can happen, these are the sets of the events up to e
+    one-more : (p : ℕ) → p < n → (t : Bool) → on mask e ≡ t
+        → bitOr (onlyIf t (unionBelow n (f e p))) (getD sets p 0) ≡ unionEvents (masked (e + 1) mask) (λ e. unionBelow n (f e p))
+    one-more p a t k =
+        ap₂ (λ (t : Bool) (A : ℕ). bitOr (onlyIf t (unionBelow n (f e p))) A) (sym k) (h .is p a)
+        ∙ ap (λ (j : ℕ). unionEvents (masked j mask) (λ e. unionBelow n (f e p))) (sym (add-one e))
 
-  pub all-to : {w : ℕ} {sets : List ℕ} → AllGathered w n f sets → (j : ℕ) → w ≡ j → AllGathered j n f sets
-  all-to {sets = sets} h j e = subst (λ (k : ℕ). AllGathered k n f sets) e h
+    -- the event e can happen, and what it gives is added
+    pub all-more : on mask e ≡ true → {new sets′ : List ℕ} → Gathered n n (f e) sets new → sets′ ≡ new → AllGathered (masked (e + 1) mask) n f sets′
+    all-more k q r = subst (λ (sets : List ℕ). AllGathered (masked (e + 1) mask) n f sets) (sym r) (record { long = q .long; is = λ p a. q .is p a ∙ one-more p a true k })
+
+    -- it cannot, and gives nothing
+    pub all-skip : on mask e ≡ false → {sets′ : List ℕ} → sets′ ≡ sets → AllGathered (masked (e + 1) mask) n f sets′
+    all-skip k r =
+        subst (λ (sets : List ℕ). AllGathered (masked (e + 1) mask) n f sets) (sym r)
+        (record { long = h .long; is = λ p a. sym (or-zero-l (getD sets p 0)) ∙ one-more p a false k })
+
+  pub all-to : (w : ℕ) {sets : List ℕ} → AllGathered (masked w mask) n f sets → (j : ℕ) → w ≡ j → AllGathered (masked j mask) n f sets
+  all-to w {sets} h j e = subst (λ (k : ℕ). AllGathered (masked k mask) n f sets) e h

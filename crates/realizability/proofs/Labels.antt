@@ -6,7 +6,7 @@ use Prim.Native.Nat.{ℕ, _≤_, _<_}
 use native.Mathlib.Nat.{le-refl, mod-lt}
 use lib.ListN.{getD}
 use lib.Dec.{eqb}
-use Rattle.meaning.specs.Traces.{firstEvents}
+use Rattle.meaning.specs.Traces.{Alphabet}
 use Rattle.sequences.proofs.Loops.{getD-tab}
 use Rattle.ltl.specs.Sets.{on, someBelow, unionBelow, someEvent}
 use Rattle.ltl.specs.Closure.{closure}
@@ -17,7 +17,7 @@ use Rattle.ltl.proofs.Sets.{on-set}
 use Rattle.valuation.specs.Entries.{Entries}
 use Rattle.relations.specs.Relations.{entry, Matrix, labelAt, edge, closed}
 use Rattle.realizability.specs.Core.{leadsBy, viaBy, coreBy, toCoreBy, realizableBy}
-use Rattle.relations.proofs.Searches.{some-same, union-same}
+use Rattle.relations.proofs.Searches.{some-same, union-same, union-events-same}
 use Rattle.relations.proofs.Closures.{Agree, related, closed-related}
 
 -- ---- relations that agree on the labels there are
@@ -31,10 +31,10 @@ module _ {n : ℕ} {r s : ℕ → ℕ → Bool} (h : Agree n r s) where
     via-agree c e y a b =
         ap₂ (λ (t u : Bool). elim t [ true ↦ elim u [ true ↦ fair e y | false ↦ 0 ] | false ↦ 0 ]) (leads-agree c (before e y) a (within e y)) (leads-agree y c b a)
 
-    core-agree : (m w c : ℕ) → c < n → coreBy m w n r before fair c ≡ coreBy m w n s before fair c
-    core-agree m w c a =
+    core-agree : (Σ : Alphabet) (m c : ℕ) → c < n → coreBy m Σ n r before fair c ≡ coreBy m Σ n s before fair c
+    core-agree Σ m c a =
         ap₂ (λ (t : Bool) (A : ℕ). elim t [ true ↦ allOf m A | false ↦ false ]) (h .is c c a a)
-        (union-same w (λ e. unionBelow n (viaBy r before fair c e)) (λ e. unionBelow n (viaBy s before fair c e))
+        (union-events-same Σ (λ e. unionBelow n (viaBy r before fair c e)) (λ e. unionBelow n (viaBy s before fair c e))
         (λ e l. union-same n (viaBy r before fair c e) (viaBy s before fair c e) (λ y b. via-agree c e y a b)))
 
   to-core-agree : (f g : ℕ → Bool) → ((c : ℕ) → c < n → f c ≡ g c) → (x c : ℕ) → x < n → c < n → toCoreBy r f x c ≡ toCoreBy s g x c
@@ -45,20 +45,20 @@ module _ {n : ℕ} {r s : ℕ → ℕ → Bool} (h : Agree n r s) where
 
 -- ---- the edges
 
-module _ (w n : ℕ) (profiles : List (List ℕ)) where
+module _ (Σ : Alphabet) (n : ℕ) (profiles : List (List ℕ)) where
   abbrev edges : List ℕ
-  edges = edgeRows (firstEvents w) n (labelAt n profiles)
+  edges = edgeRows Σ n (labelAt n profiles)
 
-  edges-related : Agree n (edge w n profiles) (related edges)
+  edges-related : Agree n (edge Σ n profiles) (related edges)
   edges-related = record {
     is = λ x y a b.
-        sym (ap (λ (r : ℕ). on r y) (getD-tab n (edgeRow (firstEvents w) n (labelAt n profiles)) x 0 a)
-        ∙ on-set n (λ y. someEvent (firstEvents w) (λ e. eqb (labelAt n profiles e y) x)) y b);
+        sym (ap (λ (r : ℕ). on r y) (getD-tab n (edgeRow Σ n (labelAt n profiles)) x 0 a)
+        ∙ on-set n (λ y. someEvent Σ (λ e. eqb (labelAt n profiles e y) x)) y b);
   }
 
   module _ (m : ℕ) (fairs : List (List ℕ)) (rows₀ rows : List ℕ) (core out : List Bool) where
-    pub found : 1 ≤ n → Matrix n (edge w n profiles) rows₀ → Matrix n (closed n (entry rows₀)) rows → Entries n (coreBy m w n (entry rows) (labelAt n profiles) (look fairs)) false core
-        → Entries n (realizableBy n (entry rows) (λ i. getD core i false)) false out → Entries n (on (realizable (firstEvents w) n (before n (look profiles)) (look fairs) m)) false out
+    pub found : 1 ≤ n → Matrix n (edge Σ n profiles) rows₀ → Matrix n (closed n (entry rows₀)) rows → Entries n (coreBy m Σ n (entry rows) (labelAt n profiles) (look fairs)) false core
+        → Entries n (realizableBy n (entry rows) (λ i. getD core i false)) false out → Entries n (on (realizable Σ n (before n (look profiles)) (look fairs) m)) false out
     unfolding realizable
     found some h₀ h k l = record { entry = λ x a. l .entry x a ∙ realizable-agree agree (λ i. getD core i false) (on full) same x a ∙ sym (on-set n (λ x. someBelow n (leadsToCore reach full x)) x a) }
       where
@@ -66,7 +66,7 @@ module _ (w n : ℕ) (profiles : List (List ℕ)) where
         reach = closure n edges
 
         full : ℕ
-        full = coreOf (firstEvents w) n (labelAt n profiles) (look fairs) m reach
+        full = coreOf Σ n (labelAt n profiles) (look fairs) m reach
 
         first : Agree n (entry rows₀) (related edges)
         first = record { is = λ x y a b. h₀ .is x y a b ∙ edges-related .is x y a b }
@@ -76,5 +76,5 @@ module _ (w n : ℕ) (profiles : List (List ℕ)) where
 
         same : (c : ℕ) → c < n → getD core c false ≡ on full c
         same c a =
-            k .entry c a ∙ core-agree agree (labelAt n profiles) (look fairs) (λ e y. mod-lt (look profiles e y) some) m w c a
-            ∙ sym (on-set n (isCore (firstEvents w) n (labelAt n profiles) (look fairs) m reach) c a)
+            k .entry c a ∙ core-agree agree (labelAt n profiles) (look fairs) (λ e y. mod-lt (look profiles e y) some) Σ m c a
+            ∙ sym (on-set n (isCore Σ n (labelAt n profiles) (look fairs) m reach) c a)

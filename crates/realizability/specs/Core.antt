@@ -7,7 +7,8 @@ use lib.ListN.{length, getD}
 use lib.Bits.{bitOr}
 use lib.Dec.{eqb}
 use Rattle.sequences.specs.Tabulate.{leastBelow}
-use Rattle.ltl.specs.Sets.{someBelow, unionBelow}
+use Rattle.meaning.specs.Traces.{Alphabet}
+use Rattle.ltl.specs.Sets.{someBelow, unionBelow, unionEvents}
 use Rattle.ltl.specs.Realizable.{allOf}
 
 -- ---- the core, and what leads to it
@@ -19,11 +20,11 @@ leadsBy r x y = elim (eqb x y) [ true ↦ true | false ↦ r x y ]
 abbrev pub viaBy : (ℕ → ℕ → Bool) → (ℕ → ℕ → ℕ) → (ℕ → ℕ → ℕ) → ℕ → ℕ → ℕ → ℕ
 viaBy r before fair c e y = elim (leadsBy r c (before e y)) [ true ↦ elim (leadsBy r y c) [ true ↦ fair e y | false ↦ 0 ] | false ↦ 0 ]
 
-abbrev pub aroundBy : ℕ → ℕ → (ℕ → ℕ → Bool) → (ℕ → ℕ → ℕ) → (ℕ → ℕ → ℕ) → ℕ → ℕ
-aroundBy w n r before fair c = unionBelow w (λ e. unionBelow n (viaBy r before fair c e))
+abbrev pub aroundBy : Alphabet → ℕ → (ℕ → ℕ → Bool) → (ℕ → ℕ → ℕ) → (ℕ → ℕ → ℕ) → ℕ → ℕ
+aroundBy Σ n r before fair c = unionEvents Σ (λ e. unionBelow n (viaBy r before fair c e))
 
-abbrev pub coreBy : ℕ → ℕ → ℕ → (ℕ → ℕ → Bool) → (ℕ → ℕ → ℕ) → (ℕ → ℕ → ℕ) → ℕ → Bool
-coreBy m w n r before fair c = elim (r c c) [ true ↦ allOf m (aroundBy w n r before fair c) | false ↦ false ]
+abbrev pub coreBy : ℕ → Alphabet → ℕ → (ℕ → ℕ → Bool) → (ℕ → ℕ → ℕ) → (ℕ → ℕ → ℕ) → ℕ → Bool
+coreBy m Σ n r before fair c = elim (r c c) [ true ↦ allOf m (aroundBy Σ n r before fair c) | false ↦ false ]
 
 -- ---- components: labels that all lead to each other
 
@@ -47,10 +48,10 @@ pub record Gathered (w n : ℕ) (f : ℕ → ℕ → ℕ) (old new : List ℕ) :
   pub long : length new ≡ 128
   pub is : (p : ℕ) → p < n → getD new p 0 ≡ bitOr (unionBelow w (f p)) (getD old p 0)
 
--- the sets that w events and n labels give to each p below n
-pub record AllGathered (w n : ℕ) (f : ℕ → ℕ → ℕ → ℕ) (sets : List ℕ) : Type 0 where
+-- the sets that the events that can happen and n labels give to each p below n
+pub record AllGathered (Σ : Alphabet) (n : ℕ) (f : ℕ → ℕ → ℕ → ℕ) (sets : List ℕ) : Type 0 where
   pub long : length sets ≡ 128
-  pub is : (p : ℕ) → p < n → getD sets p 0 ≡ unionBelow w (λ e. unionBelow n (f e p))
+  pub is : (p : ℕ) → p < n → getD sets p 0 ≡ unionEvents Σ (λ e. unionBelow n (f e p))
 
 -- c is on a closed walk, and all temporal nodes are in the set of its component
 abbrev pub coreIn : ℕ → (ℕ → ℕ → Bool) → List ℕ → List ℕ → ℕ → Bool

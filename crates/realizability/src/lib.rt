@@ -3,7 +3,7 @@ ghost use mathlib.Core.Path.{_≡_};
 ghost use mathlib.Core.Bool.{false};
 ghost use Prim.Native.Nat.{_+_, _≤_, _<_};
 ghost use lib.ListN.{length, getD};
-ghost use Rattle.meaning.specs.Traces.{firstEvents};
+ghost use Rattle.meaning.specs.Traces.{masked};
 ghost use Rattle.ltl.specs.Sets.{on};
 ghost use Rattle.ltl.specs.Realizable.{allOf, realizable};
 ghost use Rattle.ltl.specs.Residuals.{before};
@@ -11,6 +11,7 @@ ghost use Rattle.ltl.specs.Keys.{look};
 ghost use Rattle.valuation.specs.Entries.{Entries};
 ghost use Rattle.relations.specs.Relations.{entry, onlyIf, labelAt, Reaches};
 ghost use Rattle.realizability.specs.Core.{leadsBy, bothWays, componentBy, Within, withinComponent, Gathered, AllGathered, coreIn, coreBy, toCoreBy, realizableBy, Sizes};
+use events::can_happen;
 use node_words::holds;
 use relations::close;
 use relations::edge_rows;
@@ -107,22 +108,26 @@ fn gather_event(
     }
 }
 
+// The same for each event that can happen, by the mask.
 fn gather(
     components: &[usize; 128],
     profiles: &[[u8; 128]; 16],
     fairs: &[[u8; 128]; 16],
     events: usize,
+    mask: u16,
     labels: usize,
     sets: &mut [u8; 128],
 )
     requires { ⌜ Sizes events labels (now profiles) (now fairs) ⌝ }
     requires { ⌜ (length (now components) ≡ 128) × Within labels (now components) ⌝ }
-    ensures { λ _. ⌜ AllGathered events labels (withinComponent (now (components .entry)) (labelAt labels (now (profiles .entry))) (look (now (fairs .entry)))) (now (sets .exit)) ⌝ }
+    ensures { λ _. ⌜ AllGathered (masked events mask) labels (withinComponent (now (components .entry)) (labelAt labels (now (profiles .entry))) (look (now (fairs .entry)))) (now (sets .exit)) ⌝ }
 {
     *sets = [0; 128];
     let mut e: usize = 0;
     while e < events {
-        gather_event(components, profiles, fairs, labels, e, sets);
+        if can_happen(mask, e) {
+            gather_event(components, profiles, fairs, labels, e, sets);
+        }
         e += 1;
     }
 }
@@ -180,15 +185,24 @@ fn core_row(
     fairs: &[[u8; 128]; 16],
     m: u8,
     events: usize,
+    mask: u16,
     labels: usize,
 ) -> [bool; 128]
     requires { ⌜ Sizes events labels (now profiles) (now fairs) ⌝ }
-    requires { ⌜ (length (now rows) ≡ 256) × Reaches events labels (now profiles) (entry (now rows)) ⌝ }
-    ensures { λ r. ⌜ Entries labels (coreBy m events labels (entry (now (rows .entry))) (labelAt labels (now (profiles .entry))) (look (now (fairs .entry)))) false r ⌝ }
+    requires { ⌜ (length (now rows) ≡ 256) × Reaches (masked events mask) labels (now profiles) (entry (now rows)) ⌝ }
+    ensures { λ r. ⌜ Entries labels (coreBy m (masked events mask) labels (entry (now (rows .entry))) (labelAt labels (now (profiles .entry))) (look (now (fairs .entry)))) false r ⌝ }
 {
     let components = component_row(rows, labels);
     let mut sets = [0u8; 128];
-    gather(&components, profiles, fairs, events, labels, &mut sets);
+    gather(
+        &components,
+        profiles,
+        fairs,
+        events,
+        mask,
+        labels,
+        &mut sets,
+    );
     core_in(rows, &components, &sets, m, labels)
 }
 
@@ -245,20 +259,21 @@ fn leading_row(rows: &[u64; 256], core: &[bool; 128], labels: usize) -> [bool; 1
     leading
 }
 
-// The labels that some continuation has, of m temporal nodes: those from which edges lead to the core.
+// The labels that some continuation has, of m temporal nodes: those from which edges lead to the core. The mask has the events that can happen.
 pub fn realizable_labels(
     profiles: &[[u8; 128]; 16],
     fairs: &[[u8; 128]; 16],
     m: u8,
     events: usize,
+    mask: u16,
     labels: usize,
 ) -> [bool; 128]
     requires { ⌜ Sizes events labels (now profiles) (now fairs) ⌝ }
-    ensures { λ r. ⌜ Entries labels (on (realizable (firstEvents events) labels (before labels (look (now (profiles .entry)))) (look (now (fairs .entry))) m)) false r ⌝ }
+    ensures { λ r. ⌜ Entries labels (on (realizable (masked events mask) labels (before labels (look (now (profiles .entry)))) (look (now (fairs .entry))) m)) false r ⌝ }
 {
     let mut rows = [0u64; 256];
-    edge_rows(events, labels, profiles, &mut rows);
+    edge_rows(events, mask, labels, profiles, &mut rows);
     close(labels, &mut rows);
-    let core = core_row(&rows, profiles, fairs, m, events, labels);
+    let core = core_row(&rows, profiles, fairs, m, events, mask, labels);
     leading_row(&rows, &core, labels)
 }

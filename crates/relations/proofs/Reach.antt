@@ -10,9 +10,10 @@ use native.Mathlib.Omega.{arith}
 use lib.Dec.{T, eqb}
 use borrow.Author.Tests.{eq-eqb}
 use Rattle.sequences.proofs.Pointwise.{is-true}
+use Rattle.meaning.specs.Traces.{Alphabet, Event}
 use Rattle.ltl.specs.Keys.{look}
+use Rattle.ltl.proofs.Searches.{→some-event}
 use Rattle.relations.specs.Relations.{entry, Matrix, labelAt, edge, closed, Reaches}
-use Rattle.relations.proofs.Searches.{some-found}
 
 abbrev joins : Bool → Bool → Bool → Bool
 joins a b c = elim a [ true ↦ b || c | false ↦ c ]
@@ -66,8 +67,8 @@ module _ (r : ℕ → ℕ → Bool) where
       go t v l (yes e) a b = inr (same (subst (λ (z : ℕ). Way k x z) e a) (subst (λ (z : ℕ). Way k z y) e b))
       go t v l (no e) a b = less t v (omega arith) a b
 
-module _ (w n : ℕ) (profiles : List (List ℕ)) (rows₀ rows : List ℕ) (some : 1 ≤ n) (h₀ : Matrix n (edge w n profiles) rows₀) (h : Matrix n (closed n (entry rows₀)) rows) where
-  pub reaches : Reaches w n profiles (entry rows)
+module _ (Σ : Alphabet) (n : ℕ) (profiles : List (List ℕ)) (rows₀ rows : List ℕ) (some : 1 ≤ n) (h₀ : Matrix n (edge Σ n profiles) rows₀) (h : Matrix n (closed n (entry rows₀)) rows) where
+  pub reaches : Reaches Σ n profiles (entry rows)
   reaches = record { via = via; edges = edges }
     where
       truth : {b : Bool} → b ≡ true → T b
@@ -78,10 +79,10 @@ module _ (w n : ℕ) (profiles : List (List ℕ)) (rows₀ rows : List ℕ) (som
           h .is x y a c
           ∙ is-true (closed n (entry rows₀) x y) (chain (entry rows₀) n x v y b (truth (sym (h .is x v a b) ∙ p)) (truth (sym (h .is v y b c) ∙ q)))
 
-      edges : (e y : ℕ) → e < w → y < n → entry rows (labelAt n profiles e y) y ≡ true
+      edges : (e y : ℕ) → Event Σ e → y < n → entry rows (labelAt n profiles e y) y ≡ true
       edges e y a b =
           let x = labelAt n profiles e y in
           let l = mod-lt (look profiles e y) some in
           h .is x y l b
           ∙ is-true (closed n (entry rows₀) x y)
-          (keeps (entry rows₀) n x y (truth (h₀ .is x y l b ∙ sym (some-found w (λ e. eqb (labelAt n profiles e y) x) e a (eq-eqb x x refl)))))
+          (keeps (entry rows₀) n x y (subst T (sym (h₀ .is x y l b)) (→some-event Σ (λ e. eqb (labelAt n profiles e y) x) e a (truth (eq-eqb x x refl)))))

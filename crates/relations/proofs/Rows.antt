@@ -9,7 +9,8 @@ use native.Mathlib.Omega.{arith}
 use lib.ListN.{length, getD, replicate, getD-replicate}
 use lib.Dec.{eqb}
 use borrow.Author.Tests.{eq-eqb, ne-eqb}
-use Rattle.ltl.specs.Sets.{on, someBelow}
+use Rattle.meaning.specs.Traces.{masked}
+use Rattle.ltl.specs.Sets.{on}
 use Rattle.ltl.proofs.Sets.{on-zero}
 use Rattle.relations.specs.Relations.{entry, Matrix, MarkedAt, Added, RowPassed, labelAt, edge, through}
 use Rattle.relations.proofs.Words.{words-of}
@@ -78,26 +79,33 @@ added-to {n = n} {r} {old} {m} h j e = subst (λ (k : ℕ). Added k n r old m) e
 
 -- ---- the edges of all events
 
-pub record Edges (w n : ℕ) (profiles : List (List ℕ)) (m : List ℕ) : Type 0 where
+-- the rows hold the edges of the events of the mask below w
+pub record Edges (mask w n : ℕ) (profiles : List (List ℕ)) (m : List ℕ) : Type 0 where
   pub long : length m ≡ 256
-  pub holds : Matrix n (edge w n profiles) m
+  pub holds : Matrix n (edge (masked w mask) n profiles) m
 
-module _ {n : ℕ} {profiles : List (List ℕ)} where
-  pub edges-none : n ≤ 128 → Edges 0 n profiles (replicate 256 0)
+module _ {mask n : ℕ} {profiles : List (List ℕ)} where
+  pub edges-none : n ≤ 128 → Edges mask 0 n profiles (replicate 256 0)
   edges-none few = record {
     long = refl;
     holds = record { is = λ x y a b. ap (λ (A : ℕ). on A (y % 64)) (getD-replicate 256 (2 * x + y / 64) 0 0 (omega arith)) ∙ on-zero (y % 64) };
   }
 
-  pub edges-more : {e : ℕ} {m : List ℕ} → Edges e n profiles m → (new : List ℕ) → Added n n (λ x y. eqb (labelAt n profiles e y) x) m new → Edges (e + 1) n profiles new
-  edges-more {e} {m} h new q = record {
-    long = q .long;
-    holds = record {
-      is = λ x y a b.
-          q .done x y a b b ∙ ap (or (eqb (labelAt n profiles e y) x)) (h .holds .is x y a b)
-          ∙ ap (λ (j : ℕ). someBelow j (λ e. eqb (labelAt n profiles e y) x)) (sym (add-one e));
-    };
-  }
+  module _ {e : ℕ} {m : List ℕ} (h : Edges mask e n profiles m) where
+    -- with an edge by e, if e can happen and makes one, x is related to y by the events up to e
+    one-more : (x y : ℕ) → x < n → y < n → (t : Bool) → on mask e ≡ t
+        → or (elim t [ true ↦ eqb (labelAt n profiles e y) x | false ↦ false ]) (entry m x y) ≡ edge (masked (e + 1) mask) n profiles x y
+    one-more x y a b t p =
+        ap₂ (λ (t r : Bool). or (elim t [ true ↦ eqb (labelAt n profiles e y) x | false ↦ false ]) r) (sym p) (h .holds .is x y a b)
+        ∙ ap (λ (j : ℕ). edge (masked j mask) n profiles x y) (sym (add-one e))
 
-  pub edges-to : {w : ℕ} {m : List ℕ} → Edges w n profiles m → (j : ℕ) → w ≡ j → Matrix n (edge j n profiles) m
-  edges-to {m = m} h j e = subst (λ (k : ℕ). Matrix n (edge k n profiles) m) e (h .holds)
+    -- the event e can happen, and its edges are added
+    pub edges-more : on mask e ≡ true → {new rows : List ℕ} → Added n n (λ x y. eqb (labelAt n profiles e y) x) m new → rows ≡ new → Edges mask (e + 1) n profiles rows
+    edges-more p q r = subst (λ (rows : List ℕ). Edges mask (e + 1) n profiles rows) (sym r) (record { long = q .long; holds = record { is = λ x y a b. q .done x y a b b ∙ one-more x y a b true p } })
+
+    -- it cannot, and has none
+    pub edges-skip : on mask e ≡ false → {rows : List ℕ} → rows ≡ m → Edges mask (e + 1) n profiles rows
+    edges-skip p r = subst (λ (rows : List ℕ). Edges mask (e + 1) n profiles rows) (sym r) (record { long = h .long; holds = record { is = λ x y a b. one-more x y a b false p } })
+
+  pub edges-to : {w : ℕ} {m : List ℕ} → Edges mask w n profiles m → (j : ℕ) → w ≡ j → Matrix n (edge (masked j mask) n profiles) m
+  edges-to {m = m} h j e = subst (λ (k : ℕ). Matrix n (edge (masked k mask) n profiles) m) e (h .holds)

@@ -8,7 +8,8 @@ use native.Mathlib.Numerals.{add-one}
 use lib.Dec.{T}
 use lib.Bits.{bitOr}
 use Rattle.sequences.proofs.Pointwise.{is-true, is-false}
-use Rattle.ltl.specs.Sets.{someBelow, everyBelow, unionBelow}
+use Rattle.meaning.specs.Traces.{Alphabet, Event}
+use Rattle.ltl.specs.Sets.{someBelow, everyBelow, unionBelow, someEvent, unionEvents}
 use Rattle.ltl.proofs.Searches.{→some, every→}
 
 -- none passes so far
@@ -53,3 +54,19 @@ some-same (suc n) f g h =
 pub union-same : (n : ℕ) (f g : ℕ → ℕ) → ((i : ℕ) → i < n → f i ≡ g i) → unionBelow n f ≡ unionBelow n g
 union-same zero f g h = refl
 union-same (suc n) f g h = ap₂ bitOr (h n (le-refl (suc n))) (union-same n f g (λ i l. h i (omega arith)))
+
+-- a value that matters only where the test holds
+only-same : {A : Type 0} (z : A) (b : Bool) {x y : A} → (T b → x ≡ y) → _≡_ {A = A} (elim b [ true ↦ x | false ↦ z ]) (elim b [ true ↦ y | false ↦ z ])
+only-same z true h = h tt
+only-same z false h = refl
+
+module _ (Σ : Alphabet) where
+  pub some-event-same : (f g : ℕ → Bool) → ((e : ℕ) → Event Σ e → f e ≡ g e) → someEvent Σ f ≡ someEvent Σ g
+  some-event-same f g h =
+      some-same (Σ .width) (λ e. elim (Σ .possible e) [ true ↦ f e | false ↦ false ]) (λ e. elim (Σ .possible e) [ true ↦ g e | false ↦ false ])
+      (λ e l. only-same false (Σ .possible e) (λ t. h e (l, t)))
+
+  pub union-events-same : (f g : ℕ → ℕ) → ((e : ℕ) → Event Σ e → f e ≡ g e) → unionEvents Σ f ≡ unionEvents Σ g
+  union-events-same f g h =
+      union-same (Σ .width) (λ e. elim (Σ .possible e) [ true ↦ f e | false ↦ 0 ]) (λ e. elim (Σ .possible e) [ true ↦ g e | false ↦ 0 ])
+      (λ e l. only-same 0 (Σ .possible e) (λ t. h e (l, t)))

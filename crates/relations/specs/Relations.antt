@@ -5,7 +5,8 @@ use mathlib.Core.List.{List}
 use Prim.Native.Nat.{ℕ, zero, suc, _+_, _*_, _/_, _%_, _≤_, _<_}
 use lib.ListN.{length, getD}
 use lib.Dec.{eqb}
-use Rattle.ltl.specs.Sets.{on, someBelow}
+use Rattle.meaning.specs.Traces.{Alphabet, Event}
+use Rattle.ltl.specs.Sets.{on, someEvent}
 use Rattle.ltl.specs.Residuals.{before}
 use Rattle.ltl.specs.Keys.{look}
 
@@ -34,13 +35,13 @@ pub record Added (w n : ℕ) (r : ℕ → ℕ → Bool) (old new : List ℕ) : T
   pub done : (x y : ℕ) → x < n → y < w → y < n → entry new x y ≡ elim (r x y) [ true ↦ true | false ↦ entry old x y ]
   pub left : (x y : ℕ) → x < n → w ≤ y → y < n → entry new x y ≡ entry old x y
 
--- ---- edges: w events, n labels; the profile by event and next label
+-- ---- edges: the events that can happen, n labels; the profile by event and next label
 
 abbrev pub labelAt : ℕ → List (List ℕ) → ℕ → ℕ → ℕ
 labelAt n profiles = before n (look profiles)
 
-abbrev pub edge : ℕ → ℕ → List (List ℕ) → ℕ → ℕ → Bool
-edge w n profiles x y = someBelow w (λ e. eqb (labelAt n profiles e y) x)
+abbrev pub edge : Alphabet → ℕ → List (List ℕ) → ℕ → ℕ → Bool
+edge Σ n profiles x y = someEvent Σ (λ e. eqb (labelAt n profiles e y) x)
 
 -- ---- closure
 
@@ -68,6 +69,6 @@ closed zero r = r
 closed (suc k) r = through k (closed k r)
 
 -- r is transitive and has all edges
-pub record Reaches (w n : ℕ) (profiles : List (List ℕ)) (r : ℕ → ℕ → Bool) : Type 0 where
+pub record Reaches (Σ : Alphabet) (n : ℕ) (profiles : List (List ℕ)) (r : ℕ → ℕ → Bool) : Type 0 where
   pub via : (x v y : ℕ) → x < n → v < n → y < n → r x v ≡ true → r v y ≡ true → r x y ≡ true
-  pub edges : (e y : ℕ) → e < w → y < n → r (labelAt n profiles e y) y ≡ true
+  pub edges : (e y : ℕ) → Event Σ e → y < n → r (labelAt n profiles e y) y ≡ true

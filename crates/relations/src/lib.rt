@@ -4,7 +4,9 @@ ghost use mathlib.Core.List.{List};
 ghost use Prim.Native.Nat.{ℕ, _%_, _≤_, _<_};
 ghost use lib.ListN.{length};
 ghost use lib.Dec.{eqb};
+ghost use Rattle.meaning.specs.Traces.{masked};
 ghost use Rattle.relations.specs.Relations.{entry, Matrix, EmptyRow, MarkedAt, Added, onlyIf, RowPassed, labelAt, edge, through, closed};
+use events::can_happen;
 use wire::wide;
 
 // The label within a profile: the remainder, mostly without a division.
@@ -69,15 +71,24 @@ fn mark_event(rows: &mut [u64; 256], profiles: &[[u8; 128]; 16], labels: usize, 
     }
 }
 
-pub fn edge_rows(events: usize, labels: usize, profiles: &[[u8; 128]; 16], rows: &mut [u64; 256])
+// The edges of the events that can happen, by the mask, and no others.
+pub fn edge_rows(
+    events: usize,
+    mask: u16,
+    labels: usize,
+    profiles: &[[u8; 128]; 16],
+    rows: &mut [u64; 256],
+)
     requires { ⌜ (events ≤ 16) × (1 ≤ labels) × (labels ≤ 128) ⌝ }
     requires { ⌜ length {A = List ℕ} (now profiles) ≡ 16 ⌝ }
-    ensures { λ _. ⌜ (length (now (rows .exit)) ≡ 256) × Matrix labels (edge events labels (now (profiles .entry))) (now (rows .exit)) ⌝ }
+    ensures { λ _. ⌜ (length (now (rows .exit)) ≡ 256) × Matrix labels (edge (masked events mask) labels (now (profiles .entry))) (now (rows .exit)) ⌝ }
 {
     *rows = [0; 256];
     let mut e: usize = 0;
     while e < events {
-        mark_event(rows, profiles, labels, e);
+        if can_happen(mask, e) {
+            mark_event(rows, profiles, labels, e);
+        }
         e += 1;
     }
 }

@@ -5,6 +5,7 @@ use mathlib.Core.Path.{sym, ap, _∙_, subst}
 use Prim.Native.Nat.{ℕ, _^_}
 use denote.Ref.{now}
 use lib.ListN.{replicate, length-replicate}
+use Rattle.meaning.specs.Traces.{masked}
 use Rattle.ltl.specs.Keys.{startKey}
 use Rattle.profile_sets.specs.Arrays.{tablesBy, tablesIn, keyOf}
 use Rattle.profile_sets.proofs.Tables.{start-is, steppable}
@@ -57,15 +58,15 @@ returns c =
     let start = c .before .before .before .before .before .before .before .before .before .before .before .before .before in
     let a = start .args in
     let t = tablesIn (2 ^ a .m) (now (a .profiles)) (now (a .whole)) in
-    let walked = walked-at (now (a .profiles)) (c .before .before .before .before .before .before .before .before .before .before .before .before .width .ensures .0) (c .before .before .before .before .before .before .before .before .before .before .before .power .ensures .0) (c .before .before .before .before .before .before .before .pack2 .ensures .1) (walk .ensures) in
-    explored-over (a .signals) t (exploreKeys t (a .signals)) (walk .result) (now (a .classes)) (walked .over (omega (arith, c .before .wide16 .ensures .0)))
+    let walked = walked-at (a .mask) (now (a .profiles)) (c .before .before .before .before .before .before .before .before .before .before .before .before .width .ensures .0) (c .before .before .before .before .before .before .before .before .before .before .before .power .ensures .0) (c .before .before .before .before .before .before .before .pack2 .ensures .1) (walk .ensures) in
+    explored-over (a .signals) t (exploreKeys t (masked (2 ^ a .signals) (a .mask))) (walk .result) (now (a .classes)) (walked .over (omega (arith, c .before .wide16 .ensures .0)))
 
 classify-requires : tie.Need-classify-requires
 classify-requires c κs =
     let walk = c .before .before .before .before .before .walk in
     let count = c .before .before .before .wide16 in
     let closed = walk .ensures .closed (omega (arith, count .ensures .0)) in
-    (subst (λ (n : ℕ). KeysFit n (walk .last .1 .1 .1 .1 .0)) (sym (count .ensures .0)) (closed .fit), c .before .before .before .before .before .before .before .before .before .pack2 .ensures .0, c .before .before .before .before .before .before .before .before .before .before .before .before .before .before .before .pre .1)
+    (subst (λ (n : ℕ). KeysFit n (walk .last .1 .1 .1 .1 .1 .0)) (sym (count .ensures .0)) (closed .fit), c .before .before .before .before .before .before .before .before .before .pack2 .ensures .0, c .before .before .before .before .before .before .before .before .before .before .before .before .before .before .before .pre .1)
 
 returns-2 : tie.Need-returns-2
 returns-2 c =
@@ -77,9 +78,9 @@ returns-2 c =
     let a = start .args in
     let t = tablesIn (2 ^ a .m) (now (a .profiles)) (now (a .whole)) in
     let classes = classify .last .1 .1 .1 .0 in
-    let walked = walked-at (now (a .profiles)) (c .before .before .before .before .before .before .before .before .before .before .before .before .before .before .before .width .ensures .0) (c .before .before .before .before .before .before .before .before .before .before .before .before .before .before .power .ensures .0) (full .ensures .1) (walk .ensures) in
+    let walked = walked-at (a .mask) (now (a .profiles)) (c .before .before .before .before .before .before .before .before .before .before .before .before .before .before .before .width .ensures .0) (c .before .before .before .before .before .before .before .before .before .before .before .before .before .before .power .ensures .0) (full .ensures .1) (walk .ensures) in
     let ended = walked .closed (omega (arith, count .ensures .0)) in
-    explored-closed (a .signals) t (exploreKeys t (a .signals)) (walk .result) classes ended
+    explored-closed (a .signals) t (exploreKeys t (masked (2 ^ a .signals) (a .mask))) (walk .result) classes ended
     (class-at t (keyOf (full .result)) (full .ensures .1) (count .result) (count .ensures .0) (ended .fit) (now (a .classes)) classes (classify .ensures))
     (classes-length t (keyOf (full .result)) (full .ensures .1) (count .result) (count .ensures .0) (ended .fit) (now (a .classes)) classes (classify .ensures) (start .pre .1))
 

@@ -4,18 +4,19 @@ use borrow.Author.Needs.{needs}
 use mathlib.Core.Path.{refl}
 use Prim.Native.Nat.{_-_}
 use denote.Ref.{now}
+use Rattle.meaning.specs.Traces.{masked}
 use Rattle.profile_sets.specs.Arrays.{tablesBy, keyOf}
 use Rattle.key_slots.proofs.Lists.{slotted-first}
-use Rattle.exploration.specs.Answers.{exploreBelow}
+use Rattle.exploration.specs.Answers.{exploreKeys}
 use Rattle.exploration.proofs.Steps.{Walking, walking-none, walking-more, walking-over, walking-all}
 use Rattle.exploration.proofs.walk.Statement.{statement}
 use Rattle.exploration.proofs.walk.Tie as tie
 
 abbrev Inv-loop : tie.InvT-loop
-Inv-loop profiles full n events keys₀ met₀ rows₀ slots₀ count₀ i₀ keys met rows slots count i = Walking (tablesBy n profiles (keyOf full)) events (exploreBelow (tablesBy n profiles (keyOf full)) events) i count keys rows slots
+Inv-loop profiles full n events mask keys₀ met₀ rows₀ slots₀ count₀ i₀ keys met rows slots count i = Walking (tablesBy n profiles (keyOf full)) (masked events mask) (exploreKeys (tablesBy n profiles (keyOf full)) (masked events mask)) i count keys rows slots
 
 abbrev μ-loop : tie.MeasureT-loop
-μ-loop profiles full n events keys₀ met₀ rows₀ slots₀ count₀ i₀ keys met rows slots count i = 256 - i
+μ-loop profiles full n events mask keys₀ met₀ rows₀ slots₀ count₀ i₀ keys met rows slots count i = 256 - i
 
 no-rows-requires : tie.Need-no-rows-requires Inv-loop μ-loop
 no-rows-requires c κs = search needs
@@ -27,23 +28,18 @@ loop-holds : tie.Need-loop-holds Inv-loop μ-loop
 loop-holds c =
     let start = c .before .before in
     let a = start .args in
-    walking-none (tablesBy (a .n) (now (a .profiles)) (keyOf (now (a .full)))) (a .events)
+    walking-none (tablesBy (a .n) (now (a .profiles)) (keyOf (now (a .full)))) (masked (a .events) (a .mask))
     (start .pre .2) (slotted-first (c .first-slots .ensures)) (c .before .no-rows .ensures) (start .pre .3)
-
-mul-key : tie.Need-mul-key Inv-loop μ-loop
-mul-key c = omega (arith, c .before .loop .inv .fit .few)
-
-element-copy-out-key : tie.Need-element-copy-out-key Inv-loop μ-loop
-element-copy-out-key c = omega (arith, c .before .loop .inv .fit .few)
 
 expand-requires : tie.Need-expand-requires Inv-loop μ-loop
 expand-requires c κs =
-    let loop = c .before .before .before .before .before .loop in
-    let start = c .before .before .before .before .before .before .before .before in
-    (start .pre .1, (start .pre .0, loop .inv .fit, loop .inv .slotted, refl))
+    let in-loop = c .before .before .before in
+    let loop = in-loop .before .loop in
+    let start = in-loop .before .before .before .before in
+    (start .pre .1, (start .pre .0, loop .inv .fit, loop .inv .slotted, refl, in-loop .loop-test .taken))
 
-enum-known-grown : tie.Need-enum-known-grown Inv-loop μ-loop
-enum-known-grown c = search needs
+enum-known-next : tie.Need-enum-known-next Inv-loop μ-loop
+enum-known-next c = search needs
 
 enum-told : tie.Need-enum-told Inv-loop μ-loop
 enum-told c = search needs
@@ -51,30 +47,30 @@ enum-told c = search needs
 returns : tie.Need-returns Inv-loop μ-loop
 returns c =
     let expand = c .before .before .expand in
-    let in-loop = c .before .before .before .before .before .before .before in
+    let in-loop = c .before .before .before .before .before .before in
     let a = in-loop .before .before .before .before .args in
-    walking-over (tablesBy (a .n) (now (a .profiles)) (keyOf (now (a .full)))) (a .events) (in-loop .before .loop .inv) (in-loop .loop-test .taken)
-    (expand .last .1 .1 .1 .1 .0) (expand .last .1 .1 .1 .1 .1 .0) (expand .last .1 .1 .1 .1 .1 .1 .1 .1 .0) (expand .result) (expand .ensures) (c .enum-told .given .1)
+    walking-over (tablesBy (a .n) (now (a .profiles)) (keyOf (now (a .full)))) (masked (a .events) (a .mask)) (in-loop .before .loop .inv) (in-loop .loop-test .taken)
+    (expand .last .1 .1 .1 .1 .1 .0) (expand .last .1 .1 .1 .1 .1 .1 .0) (expand .last .1 .1 .1 .1 .1 .1 .1 .1 .1 .0) (expand .result) (expand .ensures) (c .enum-told .given .1)
 
 mul-rows : tie.Need-mul-rows Inv-loop μ-loop
-mul-rows c = omega (arith, c .before .before .before .before .before .before .before .before .before .loop .inv .fit .few)
+mul-rows c = omega (arith, c .before .before .before .before .before .before .before .before .loop .inv .fit .few)
 
 array-set-from-rows : tie.Need-array-set-from-rows Inv-loop μ-loop
-array-set-from-rows c = omega (arith, c .before .before .before .before .before .before .before .before .before .loop .inv .fit .few)
+array-set-from-rows c = omega (arith, c .before .before .before .before .before .before .before .before .loop .inv .fit .few)
 
 add-i : tie.Need-add-i Inv-loop μ-loop
-add-i c = omega (arith, c .before .before .before .before .before .before .before .before .before .loop .inv .fit .few)
+add-i c = omega (arith, c .before .before .before .before .before .before .before .before .loop .inv .fit .few)
 
 loop-less : tie.Need-loop-less Inv-loop μ-loop
-loop-less c = omega (arith, c .before .before .before .before .before .before .before .before .before .loop .inv .fit .few)
+loop-less c = omega (arith, c .before .before .before .before .before .before .before .before .loop .inv .fit .few)
 
 loop-again : tie.Need-loop-again Inv-loop μ-loop
 loop-again c =
     let expand = c .before .before .before .expand in
-    let in-loop = c .before .before .before .before .before .before .before .before in
+    let in-loop = c .before .before .before .before .before .before .before in
     let a = in-loop .before .before .before .before .args in
-    walking-more (tablesBy (a .n) (now (a .profiles)) (keyOf (now (a .full)))) (a .events) (in-loop .before .loop .inv) (in-loop .loop-test .taken)
-    (expand .last .1 .1 .1 .1 .0) (expand .last .1 .1 .1 .1 .1 .0) (expand .last .1 .1 .1 .1 .1 .1 .1 .1 .0) (expand .result) (expand .ensures) (c .before .grown .given .1)
+    walking-more (tablesBy (a .n) (now (a .profiles)) (keyOf (now (a .full)))) (masked (a .events) (a .mask)) (in-loop .before .loop .inv) (in-loop .loop-test .taken)
+    (expand .last .1 .1 .1 .1 .1 .0) (expand .last .1 .1 .1 .1 .1 .1 .0) (expand .last .1 .1 .1 .1 .1 .1 .1 .1 .1 .0) (expand .result) (expand .ensures) (c .before .next .given .1)
 
 cast-met : tie.Need-cast-met Inv-loop μ-loop
 cast-met c = omega (arith, c .before .loop .inv .fit .few)
@@ -82,7 +78,7 @@ cast-met c = omega (arith, c .before .loop .inv .fit .few)
 returns-2 : tie.Need-returns-2 Inv-loop μ-loop
 returns-2 c =
     let a = c .before .before .before .before .args in
-    walking-all (tablesBy (a .n) (now (a .profiles)) (keyOf (now (a .full)))) (a .events) (c .before .loop .inv) (c .loop-test .left)
+    walking-all (tablesBy (a .n) (now (a .profiles)) (keyOf (now (a .full)))) (masked (a .events) (a .mask)) (c .before .loop .inv) (c .loop-test .left)
 
 pub walk-spec : {M : Type 1} → statement M
 walk-spec =
@@ -93,10 +89,8 @@ walk-spec =
     no-rows-requires
     first-slots-requires
     loop-holds
-    mul-key
-    element-copy-out-key
     expand-requires
-    enum-known-grown
+    enum-known-next
     enum-told
     returns
     mul-rows

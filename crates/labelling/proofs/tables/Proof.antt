@@ -55,7 +55,7 @@ returns c =
     let power = c .before .before .before .before .before .before .before .before .before .before .power in
     let value-tables = c .before .before .before .before .before .before .before .value-tables in
     let realizable-labels = c .before .before .before .before .realizable-labels in
-    all-computed (start .args .signals) (start .args .count) (width .result) (power .result) (temporal-count .result) (wide .result) (start .args .nodes)
+    all-computed (start .args .signals) (start .args .mask) (start .args .count) (width .result) (power .result) (temporal-count .result) (wide .result) (start .args .nodes)
     (wide .ensures .0) (temporal-count .ensures) (power .ensures .0) (width .ensures .0) (start .pre .1 .0)
     (record { profile = value-tables .ensures .0 .1; fair = value-tables .ensures .1 .1; labels = realizable-labels .ensures; marks = c .mark-all .ensures })
 

@@ -1,6 +1,7 @@
 -- `realizability::core_row` meets its contract. Over the components, what the code finds is the core (proofs/Components).
 use borrow.Author.Needs.{needs}
 use denote.Ref.{now}
+use Rattle.meaning.specs.Traces.{masked}
 use Rattle.realizability.proofs.Components.{within-components, core-components}
 use Rattle.relations.specs.Relations.{entry}
 use Rattle.realizability.proofs.core_row.Statement.{statement}
@@ -16,7 +17,7 @@ gather-requires c κs =
       start .pre .0,
       (
         search needs,
-        within-components (start .args .m) (start .args .events) (start .args .labels) (now (start .args .profiles)) (now (start .args .fairs))
+        within-components (start .args .m) (masked (start .args .events) (start .args .mask)) (start .args .labels) (now (start .args .profiles)) (now (start .args .fairs))
             (entry (now (start .args .rows))) (start .pre .0 .some) (start .pre .1 .1) _ (component-row .ensures),
       ),
     )
@@ -27,7 +28,7 @@ core-in-requires c κs =
     let component-row = c .before .before .before .before .before .component-row in
     let gather = c .before .before .gather in (
       (start .pre .0 .few, start .pre .1 .0, search needs, gather .ensures .long),
-      within-components (start .args .m) (start .args .events) (start .args .labels) (now (start .args .profiles)) (now (start .args .fairs))
+      within-components (start .args .m) (masked (start .args .events) (start .args .mask)) (start .args .labels) (now (start .args .profiles)) (now (start .args .fairs))
           (entry (now (start .args .rows))) (start .pre .0 .some) (start .pre .1 .1) _ (component-row .ensures),
     )
 
@@ -36,7 +37,7 @@ returns c =
     let start = c .before .before .before .before .before .before .before in
     let component-row = c .before .before .before .before .before .before .component-row in
     let gather = c .before .before .before .gather in
-    core-components (start .args .m) (start .args .events) (start .args .labels) (now (start .args .profiles)) (now (start .args .fairs))
+    core-components (start .args .m) (masked (start .args .events) (start .args .mask)) (start .args .labels) (now (start .args .profiles)) (now (start .args .fairs))
     (entry (now (start .args .rows))) (start .pre .0 .some) (start .pre .1 .1) _ _ _ (component-row .ensures) (gather .ensures) (c .core-in .ensures)
 
 pub core-row-spec : {M : Type 1} → statement M

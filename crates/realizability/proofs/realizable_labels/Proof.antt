@@ -1,5 +1,6 @@
 -- `realizability::realizable_labels` meets its contract. What the code finds is what crate ltl finds (proofs/Labels).
 use denote.Ref.{now}
+use Rattle.meaning.specs.Traces.{masked}
 use Rattle.realizability.proofs.Labels.{found}
 use Rattle.relations.proofs.Reach.{reaches}
 use borrow.Author.Needs.{needs}
@@ -20,7 +21,7 @@ core-row-requires c κs =
       start .pre,
       (
         close .ensures .0,
-        reaches (start .args .events) (start .args .labels) (now (start .args .profiles)) _ _ (start .pre .some) (edge-rows .ensures .1) (close .ensures .1),
+        reaches (masked (start .args .events) (start .args .mask)) (start .args .labels) (now (start .args .profiles)) _ _ (start .pre .some) (edge-rows .ensures .1) (close .ensures .1),
       ),
     )
 
@@ -33,7 +34,7 @@ returns c =
     let edge-rows = c .before .before .before .before .before .before .before .edge-rows in
     let close = c .before .before .before .before .before .close in
     let core-row = c .before .before .before .core-row in
-    found (start .args .events) (start .args .labels) (now (start .args .profiles)) (start .args .m) (now (start .args .fairs)) _ _ _ _ (start .pre .some)
+    found (masked (start .args .events) (start .args .mask)) (start .args .labels) (now (start .args .profiles)) (start .args .m) (now (start .args .fairs)) _ _ _ _ (start .pre .some)
     (edge-rows .ensures .1) (close .ensures .1) (core-row .ensures) (c .leading-row .ensures)
 
 pub realizable-labels-spec : {M : Type 1} → statement M
