@@ -9,12 +9,12 @@ use native.Mathlib.Decide.{ℕ-discrete}
 use native.Mathlib.Omega.{arith}
 use lib.ListN.{length, getD, set, length-set, drop, replicate, length-replicate, getD-replicate, List·getD-append}
 use lib.Seq.{getD-set-same, getD-set-other}
-use Rattle.meaning.specs.Traces.{firstEvents}
 use Rattle.sequences.specs.Tabulate.{tabulate, leastBelow}
 use Rattle.sequences.proofs.Loops.{Filled, length-tab, getD-tab, Missed, missed-end}
 use Rattle.moore.specs.Grouping.{entry, sameStep}
 use Rattle.moore.proofs.Tests.{bool-cases, same-name}
 use Rattle.moore.proofs.Grouping.{step→, step-equivalence}
+use Rattle.group_slots.specs.Groups.{unmasked}
 use Rattle.group_slots.specs.Slots.{mixed, slotOf, Slotted, InSlot, LeftBelow}
 
 -- ---- mixing
@@ -36,27 +36,27 @@ mixed-same (suc n) f g s h = ap₂ (λ (t x : ℕ). (t * 5 + x) % 1024) (mixed-s
 
 -- ---- a round
 module _ (w : ℕ) (rows : List (List ℕ)) (group : List ℕ) where
-  slot-same : (j i : ℕ) → sameStep (firstEvents w) rows group j i ≡ true → slotOf w rows group j ≡ slotOf w rows group i
+  slot-same : (j i : ℕ) → sameStep (unmasked w) rows group j i ≡ true → slotOf w rows group j ≡ slotOf w rows group i
   slot-same j i h =
-      let p = step→ (firstEvents w) rows group j i h in
+      let p = step→ (unmasked w) rows group j i h in
       ap (λ (s : ℕ). mixed w (λ e. getD group (entry rows j e) 0) (s % 1024)) (p .here)
       ∙ mixed-same w (λ e. getD group (entry rows j e) 0) (λ e. getD group (entry rows i e) 0) (getD group i 0 % 1024) (λ e l. p .then e (l, tt))
 
   -- no state before i is left with i: those but state 0 would be in the slot
-  pub left-none : (i j : ℕ) → InSlot i w rows group j → j ≡ 0 → sameStep (firstEvents w) rows group j i ≡ false → i ≡ leastBelow i (λ k. sameStep (firstEvents w) rows group k i)
+  pub left-none : (i j : ℕ) → InSlot i w rows group j → j ≡ 0 → sameStep (unmasked w) rows group j i ≡ false → i ≡ leastBelow i (λ k. sameStep (unmasked w) rows group k i)
   left-none i j h z n = sym (missed-end none i refl)
     where
-      other : (k : ℕ) → k < i → Dec (k ≡ 0) → sameStep (firstEvents w) rows group k i ≡ false
-      other k m (yes e) = subst (λ (x : ℕ). sameStep (firstEvents w) rows group x i ≡ false) (z ∙ sym e) n
-      other k m (no e) = elim (bool-cases (sameStep (firstEvents w) rows group k i)) [ inl t ↦ (let x = h .met k (omega arith) m t in absurd (omega arith)) | inr f ↦ f ]
+      other : (k : ℕ) → k < i → Dec (k ≡ 0) → sameStep (unmasked w) rows group k i ≡ false
+      other k m (yes e) = subst (λ (x : ℕ). sameStep (unmasked w) rows group x i ≡ false) (z ∙ sym e) n
+      other k m (no e) = elim (bool-cases (sameStep (unmasked w) rows group k i)) [ inl t ↦ (let x = h .met k (omega arith) m t in absurd (omega arith)) | inr f ↦ f ]
 
-      none : Missed i (λ k. sameStep (firstEvents w) rows group k i)
+      none : Missed i (λ k. sameStep (unmasked w) rows group k i)
       none = record { none = λ k m. other k m (ℕ-discrete k 0) }
 
   -- j is left with i
-  pub left-same : (i j : ℕ) (next : List ℕ) → LeftBelow i w rows group next → j < i → sameStep (firstEvents w) rows group j i ≡ true
-      → getD next j 0 ≡ leastBelow i (λ k. sameStep (firstEvents w) rows group k i)
-  left-same i j next h l e = h .left j l ∙ same-name (step-equivalence (firstEvents w) rows group) j i e
+  pub left-same : (i j : ℕ) (next : List ℕ) → LeftBelow i w rows group next → j < i → sameStep (unmasked w) rows group j i ≡ true
+      → getD next j 0 ≡ leastBelow i (λ k. sameStep (unmasked w) rows group k i)
+  left-same i j next h l e = h .left j l ∙ same-name (step-equivalence (unmasked w) rows group) j i e
 
   -- what the slot of i has
   pub in-slot : (i s j : ℕ) (slots : List ℕ) → Slotted i w rows group slots → s ≡ slotOf w rows group i → s < 1024 → j ≡ getD slots s 0 → InSlot i w rows group j
@@ -65,7 +65,7 @@ module _ (w : ℕ) (rows : List (List ℕ)) (group : List ℕ) where
     met = λ k o m t. subst (λ (x : ℕ). 0 < x) (ap (λ (x : ℕ). getD slots x 0) (slot-same k i t ∙ sym e) ∙ sym q) (h .met k o m);
   }
 
-  pub left-below : (i : ℕ) {d next : List ℕ} → Filled i (λ k. leastBelow k (λ j. sameStep (firstEvents w) rows group j k)) d next → LeftBelow i w rows group next
+  pub left-below : (i : ℕ) {d next : List ℕ} → Filled i (λ k. leastBelow k (λ j. sameStep (unmasked w) rows group j k)) d next → LeftBelow i w rows group next
   left-below i {d} {next} h = record {
     left = λ k l.
         ap (λ (t : List ℕ). getD t k 0) (h .is)
@@ -74,7 +74,7 @@ module _ (w : ℕ) (rows : List (List ℕ)) (group : List ℕ) where
   }
     where
       f : ℕ → ℕ
-      f k = leastBelow k (λ j. sameStep (firstEvents w) rows group j k)
+      f k = leastBelow k (λ j. sameStep (unmasked w) rows group j k)
 
   -- ---- the slots
   pub slotted-none : (slots : List ℕ) → slots ≡ replicate 1024 0 → Slotted 0 w rows group slots

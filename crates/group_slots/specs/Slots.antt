@@ -4,9 +4,9 @@ use mathlib.Core.Bool.{true}
 use mathlib.Core.List.{List}
 use Prim.Native.Nat.{ℕ, zero, suc, _+_, _-_, _*_, _%_, _≤_, _<_}
 use lib.ListN.{length, getD}
-use Rattle.meaning.specs.Traces.{firstEvents}
 use Rattle.sequences.specs.Tabulate.{leastBelow}
 use Rattle.moore.specs.Grouping.{entry, sameStep}
+use Rattle.group_slots.specs.Groups.{unmasked}
 
 -- s mixed with f 0, f 1, .., f (n - 1)
 unfoldable pub mixed : ℕ → (ℕ → ℕ) → ℕ → ℕ
@@ -26,8 +26,8 @@ pub record Slotted (i w : ℕ) (rows : List (List ℕ)) (group slots : List ℕ)
 -- j is a state before i, or 0, and not 0 if the round leaves any state before i but state 0 with i
 pub record InSlot (i w : ℕ) (rows : List (List ℕ)) (group : List ℕ) (j : ℕ) : Type 0 where
   pub low : j ≤ i - 1
-  pub met : (k : ℕ) → 0 < k → k < i → sameStep (firstEvents w) rows group k i ≡ true → 0 < j
+  pub met : (k : ℕ) → 0 < k → k < i → sameStep (unmasked w) rows group k i ≡ true → 0 < j
 
 -- next has for each state before i the least that the round leaves with it
 pub record LeftBelow (i w : ℕ) (rows : List (List ℕ)) (group next : List ℕ) : Type 0 where
-  pub left : (k : ℕ) → k < i → getD next k 0 ≡ leastBelow k (λ j. sameStep (firstEvents w) rows group j k)
+  pub left : (k : ℕ) → k < i → getD next k 0 ≡ leastBelow k (λ j. sameStep (unmasked w) rows group j k)

@@ -2,9 +2,8 @@
 ghost use mathlib.Core.Path.{_≡_};
 ghost use Prim.Native.Nat.{_+_, _≤_, _<_};
 ghost use Rattle.sequences.specs.Tabulate.{leastBelow};
-ghost use Rattle.meaning.specs.Traces.{firstEvents};
 ghost use Rattle.moore.specs.Grouping.{entry, together, sameStep};
-ghost use Rattle.group_slots.specs.Groups.{Least};
+ghost use Rattle.group_slots.specs.Groups.{unmasked, Least};
 ghost use Rattle.group_slots.specs.Slots.{slotOf, LeftBelow, InSlot};
 use wire::wide;
 
@@ -27,7 +26,7 @@ pub fn joined(group: &[u8; 256], i: usize, j: usize) -> bool
 // Whether two states are in one group, and so are their successors at each event.
 fn same_step(rows: &[[u8; 16]; 256], group: &[u8; 256], events: usize, j: usize, i: usize) -> bool
     requires { ⌜ (events ≤ 16) × (j < 256) × (i < 256) ⌝ }
-    ensures { λ r. ⌜ r ≡ sameStep (firstEvents events) (now (rows .entry)) (now (group .entry)) j i ⌝ }
+    ensures { λ r. ⌜ r ≡ sameStep (unmasked events) (now (rows .entry)) (now (group .entry)) j i ⌝ }
 {
     if !joined(group, j, i) {
         return false;
@@ -49,7 +48,7 @@ fn same_step(rows: &[[u8; 16]; 256], group: &[u8; 256], events: usize, j: usize,
 fn least_same(rows: &[[u8; 16]; 256], group: &[u8; 256], events: usize, i: usize) -> u8
     requires { ⌜ (events ≤ 16) × (i < 256) ⌝ }
     requires { ⌜ Least (i + 1) (now group) ⌝ }
-    ensures { λ r. ⌜ r ≡ leastBelow i (λ j. sameStep (firstEvents events) (now (rows .entry)) (now (group .entry)) j i) ⌝ }
+    ensures { λ r. ⌜ r ≡ leastBelow i (λ j. sameStep (unmasked events) (now (rows .entry)) (now (group .entry)) j i) ⌝ }
 {
     let mut j: usize = wide(group[i]);
     while j < i {
@@ -89,7 +88,7 @@ pub fn least_by_slot(
     requires { ⌜ (events ≤ 16) × (i < 256) ⌝ }
     requires { ⌜ Least (i + 1) (now group) ⌝ }
     requires { ⌜ LeftBelow i events (now rows) (now group) (now next) × InSlot i events (now rows) (now group) j ⌝ }
-    ensures { λ r. ⌜ r ≡ leastBelow i (λ j. sameStep (firstEvents events) (now (rows .entry)) (now (group .entry)) j i) ⌝ }
+    ensures { λ r. ⌜ r ≡ leastBelow i (λ j. sameStep (unmasked events) (now (rows .entry)) (now (group .entry)) j i) ⌝ }
 {
     if i == 0 {
         return 0;

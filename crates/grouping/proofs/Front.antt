@@ -6,15 +6,14 @@ use Prim.Native.Nat.{ℕ, zero, suc, _≤_, _<_}
 use native.Mathlib.Omega.{arith}
 use lib.Dec.{eqb}
 use lib.ListN.{getD, take}
-use Rattle.sequences.proofs.Pointwise.{all-same}
-use Rattle.meaning.specs.Traces.{firstEvents}
+use Rattle.meaning.specs.Traces.{Alphabet}
 use Rattle.sequences.specs.Tabulate.{tabulate}
 use Rattle.meaning.specs.Monitors.{keep}
 use Rattle.moore.specs.Counting.{countBelow}
 use Rattle.moore.specs.Grouping.{entry, together, leads}
 use Rattle.moore.specs.Quotient.{leaders, leader, size, number, closed}
 use Rattle.group_slots.specs.Groups.{RowBelow}
-use Rattle.refinement.proofs.Front.{front-at, together-front}
+use Rattle.refinement.proofs.Front.{events-same, front-at, together-front}
 
 -- ---- equal below the bound
 pub map-tabulate : {A B : Type 0} (h : A → B) (n : ℕ) (f : ℕ → A) → map h (tabulate n f) ≡ tabulate n (λ i. h (f i))
@@ -47,6 +46,6 @@ module _ (n : ℕ) (group : List ℕ) where
   unfolding number
   number-front i l h = ap (λ (x : ℕ). countBelow x (leads (take n group))) (front-at n group i l) ∙ count-same (getD group i 0) (leads (take n group)) (leads group) (λ j m. leads-front j (omega arith))
 
-  pub closed-front : (w : ℕ) (rows : List (List ℕ)) (s : ℕ) → s < n → RowBelow w n (getD rows s []) → closed (firstEvents w) rows (take n group) s ≡ closed (firstEvents w) rows group s
+  pub closed-front : (Σ : Alphabet) (rows : List (List ℕ)) (s : ℕ) → s < n → RowBelow Σ n (getD rows s []) → closed Σ rows (take n group) s ≡ closed Σ rows group s
   unfolding closed
-  closed-front w rows s l h = all-same w (λ e. together (take n group) (entry rows s e) s) (λ e. together group (entry rows s e) s) (λ e m. together-front n group (entry rows s e) s (h .to e m) l)
+  closed-front Σ rows s l h = events-same Σ (λ e. together (take n group) (entry rows s e) s) (λ e. together group (entry rows s e) s) (λ e m. together-front n group (entry rows s e) s (h .to e m) l)

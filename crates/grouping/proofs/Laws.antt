@@ -1,6 +1,6 @@
 -- Laws of the loops that make the machine of the groups: where each begins, after a turn, and at its end.
-use mathlib.Core.Path.{_≡_, sym, ap, _∙_, subst}
-use mathlib.Core.Bool.{Bool, true, cond}
+use mathlib.Core.Path.{_≡_, refl, sym, ap, _∙_, subst}
+use mathlib.Core.Bool.{Bool, true, false, not, cond}
 use mathlib.Core.List.{List, _++_}
 use Prim.Native.Nat.{ℕ, suc, _+_, _≤_, _<_}
 use native.Mathlib.Numerals.{add-one}
@@ -50,6 +50,17 @@ listed-end n i r group s h e c = record {
   where
     sum : r ≡ countBelow n (leads group)
     sum = c ∙ ap (λ (x : ℕ). countBelow x (leads group)) e
+
+-- ---- events that can happen
+-- an event that leads back to its own group
+pub back-is : (can back : Bool) → back ≡ true → true ≡ cond can back true
+back-is true back h = sym h
+back-is false back h = refl
+
+-- and one that does not: it counts if it can happen
+pub away-is : (can back r : Bool) → back ≡ false → r ≡ can → not r ≡ cond can back true
+away-is can back true h e = rw (← e) (sym h)
+away-is can back false h e = rw (← e)
 
 -- ---- verdicts and rows
 module _ (Σ : Alphabet) (rows : List (List ℕ)) (classes group : List ℕ) (s : ℕ) where

@@ -1,5 +1,6 @@
 -- The least states of the groups, and what making the machine of the groups computes of one state.
 use mathlib.Core.Path.{_≡_}
+use mathlib.Core.Bool.{cond}
 use mathlib.Core.List.{List}
 use Prim.Native.Nat.{ℕ, _<_}
 use lib.ListN.{getD}
@@ -18,6 +19,6 @@ pub record Leaders (n : ℕ) (group : List ℕ) (r : ℕ) (least : List ℕ) : T
 unfoldable pub verdictAt : Alphabet → List (List ℕ) → List ℕ → List ℕ → ℕ → ℕ
 verdictAt Σ rows classes group s = verdictByte (getD classes s 0) (closed Σ rows group s)
 
--- its row of successors, where numbers has the number of the group of each state
-unfoldable pub rowAt : ℕ → List (List ℕ) → List ℕ → ℕ → List ℕ
-rowAt w rows numbers s = padded (tabulate w (λ e. getD numbers (entry rows s e) 0))
+-- its row of successors, where numbers has the number of the group of each state; 0 where an event cannot happen
+unfoldable pub rowAt : Alphabet → List (List ℕ) → List ℕ → ℕ → List ℕ
+rowAt Σ rows numbers s = padded (tabulate (Σ .width) (λ e. cond (Σ .possible e) (getD numbers (entry rows s e) 0) 0))

@@ -1,17 +1,20 @@
 // Makes of a machine the smallest one that shows the same: a state for each group of states that no word tells apart.
 ghost use mathlib.Core.Path.{_≡_};
-ghost use mathlib.Core.Bool.{cond};
+ghost use mathlib.Core.Bool.{true, cond};
 ghost use mathlib.Core.List.{List, [], _++_};
-ghost use Prim.Native.Nat.{ℕ, _+_, _≤_, _<_};
+ghost use Prim.Native.Nat.{ℕ, _+_, _^_, _≤_, _<_};
 ghost use lib.ListN.{length, getD, take, drop};
+ghost use lib.Dec.{eqb};
 ghost use Rattle.sequences.specs.Tabulate.{tabulate};
-ghost use Rattle.meaning.specs.Traces.{over, firstEvents};
+ghost use Rattle.meaning.specs.Bytes.{bit};
+ghost use Rattle.meaning.specs.Traces.{masked};
 ghost use Rattle.moore.specs.Counting.{countBelow};
-ghost use Rattle.moore.specs.Grouping.{Machine, leads};
+ghost use Rattle.moore.specs.Grouping.{Machine, entry, together, leads};
 ghost use Rattle.moore.specs.Quotient.{number, closed};
 ghost use Rattle.group_slots.specs.Groups.{Least};
 ghost use Rattle.grouping.specs.Machines.{Leaders, verdictAt, rowAt};
 ghost use Rattle.grouping.specs.Reduction.{Reduction};
+use events::can_happen;
 use events::width;
 use group_slots::joined;
 use group_slots::successor;
@@ -78,15 +81,26 @@ fn list_leaders(group: &[u8; 256], states: usize, least: &mut [u8; 256]) -> usiz
     count
 }
 
-// Whether every event leads from a state back to its own group.
-fn is_closed(rows: &[[u8; 16]; 256], group: &[u8; 256], events: usize, s: usize) -> bool
+// Whether an event leads from a state back to its own group, or cannot happen.
+fn stays(rows: &[[u8; 16]; 256], group: &[u8; 256], mask: u16, s: usize, e: usize) -> bool
+    requires { ⌜ (s < 256) × (e < 16) ⌝ }
+    ensures { λ r. ⌜ r ≡ cond (eqb (bit e mask) 1) (together (now (group .entry)) (entry (now (rows .entry)) s e) s) true ⌝ }
+{
+    let to = successor(rows, s, e);
+    if joined(group, to, s) {
+        return true;
+    }
+    !can_happen(mask, e)
+}
+
+// Whether every event that can happen leads from a state back to its own group.
+fn is_closed(rows: &[[u8; 16]; 256], group: &[u8; 256], events: usize, mask: u16, s: usize) -> bool
     requires { ⌜ (events ≤ 16) × (s < 256) ⌝ }
-    ensures { λ r. ⌜ r ≡ closed (firstEvents events) (now (rows .entry)) (now (group .entry)) s ⌝ }
+    ensures { λ r. ⌜ r ≡ closed (masked events mask) (now (rows .entry)) (now (group .entry)) s ⌝ }
 {
     let mut e: usize = 0;
     while e < events {
-        let to = successor(rows, s, e);
-        if !joined(group, to, s) {
+        if !stays(rows, group, mask, s, e) {
             return false;
         }
         e += 1;
@@ -100,16 +114,17 @@ fn verdict_of(
     group: &[u8; 256],
     classes: &[u8; 256],
     events: usize,
+    mask: u16,
     s: usize,
 ) -> u8
     requires { ⌜ (events ≤ 16) × (s < 256) ⌝ }
-    ensures { λ r. ⌜ r ≡ verdictAt (firstEvents events) (now (rows .entry)) (now (classes .entry)) (now (group .entry)) s ⌝ }
+    ensures { λ r. ⌜ r ≡ verdictAt (masked events mask) (now (rows .entry)) (now (classes .entry)) (now (group .entry)) s ⌝ }
 {
     let class = classes[s];
     if class != 0 {
         return class;
     }
-    if is_closed(rows, group, events, s) {
+    if is_closed(rows, group, events, mask, s) {
         return 3;
     }
     0
@@ -121,31 +136,49 @@ fn put_verdicts(
     group: &[u8; 256],
     classes: &[u8; 256],
     events: usize,
+    mask: u16,
     least: &[u8; 256],
     count: usize,
     verdicts: &mut [u8; 256],
 )
     requires { ⌜ (events ≤ 16) × (count ≤ 256) × (length (now verdicts) ≡ 256) ⌝ }
-    ensures { λ _. ⌜ now (verdicts .exit) ≡ tabulate count (λ q. verdictAt (firstEvents events) (now (rows .entry)) (now (classes .entry)) (now (group .entry)) (getD (now (least .entry)) q 0)) ++ drop count (now (verdicts .entry)) ⌝ }
+    ensures { λ _. ⌜ now (verdicts .exit) ≡ tabulate count (λ q. verdictAt (masked events mask) (now (rows .entry)) (now (classes .entry)) (now (group .entry)) (getD (now (least .entry)) q 0)) ++ drop count (now (verdicts .entry)) ⌝ }
 {
     let mut q: usize = 0;
     while q < count {
         let s = wide(least[q]);
-        verdicts[q] = verdict_of(rows, group, classes, events, s);
+        verdicts[q] = verdict_of(rows, group, classes, events, mask, s);
         q += 1;
     }
 }
 
-// The row of a group, by its least state: the numbers of the groups that its successors are in.
-fn row_of(rows: &[[u8; 16]; 256], numbers: &[u8; 256], events: usize, s: usize) -> [u8; 16]
+// The number of the group that an event leads to from a state; 0 if it cannot happen.
+fn number_at(rows: &[[u8; 16]; 256], numbers: &[u8; 256], mask: u16, s: usize, e: usize) -> u8
+    requires { ⌜ (s < 256) × (e < 16) ⌝ }
+    ensures { λ r. ⌜ r ≡ cond (eqb (bit e mask) 1) (getD (now (numbers .entry)) (entry (now (rows .entry)) s e) 0) 0 ⌝ }
+{
+    if can_happen(mask, e) {
+        let next = successor(rows, s, e);
+        return numbers[next];
+    }
+    0
+}
+
+// The row of a group, by its least state: the numbers of the groups that its successors are in, and 0 where an event cannot happen.
+fn row_of(
+    rows: &[[u8; 16]; 256],
+    numbers: &[u8; 256],
+    events: usize,
+    mask: u16,
+    s: usize,
+) -> [u8; 16]
     requires { ⌜ (events ≤ 16) × (s < 256) ⌝ }
-    ensures { λ r. ⌜ r ≡ rowAt events (now (rows .entry)) (now (numbers .entry)) s ⌝ }
+    ensures { λ r. ⌜ r ≡ rowAt (masked events mask) (now (rows .entry)) (now (numbers .entry)) s ⌝ }
 {
     let mut row = [0u8; 16];
     let mut e: usize = 0;
     while e < events {
-        let next = successor(rows, s, e);
-        row[e] = numbers[next];
+        row[e] = number_at(rows, numbers, mask, s, e);
         e += 1;
     }
     row
@@ -156,17 +189,18 @@ fn put_rows(
     rows: &[[u8; 16]; 256],
     numbers: &[u8; 256],
     events: usize,
+    mask: u16,
     least: &[u8; 256],
     count: usize,
     to: &mut [[u8; 16]; 256],
 )
     requires { ⌜ (events ≤ 16) × (count ≤ 256) × (length {A = List ℕ} (now to) ≡ 256) ⌝ }
-    ensures { λ _. ⌜ now (to .exit) ≡ tabulate count (λ q. rowAt events (now (rows .entry)) (now (numbers .entry)) (getD (now (least .entry)) q 0)) ++ drop count (now (to .entry)) ⌝ }
+    ensures { λ _. ⌜ now (to .exit) ≡ tabulate count (λ q. rowAt (masked events mask) (now (rows .entry)) (now (numbers .entry)) (getD (now (least .entry)) q 0)) ++ drop count (now (to .entry)) ⌝ }
 {
     let mut q: usize = 0;
     while q < count {
         let s = wide(least[q]);
-        to[q] = row_of(rows, numbers, events, s);
+        to[q] = row_of(rows, numbers, events, mask, s);
         q += 1;
     }
 }
@@ -175,6 +209,7 @@ fn put_rows(
 // the front of the arrays. Classes are 0 (neither), 1 (satisfied) or 2 (violated).
 pub fn reduce(
     signals: u8,
+    mask: u16,
     states: u16,
     classes: &[u8; 256],
     rows: [[u8; 16]; 256],
@@ -182,17 +217,26 @@ pub fn reduce(
     to: &mut [[u8; 16]; 256],
 ) -> u16
     requires { ⌜ (signals ≤ 4) × (states ≤ 256) ⌝ }
-    requires { ⌜ Machine (over signals) states rows (now classes) ⌝ }
+    requires { ⌜ Machine (masked (2 ^ signals) mask) states rows (now classes) ⌝ }
     requires { ⌜ (length (now verdicts) ≡ 256) × (length {A = List ℕ} (now to) ≡ 256) ⌝ }
-    ensures { λ r. ⌜ Reduction (over signals) states rows (now (classes .entry)) (now (verdicts .entry)) (now (to .entry)) r (now (verdicts .exit)) (now (to .exit)) ⌝ }
+    ensures { λ r. ⌜ Reduction (masked (2 ^ signals) mask) states rows (now (classes .entry)) (now (verdicts .entry)) (now (to .entry)) r (now (verdicts .exit)) (now (to .exit)) ⌝ }
 {
     let events = width(signals);
     let n = wide16(states);
-    let group = groups(rows, classes, n, events);
+    let group = groups(rows, classes, n, events, mask);
     let number = numbers(&group, n);
     let mut least = [0u8; 256];
     let count = list_leaders(&group, n, &mut least);
-    put_verdicts(&rows, &group, classes, events, &least, count, verdicts);
-    put_rows(&rows, &number, events, &least, count, to);
+    put_verdicts(
+        &rows,
+        &group,
+        classes,
+        events,
+        mask,
+        &least,
+        count,
+        verdicts,
+    );
+    put_rows(&rows, &number, events, mask, &least, count, to);
     count as u16
 }

@@ -1,2 +1,3 @@
 pub mod Laws
 pub mod Front
+pub mod Clearing

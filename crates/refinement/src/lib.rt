@@ -1,12 +1,17 @@
 // Rounds that split the groups of a machine's states until none splits: those left together are those that no word tells apart. A group is named by
-// its least state.
+// its least state. A word has events that can happen only.
 ghost use mathlib.Core.Path.{_≡_};
-ghost use Prim.Native.Nat.{_≤_, _<_};
-ghost use lib.ListN.{replicate, take};
+ghost use mathlib.Core.List.{List};
+ghost use Prim.Native.Nat.{ℕ, _≤_, _<_};
+ghost use lib.ListN.{length, replicate, take};
+ghost use lib.Dec.{eqb};
 ghost use Rattle.sequences.specs.Tabulate.{leastBelow};
-ghost use Rattle.meaning.specs.Traces.{firstEvents};
+ghost use Rattle.meaning.specs.Bytes.{bit};
+ghost use Rattle.meaning.specs.Traces.{masked};
 ghost use Rattle.moore.specs.Grouping.{together, firstGroups, nextGroups, sameBelow, rounds, grouping};
-ghost use Rattle.group_slots.specs.Groups.{RowsBelow, Least};
+ghost use Rattle.group_slots.specs.Groups.{unmasked, RowsBelow, Least};
+ghost use Rattle.refinement.specs.Rows.{Column, Cleared};
+use events::can_happen;
 use group_slots::least_by_slot;
 use group_slots::slot_of;
 use wire::wide;
@@ -19,18 +24,18 @@ fn no_slots() -> [u8; 1024]
 }
 
 // One round: each state with the least that is left with it. A slot has the last state so far that belongs there, or 0.
-fn round(rows: [[u8; 16]; 256], group: &[u8; 256], states: usize, events: usize) -> [u8; 256]
+fn round(rows: &[[u8; 16]; 256], group: &[u8; 256], states: usize, events: usize) -> [u8; 256]
     requires { ⌜ (events ≤ 16) × (states ≤ 256) ⌝ }
     requires { ⌜ Least states (now group) ⌝ }
-    ensures { λ r. ⌜ take states r ≡ nextGroups (firstEvents events) states rows (now (group .entry)) ⌝ }
+    ensures { λ r. ⌜ take states r ≡ nextGroups (unmasked events) states (now (rows .entry)) (now (group .entry)) ⌝ }
 {
     let mut next = [0u8; 256];
     let mut slots = no_slots();
     let mut i: usize = 0;
     while i < states {
-        let slot = slot_of(&rows, group, events, i);
+        let slot = slot_of(rows, group, events, i);
         let j = wide(slots[slot]);
-        let least = least_by_slot(&rows, group, events, &next, j, i);
+        let least = least_by_slot(rows, group, events, &next, j, i);
         next[i] = least;
         slots[slot] = i as u8;
         i += 1;
@@ -54,11 +59,11 @@ fn same_groups(a: &[u8; 256], b: &[u8; 256], states: usize) -> bool
 }
 
 // Rounds until one changes nothing; as many as there are states are enough.
-fn refined(rows: [[u8; 16]; 256], first: [u8; 256], states: usize, events: usize) -> [u8; 256]
+fn refined(rows: &[[u8; 16]; 256], first: [u8; 256], states: usize, events: usize) -> [u8; 256]
     requires { ⌜ (events ≤ 16) × (states ≤ 256) ⌝ }
-    requires { ⌜ RowsBelow states events states rows ⌝ }
+    requires { ⌜ RowsBelow states (unmasked events) states (now rows) ⌝ }
     requires { ⌜ Least states first ⌝ }
-    ensures { λ r. ⌜ take states r ≡ rounds states (firstEvents events) states rows (take states first) ⌝ }
+    ensures { λ r. ⌜ take states r ≡ rounds states (unmasked events) states (now (rows .entry)) (take states first) ⌝ }
 {
     let mut group = first;
     let mut left: usize = states;
@@ -102,12 +107,48 @@ fn first_groups(classes: &[u8; 256], states: usize) -> [u8; 256]
     group
 }
 
+// Leads an event from each of the first states to state 0, unless it can happen.
+fn clear_event(rows: &mut [[u8; 16]; 256], states: usize, mask: u16, event: usize)
+    requires { ⌜ (states ≤ 256) × (event < 16) × (length {A = List ℕ} (now rows) ≡ 256) ⌝ }
+    ensures { λ _. ⌜ Column (eqb (bit event mask) 1) states event (now (rows .entry)) (now (rows .exit)) ⌝ }
+{
+    if can_happen(mask, event) {
+        return;
+    }
+    let mut s: usize = 0;
+    while s < states {
+        rows[s][event] = 0;
+        s += 1;
+    }
+}
+
+// Leads each event that cannot happen to state 0: where all states go on to one, none are told apart. So the rounds need not ask the mask at each
+// event of each state.
+fn clear_impossible(rows: &mut [[u8; 16]; 256], states: usize, events: usize, mask: u16)
+    requires { ⌜ (events ≤ 16) × (states ≤ 256) × (length {A = List ℕ} (now rows) ≡ 256) ⌝ }
+    ensures { λ _. ⌜ Cleared (masked events mask) events states (now (rows .entry)) (now (rows .exit)) ⌝ }
+{
+    let mut e: usize = 0;
+    while e < events {
+        clear_event(rows, states, mask, e);
+        e += 1;
+    }
+}
+
 // For each state the least of its group.
-pub fn groups(rows: [[u8; 16]; 256], classes: &[u8; 256], states: usize, events: usize) -> [u8; 256]
+pub fn groups(
+    rows: [[u8; 16]; 256],
+    classes: &[u8; 256],
+    states: usize,
+    events: usize,
+    mask: u16,
+) -> [u8; 256]
     requires { ⌜ (events ≤ 16) × (states ≤ 256) ⌝ }
-    requires { ⌜ RowsBelow states events states rows ⌝ }
-    ensures { λ r. ⌜ take states r ≡ grouping (firstEvents events) states rows (now (classes .entry)) ⌝ }
+    requires { ⌜ RowsBelow states (masked events mask) states rows ⌝ }
+    ensures { λ r. ⌜ take states r ≡ grouping (masked events mask) states rows (now (classes .entry)) ⌝ }
 {
     let first = first_groups(classes, states);
-    refined(rows, first, states, events)
+    let mut possible = rows;
+    clear_impossible(&mut possible, states, events, mask);
+    refined(&possible, first, states, events)
 }

@@ -5,8 +5,8 @@ use mathlib.Core.Path.{_≡_, sym, ap, _∙_}
 use Prim.Native.Nat.{ℕ}
 use denote.Ref.{now}
 use Rattle.sequences.specs.Tabulate.{leastBelow}
-use Rattle.meaning.specs.Traces.{firstEvents}
 use Rattle.moore.specs.Grouping.{sameStep}
+use Rattle.group_slots.specs.Groups.{unmasked}
 use Rattle.group_slots.proofs.Slots.{left-none, left-same}
 use Rattle.group_slots.proofs.least_by_slot.Statement.{statement}
 use Rattle.group_slots.proofs.least_by_slot.Tie as tie
@@ -15,7 +15,7 @@ returns : tie.Need-returns
 returns c =
     let a = c .before .args in
     let first : 0 ≡ a .i = omega (arith, c .if1 .taken) in
-    ap (λ (i : ℕ). leastBelow i (λ k. sameStep (firstEvents (a .events)) (now (a .rows)) (now (a .group)) k (a .i))) first
+    ap (λ (i : ℕ). leastBelow i (λ k. sameStep (unmasked (a .events)) (now (a .rows)) (now (a .group)) k (a .i))) first
 
 same-step-requires : tie.Need-same-step-requires
 same-step-requires c κs = let h = c .before .pre .1 .1 .1 .low in (c .before .pre .0 .0, omega arith, c .before .pre .0 .1)

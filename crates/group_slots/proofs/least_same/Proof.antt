@@ -4,15 +4,15 @@ use borrow.Author.Needs.{needs}
 use mathlib.Core.Path.{sym, _∙_}
 use Prim.Native.Nat.{_-_, _≤_}
 use denote.Ref.{now}
-use Rattle.meaning.specs.Traces.{firstEvents}
 use Rattle.sequences.proofs.Loops.{Missed, missed-more, missed-found, missed-end}
 use Rattle.moore.specs.Grouping.{sameStep}
+use Rattle.group_slots.specs.Groups.{unmasked}
 use Rattle.group_slots.proofs.Comparing.{missed-before}
 use Rattle.group_slots.proofs.least_same.Statement.{statement}
 use Rattle.group_slots.proofs.least_same.Tie as tie
 
 abbrev Inv-loop : tie.InvT-loop
-Inv-loop rows group events i j₀ j = (j ≤ i) × Missed j (λ k. sameStep (firstEvents events) rows group k i)
+Inv-loop rows group events i j₀ j = (j ≤ i) × Missed j (λ k. sameStep (unmasked events) rows group k i)
 
 abbrev μ-loop : tie.MeasureT-loop
 μ-loop rows group events i j₀ j = i - j
@@ -24,7 +24,7 @@ wide-requires : tie.Need-wide-requires Inv-loop μ-loop
 wide-requires c κs = search needs
 
 loop-holds : tie.Need-loop-holds Inv-loop μ-loop
-loop-holds c = let s = c .before .before in (omega (arith, c .wide .ensures .0, s .pre .1 .least (s .args .i) (omega arith)), missed-before (firstEvents (s .args .events)) (now (s .args .rows)) (now (s .args .group)) (s .args .i) (c .wide .result) (s .pre .1) (c .wide .ensures .0))
+loop-holds c = let s = c .before .before in (omega (arith, c .wide .ensures .0, s .pre .1 .least (s .args .i) (omega arith)), missed-before (unmasked (s .args .events)) (now (s .args .rows)) (now (s .args .group)) (s .args .i) (c .wide .result) (s .pre .1) (c .wide .ensures .0))
 
 same-step-requires : tie.Need-same-step-requires Inv-loop μ-loop
 same-step-requires c κs = search needs

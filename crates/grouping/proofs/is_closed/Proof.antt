@@ -3,38 +3,36 @@ use native.Mathlib.Omega.{arith}
 use borrow.Author.Needs.{needs}
 use mathlib.Core.Path.{sym, _∙_}
 use borrow.Author.Tests.{not-true, not-false}
-use mathlib.Core.Bool.{Bool}
+use mathlib.Core.Bool.{Bool, true, cond}
 use Prim.Native.Nat.{ℕ, _-_, _≤_}
 use denote.Ref.{now}
+use lib.Dec.{eqb}
 use Rattle.sequences.proofs.Loops.{Passed, passed-none, passed-more, passed-all, all-not}
+use Rattle.meaning.specs.Bytes.{bit}
 use Rattle.moore.specs.Grouping.{entry, together}
 use Rattle.moore.specs.Quotient.{closed}
 use Rattle.grouping.proofs.is_closed.Statement.{statement}
 use Rattle.grouping.proofs.is_closed.Tie as tie
 
 abbrev Inv-loop : tie.InvT-loop
-Inv-loop rows group events s e₀ e = (e ≤ events) × Passed e (λ k. together group (entry rows s k) s)
+Inv-loop rows group events mask s e₀ e = (e ≤ events) × Passed e (λ k. cond (eqb (bit k mask) 1) (together group (entry rows s k) s) true)
 
 abbrev μ-loop : tie.MeasureT-loop
-μ-loop rows group events s e₀ e = events - e
+μ-loop rows group events mask s e₀ e = events - e
 
 loop-holds : tie.Need-loop-holds Inv-loop μ-loop
 loop-holds c = (omega arith, passed-none)
 
-successor-requires : tie.Need-successor-requires Inv-loop μ-loop
-successor-requires c κs = search needs
-
-joined-requires : tie.Need-joined-requires Inv-loop μ-loop
-joined-requires c κs = search needs
+stays-requires : tie.Need-stays-requires Inv-loop μ-loop
+stays-requires c κs = search needs
 
 returns : tie.Need-returns Inv-loop μ-loop
 unfolding closed
 returns c =
-    let in-loop = c .before .before .before in
+    let in-loop = c .before .before in
     let a = in-loop .before .before .args in
-    let stays : ℕ → Bool = λ k. together (now (a .group)) (entry (now (a .rows)) (a .s) k) (a .s) in
-    sym (all-not (a .events) stays (in-loop .before .loop .e) (in-loop .loop-test .taken)
-    (rw (← c .before .before .successor .ensures .0) (sym (c .before .joined .ensures) ∙ not-true _ (c .if1 .taken))))
+    let stays : ℕ → Bool = λ k. cond (eqb (bit k (a .mask)) 1) (together (now (a .group)) (entry (now (a .rows)) (a .s) k) (a .s)) true in
+    sym (all-not (a .events) stays (in-loop .before .loop .e) (in-loop .loop-test .taken) (sym (c .before .stays .ensures) ∙ not-true _ (c .if1 .taken)))
 
 add-e : tie.Need-add-e Inv-loop μ-loop
 add-e c = search needs
@@ -43,7 +41,7 @@ loop-less : tie.Need-loop-less Inv-loop μ-loop
 loop-less c = search needs
 
 loop-again : tie.Need-loop-again Inv-loop μ-loop
-loop-again c = (omega arith, passed-more (c .before .before .before .before .loop .inv .1) (rw (← c .before .before .successor .ensures .0) (sym (c .before .joined .ensures) ∙ not-false _ (c .if1 .left))))
+loop-again c = (omega arith, passed-more (c .before .before .before .loop .inv .1) (sym (c .before .stays .ensures) ∙ not-false _ (c .if1 .left)))
 
 returns-2 : tie.Need-returns-2 Inv-loop μ-loop
 unfolding closed
@@ -56,8 +54,7 @@ is-closed-spec =
     Inv-loop
     μ-loop
     loop-holds
-    successor-requires
-    joined-requires
+    stays-requires
     returns
     add-e
     loop-less

@@ -5,17 +5,17 @@ use mathlib.Core.Path.{_∙_, ap}
 use Prim.Native.Nat.{_-_, _≤_}
 use denote.Ref.{now}
 use lib.ListN.{getD}
-use Rattle.meaning.specs.Traces.{firstEvents}
+use Rattle.meaning.specs.Traces.{masked}
 use Rattle.sequences.proofs.Loops.{Filled, filled-none, filled-more, filled-to}
 use Rattle.grouping.specs.Machines.{verdictAt}
 use Rattle.grouping.proofs.put_verdicts.Statement.{statement}
 use Rattle.grouping.proofs.put_verdicts.Tie as tie
 
 abbrev Inv-loop : tie.InvT-loop
-Inv-loop rows group classes events least count verdicts₀ q₀ verdicts q = (q ≤ count) × Filled q (λ k. verdictAt (firstEvents events) rows classes group (getD least k 0)) verdicts₀ verdicts
+Inv-loop rows group classes events mask least count verdicts₀ q₀ verdicts q = (q ≤ count) × Filled q (λ k. verdictAt (masked events mask) rows classes group (getD least k 0)) verdicts₀ verdicts
 
 abbrev μ-loop : tie.MeasureT-loop
-μ-loop rows group classes events least count verdicts₀ q₀ verdicts q = count - q
+μ-loop rows group classes events mask least count verdicts₀ q₀ verdicts q = count - q
 
 loop-holds : tie.Need-loop-holds Inv-loop μ-loop
 loop-holds c = (omega arith, filled-none)
@@ -42,7 +42,7 @@ loop-again : tie.Need-loop-again Inv-loop μ-loop
 loop-again c =
     let at = c .before .before .before .before in
     let a = at .before .args in
-    let verdict = ap (verdictAt (firstEvents (a .events)) (now (a .rows)) (now (a .classes)) (now (a .group))) (c .before .wide .ensures .0) in
+    let verdict = ap (verdictAt (masked (a .events) (a .mask)) (now (a .rows)) (now (a .classes)) (now (a .group))) (c .before .wide .ensures .0) in
     (omega arith, filled-more (at .loop .inv .1) (c .verdict-of .ensures ∙ verdict) (omega arith))
 
 returns : tie.Need-returns Inv-loop μ-loop

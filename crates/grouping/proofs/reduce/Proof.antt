@@ -1,17 +1,18 @@
 -- `grouping::reduce` meets its contract.
 use native.Mathlib.Omega.{arith}
 use borrow.Author.Needs.{needs}
-use Prim.Native.Nat.{_≤_}
+use mathlib.Core.Path.{ap}
+use Prim.Native.Nat.{ℕ, _^_, _≤_}
 use denote.Ref.{now}
-use Rattle.meaning.specs.Traces.{firstEvents}
+use Rattle.meaning.specs.Traces.{masked}
 use Rattle.moore.specs.Grouping.{Machine}
 use Rattle.grouping.proofs.Reductions.{machine-at, rows-in, group-least, leaders-fewer, reduction}
 use Rattle.grouping.proofs.reduce.Statement.{statement}
 use Rattle.grouping.proofs.reduce.Tie as tie
 
 -- the machine, with the counts as the code has them
-machine : (c : tie.After-wide16) → Machine (firstEvents (c .before .width .result)) (c .wide16 .result) (c .before .before .args .t4) (now (c .before .before .args .classes))
-machine c = let s = c .before .before in machine-at (s .args .signals) (c .before .width .result) (c .wide16 .result) (c .before .width .ensures .0) (c .wide16 .ensures .0) (s .pre .1 .0)
+machine : (c : tie.After-wide16) → Machine (masked (c .before .width .result) (c .before .before .args .mask)) (c .wide16 .result) (c .before .before .args .t5) (now (c .before .before .args .classes))
+machine c = let s = c .before .before in machine-at (s .args .signals) (s .args .mask) (c .before .width .result) (c .wide16 .result) (c .before .width .ensures .0) (c .wide16 .ensures .0) (s .pre .1 .0)
 
 few : (c : tie.After-wide16) → c .wide16 .result ≤ 256
 few c = omega (arith, c .wide16 .ensures .0)
@@ -65,13 +66,13 @@ returns c =
     (l .list-leaders .ensures)
     (n .numbers .result)
     (n .numbers .ensures)
-    (s .args .signals)
+    (masked (2 ^ s .args .signals) (s .args .mask))
     (s .args .states)
     (now (s .args .verdicts))
-    (c .before .before .before .before .before .put-verdicts .last .1 .1 .1 .1 .1 .1 .0)
+    (c .before .before .before .before .before .put-verdicts .last .1 .1 .1 .1 .1 .1 .1 .0)
     (now (s .args .to))
-    (c .put-rows .last .1 .1 .1 .1 .1 .0)
-    (w .before .width .ensures .0)
+    (c .put-rows .last .1 .1 .1 .1 .1 .1 .0)
+    (ap (λ (k : ℕ). masked k (s .args .mask)) (w .before .width .ensures .0))
     (w .wide16 .ensures .0)
     (c .before .before .before .before .before .put-verdicts .ensures)
     (c .put-rows .ensures)

@@ -3,17 +3,17 @@ use native.Mathlib.Omega.{arith}
 use borrow.Author.Needs.{needs}
 use mathlib.Core.Path.{_≡_, refl, sym, _∙_}
 use Prim.Native.Nat.{_-_, _≤_}
+use denote.Ref.{now}
 use lib.ListN.{take}
-use Rattle.meaning.specs.Traces.{firstEvents}
 use Rattle.moore.specs.Grouping.{rounds}
-use Rattle.group_slots.specs.Groups.{Least}
+use Rattle.group_slots.specs.Groups.{unmasked, Least}
 use Rattle.refinement.proofs.Laws.{next-least}
 use Rattle.refinement.proofs.Front.{rounds-stop, rounds-step}
 use Rattle.refinement.proofs.refined.Statement.{statement}
 use Rattle.refinement.proofs.refined.Tie as tie
 
 abbrev Inv-loop : tie.InvT-loop
-Inv-loop rows states events group₀ left₀ group left = (left ≤ states) × Least states group × (rounds left (firstEvents events) states rows (take states group) ≡ rounds states (firstEvents events) states rows (take states group₀))
+Inv-loop rows states events group₀ left₀ group left = (left ≤ states) × Least states group × (rounds left (unmasked events) states rows (take states group) ≡ rounds states (unmasked events) states rows (take states group₀))
 
 abbrev μ-loop : tie.MeasureT-loop
 μ-loop rows states events group₀ left₀ group left = left
@@ -35,7 +35,7 @@ returns c =
     let a = start .args in
     let round = c .before .before .before .before .round in
     let same = sym (c .before .same-groups .ensures) ∙ c .if1 .taken in
-    sym (rounds-stop (a .states) (a .events) (a .rows) (start .pre .1 .0) (loop .group) (round .result) (round .ensures) (loop .left) (in-loop .loop-test .taken) same) ∙ loop .inv .2
+    sym (rounds-stop (a .states) (unmasked (a .events)) (now (a .rows)) (start .pre .1 .0) (loop .group) (round .result) (round .ensures) (loop .left) (in-loop .loop-test .taken) same) ∙ loop .inv .2
 
 sub-left : tie.Need-sub-left Inv-loop μ-loop
 sub-left c = search needs
@@ -50,8 +50,8 @@ loop-again c =
     let a = start .args in
     let round = c .before .before .before .before .round in
     let other = sym (c .before .same-groups .ensures) ∙ c .if1 .left in
-    let least = next-least (firstEvents (a .events)) (a .states) (a .rows) (loop .group) (round .result) (round .ensures) in
-    let step = rounds-step (a .states) (a .events) (a .rows) (start .pre .1 .0) (loop .group) (round .result) (round .ensures) (loop .left) (loop .left - 1) (omega arith) other in
+    let least = next-least (unmasked (a .events)) (a .states) (now (a .rows)) (loop .group) (round .result) (round .ensures) in
+    let step = rounds-step (a .states) (unmasked (a .events)) (now (a .rows)) (start .pre .1 .0) (loop .group) (round .result) (round .ensures) (loop .left) (loop .left - 1) (omega arith) other in
     (omega arith, least, sym step ∙ loop .inv .2)
 
 returns-2 : tie.Need-returns-2 Inv-loop μ-loop

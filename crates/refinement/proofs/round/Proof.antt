@@ -2,10 +2,10 @@
 use native.Mathlib.Omega.{arith}
 use borrow.Author.Needs.{needs}
 use Prim.Native.Nat.{_-_, _≤_, _<_}
-use Rattle.meaning.specs.Traces.{firstEvents}
 use Rattle.sequences.specs.Tabulate.{leastBelow}
 use Rattle.sequences.proofs.Loops.{Filled, filled-none, filled-more}
 use Rattle.moore.specs.Grouping.{sameStep, nextGroups}
+use Rattle.group_slots.specs.Groups.{unmasked}
 use Rattle.group_slots.specs.Slots.{Slotted}
 use Rattle.refinement.proofs.Laws.{filled-take}
 use Rattle.group_slots.proofs.Slots.{left-below, in-slot, slotted-none, slotted-more}
@@ -13,10 +13,10 @@ use Rattle.refinement.proofs.round.Statement.{statement}
 use Rattle.refinement.proofs.round.Tie as tie
 
 abbrev Inv-loop : tie.InvT-loop
-Inv-loop group states events rows next₀ slots₀ i₀ next slots i = (i ≤ states) × Filled i (λ k. leastBelow k (λ j. sameStep (firstEvents events) rows group j k)) next₀ next × Slotted i events rows group slots
+Inv-loop rows group states events next₀ slots₀ i₀ next slots i = (i ≤ states) × Filled i (λ k. leastBelow k (λ j. sameStep (unmasked events) rows group j k)) next₀ next × Slotted i events rows group slots
 
 abbrev μ-loop : tie.MeasureT-loop
-μ-loop group states events rows next₀ slots₀ i₀ next slots i = states - i
+μ-loop rows group states events next₀ slots₀ i₀ next slots i = states - i
 
 no-slots-requires : tie.Need-no-slots-requires Inv-loop μ-loop
 no-slots-requires c κs = search needs
@@ -28,17 +28,17 @@ slot-of-requires : tie.Need-slot-of-requires Inv-loop μ-loop
 slot-of-requires c κs = search needs
 
 array-read-wide : tie.Need-array-read-wide Inv-loop μ-loop
-array-read-wide c = omega (arith, c .before .before .before .loop .inv .2 .long, c .slot-of .ensures .1)
+array-read-wide c = omega (arith, c .before .before .loop .inv .2 .long, c .slot-of .ensures .1)
 
 wide-requires : tie.Need-wide-requires Inv-loop μ-loop
 wide-requires c κs = search needs
 
 least-by-slot-requires : tie.Need-least-by-slot-requires Inv-loop μ-loop
 least-by-slot-requires c κs =
-    let wide = c .before .before .wide in
-    let slot-of = c .before .before .before .slot-of in
-    let loop = c .before .before .before .before .before .before .loop in
-    let start = c .before .before .before .before .before .before .before .before in
+    let wide = c .before .wide in
+    let slot-of = c .before .before .slot-of in
+    let loop = c .before .before .before .before .loop in
+    let start = c .before .before .before .before .before .before in
     let slotted = in-slot _ _ _ (loop .i) (slot-of .result) (wide .result) (loop .slots) (loop .inv .2) (slot-of .ensures .0) (slot-of .ensures .1) (wide .ensures .0) in
     ((omega arith, omega arith), (record { least = λ k l. start .pre .1 .least k (omega arith) }, (left-below _ _ _ (loop .i) (loop .inv .1), slotted)))
 
@@ -49,7 +49,7 @@ cast-slots : tie.Need-cast-slots Inv-loop μ-loop
 cast-slots c = search needs
 
 array-write-slots : tie.Need-array-write-slots Inv-loop μ-loop
-array-write-slots c = omega (arith, c .before .before .before .before .before .before .before .loop .inv .2 .long, c .before .before .before .before .slot-of .ensures .1)
+array-write-slots c = omega (arith, c .before .before .before .before .before .loop .inv .2 .long, c .before .before .before .slot-of .ensures .1)
 
 add-i : tie.Need-add-i Inv-loop μ-loop
 add-i c = search needs
@@ -59,8 +59,8 @@ loop-less c = search needs
 
 loop-again : tie.Need-loop-again Inv-loop μ-loop
 loop-again c =
-    let slot-of = c .before .before .before .before .slot-of in
-    let loop = c .before .before .before .before .before .before .before .loop in
+    let slot-of = c .before .before .before .slot-of in
+    let loop = c .before .before .before .before .before .loop in
     let filled = filled-more (loop .inv .1) (c .least-by-slot .ensures) (let l : loop .i < 256 = omega arith in search needs) in
     (omega arith, filled, slotted-more _ _ _ (loop .i) (slot-of .result) (loop .slots) (loop .inv .2) (slot-of .ensures .0) (slot-of .ensures .1))
 
