@@ -1,19 +1,22 @@
 -- Laws of lists of events.
-use mathlib.Core.Path.{_≡_, refl}
+use mathlib.Core.Path.{_≡_, refl, ap}
 use mathlib.Core.List.{List}
-use mathlib.Core.Bool.{Bool, true, false, cond}
-use Prim.Native.Nat.{ℕ, zero, suc, _+_, _^_, _≤_, _<_}
+use mathlib.Core.Bool.{Bool, true, false, cond, not, _&&_}
+use Prim.Native.Nat.{ℕ, zero, suc, _+_, _≤_, _<_}
 use native.Mathlib.Nat.{not-suc-le-zero}
 use native.Mathlib.Omega.{arith}
 use native.Mathlib.Decide.{decLt}
-use borrow.Author.Tests.{lt-leb, leb-false}
-use lib.Dec.{leb}
+use borrow.Author.Tests.{ltb-true, not-false}
+use lib.Dec.{eqb}
 use lib.ListN.{length, getD}
-use lib.Pow.{pow-mono}
-use Rattle.sequences.specs.Tabulate.{leastBelow}
-use Rattle.sequences.proofs.Loops.{Missed}
+use Rattle.sequences.specs.Tabulate.{allBelow, leastBelow}
+use Rattle.sequences.proofs.Loops.{Missed, all-at}
+use Rattle.sequences.proofs.Pointwise.{all-is, least-same}
+use Rattle.meaning.specs.Bytes.{bit}
+use Rattle.meaning.specs.Traces.{Alphabet, isEvent}
 use Rattle.meaning.specs.Runs.{firstBad}
 use Rattle.event_lists.specs.Bounds.{NoneAbove}
+use Rattle.event_lists.specs.Masks.{inMask, allIn, firstOutside}
 
 -- events that are not above a number
 pub above-none : {es : List ℕ} {m : ℕ} → NoneAbove 0 es m
@@ -26,8 +29,14 @@ above-more {n} {es} k h p q = record { under = λ i l. go i (decLt i n) l }
     go i (yes a) l = omega (arith, h .under i a, p)
     go i (no a) l = let e : i ≡ n = omega (arith, a, l) in rw e q
 
-pub above-missed : {n : ℕ} {es : List ℕ} {m : ℕ} (P : ℕ) → NoneAbove n es m → m < 2 ^ P → Missed n (λ i. leb (2 ^ P) (getD es i 0))
-above-missed {n} {es} P h l = record { none = λ i b. lt-leb (2 ^ P) (getD es i 0) (omega (arith, h .under i b, l)) }
+-- below a number up to which a mask has every event, all are in it
+pub above-in : {es : List ℕ} {top : ℕ} (m n : ℕ) → NoneAbove (length es) es top → allBelow n (λ e. eqb (bit e m) 1) ≡ true → top < n → allIn m es ≡ true
+above-in {es} m n h full l =
+    all-is (length es) (inMask m es) (λ i b. all-at n (λ e. eqb (bit e m) 1) full (getD es i 0) (omega (arith, h .under i b)))
+
+-- where all are in it, none is outside
+pub none-outside : (m : ℕ) (es : List ℕ) → allIn m es ≡ true → Missed (length es) (λ i. not (inMask m es i))
+none-outside m es h = record { none = λ i l. ap not (all-at (length es) (inMask m es) h i l) }
 
 -- where no index passes a test, the least is the bound
 least-none : (n : ℕ) (p : ℕ → Bool) → n ≤ leastBelow n p → (i : ℕ) → i < n → p i ≡ false
@@ -40,9 +49,19 @@ least-none (suc n) p h i l = go (p zero) refl h i l (λ m. least-none n (λ k. p
     go false e g zero m r = e
     go false e g (suc j) m r = r (omega (arith, g)) j (omega (arith, m))
 
--- a list with no event that is none
-pub all-events : (P : ℕ) (es : List ℕ) → length es ≤ firstBad P es → (i : ℕ) → i < length es → getD es i 0 < 2 ^ P
-all-events P es h i l = leb-false (2 ^ P) (getD es i 0) (least-none (length es) (λ k. leb (2 ^ P) (getD es k 0)) h i l)
+module _ (Σ : Alphabet) (es : List ℕ) where
+  -- a mask that has exactly the events that can happen finds the first that cannot
+  pub outside-bad : (m : ℕ) → ((e : ℕ) → eqb (bit e m) 1 ≡ isEvent Σ e) → firstOutside m es ≡ firstBad Σ es
+  outside-bad m h = least-same (length es) (λ i. not (inMask m es i)) (λ i. not (isEvent Σ (getD es i 0))) (λ i l. ap not (h (getD es i 0)))
 
-pub none-above : (P : ℕ) (es : List ℕ) → P ≤ 4 → length es ≤ firstBad P es → NoneAbove (length es) es 15
-none-above P es f h = record { under = λ i l. omega (arith, all-events P es h i l, pow-mono {i = P} {j = 4} f) }
+  -- a list of events that can all happen
+  module _ (h : length es ≤ firstBad Σ es) where
+    pub all-events : (i : ℕ) → i < length es → isEvent Σ (getD es i 0) ≡ true
+    all-events i l = not-false (isEvent Σ (getD es i 0)) (least-none (length es) (λ k. not (isEvent Σ (getD es k 0))) h i l)
+
+    pub none-above : Σ .width ≤ 16 → NoneAbove (length es) es 15
+    none-above f = record { under = λ i l. let b = ltb-true (getD es i 0) (Σ .width) (first _ _ (all-events i l)) in omega (arith, b) }
+      where
+        first : (a b : Bool) → (a && b) ≡ true → a ≡ true
+        first true b e = refl
+        first false b e = e

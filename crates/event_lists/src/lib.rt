@@ -1,10 +1,14 @@
-// Lists of events: the first that is none.
+// Lists of events: the first that cannot happen.
 ghost use mathlib.Core.Path.{_≡_};
+ghost use mathlib.Core.Bool.{true};
 ghost use Prim.Native.Nat.{_≤_};
+ghost use lib.Dec.{eqb};
 ghost use lib.ListN.{length};
-ghost use Rattle.meaning.specs.Runs.{firstBad};
+ghost use Rattle.sequences.specs.Tabulate.{allBelow};
+ghost use Rattle.meaning.specs.Bytes.{bit};
 ghost use Rattle.event_lists.specs.Bounds.{NoneAbove};
-use events::width;
+ghost use Rattle.event_lists.specs.Masks.{allIn, firstOutside};
+use events::can_happen;
 use wire::wide;
 
 fn larger(a: u8, b: u8) -> u8
@@ -29,22 +33,57 @@ fn most(events: &[u8]) -> u8
     top
 }
 
-// The index of the first event that is none, or the length. Most lists have none, which the first test finds without stopping at
-// each.
-pub fn first_bad(signals: u8, events: &[u8]) -> usize
-    requires { ⌜ signals ≤ 4 ⌝ }
-    ensures { λ r. ⌜ (r ≡ firstBad signals (now (events .entry))) × (r ≤ length (now (events .entry))) ⌝ }
+// A number below which the mask has every event: how many there are, where it has all of one to four signals.
+fn full_below(mask: u16) -> usize
+    ensures { λ r. ⌜ allBelow r (λ e. eqb (bit e mask) 1) ≡ true ⌝ }
 {
-    let n = width(signals);
-    if wide(most(events)) < n {
+    match mask {
+        3 => 2,
+        15 => 4,
+        255 => 8,
+        65535 => 16,
+        _ => 0,
+    }
+}
+
+// Whether the mask has all the events. It does not stop at one that is missing: most lists have none, and so it is faster.
+fn each_in(mask: u16, events: &[u8]) -> bool
+    ensures { λ r. ⌜ r ≡ allIn mask (now (events .entry)) ⌝ }
+{
+    let mut all = true;
+    let mut i: usize = 0;
+    while i < events.len() {
+        all = all & can_happen(mask, wide(events[i]));
+        i += 1;
+    }
+    all
+}
+
+// The same. Where every event can happen the largest tells, which is found many at a time.
+fn all_in(mask: u16, events: &[u8]) -> bool
+    ensures { λ r. ⌜ r ≡ allIn mask (now (events .entry)) ⌝ }
+{
+    if wide(most(events)) < full_below(mask) {
+        return true;
+    }
+    each_in(mask, events)
+}
+
+// The index of the first event that the mask does not have, or the length.
+pub fn first_bad(mask: u16, events: &[u8]) -> usize
+    ensures { λ r. ⌜ r ≡ firstOutside mask (now (events .entry)) ⌝ }
+{
+    if all_in(mask, events) {
         return events.len();
     }
     let mut i: usize = 0;
     while i < events.len() {
-        if n <= wide(events[i]) {
+        let event = wide(events[i]);
+        if can_happen(mask, event) {
+            i += 1;
+        } else {
             return i;
         }
-        i += 1;
     }
     i
 }

@@ -3,17 +3,17 @@
 use mathlib.Core.Path.{_≡_, refl, ap, _∙_}
 use mathlib.Core.List.{List, [], _∷_}
 use mathlib.Core.Bool.{Bool, true, false}
-use Prim.Native.Nat.{ℕ, _<_, _^_}
-use borrow.Author.Tests.{le-leb, lt-ltb, lt-leb}
+use Prim.Native.Nat.{ℕ, _<_}
+use borrow.Author.Tests.{le-leb, lt-ltb}
 use denote.Ref.{RefT, now}
-use Rattle.meaning.specs.Traces.{over, Word}
+use Rattle.meaning.specs.Traces.{Alphabet, Event, Word}
 use Rattle.meaning.specs.Monitors.{follow}
-use Rattle.meaning.specs.TableFiles.{isTable, signalsIn, statesIn, successor, checkedOf, monitorOf}
+use Rattle.meaning.specs.TableFiles.{isTable, alphabetIn, signalsIn, statesIn, successor, checkedOf, monitorOf}
 use Rattle.meaning.specs.Runs.{runOf, ranIn, rowRead, rowIn}
 use Rattle.meaning.specs.declared.Ran.{Ran}
 use Rattle.meaning.specs.declared.Checked.{Checked}
 use Rattle.meaning.specs.declared.Checked.the-variants as Checked
-use Rattle.table_layout.proofs.Form.{states-some, table-header, table-inside}
+use Rattle.table_layout.proofs.Form.{event-test, states-some, table-header, table-inside}
 use Rattle.table_run.proofs.Answers.{run-table, run-refused, row-table, row-refused}
 use Rattle.opened.specs.OpenedTables.{countsOf, openedOf, outcomeBy, ranBy, rowBy, steppedBy, stateAfter, steppedAll}
 
@@ -45,13 +45,16 @@ module _ (x : RefT (List ℕ)) where
 -- ---- many steps
 
 module _ (x : RefT (List ℕ)) (h : isTable (now x) ≡ true) where
-  -- a step of an event ends at the successor
-  step-to : (s e : ℕ) → s < statesIn (now x) → e < 2 ^ signalsIn (now x) → stateAfter (steppedBy (openedOf x) s e) s ≡ successor (now x) (signalsIn (now x)) s e
-  step-to s e l b = ap (λ (r : Ran). stateAfter r s) (opened-runs x s (e ∷ [])) ∙ rw (h, lt-ltb s (statesIn (now x)) l, lt-leb (2 ^ signalsIn (now x)) e b)
+  abbrev Σ : Alphabet
+  Σ = alphabetIn (now x) (signalsIn (now x))
+
+  -- a step of an event that can happen ends at the successor
+  step-to : (s e : ℕ) → s < statesIn (now x) → Event Σ e → stateAfter (steppedBy (openedOf x) s e) s ≡ successor (now x) (signalsIn (now x)) s e
+  step-to s e l b = ap (λ (r : Ran). stateAfter r s) (opened-runs x s (e ∷ [])) ∙ rw (h, lt-ltb s (statesIn (now x)) l, event-test Σ e b)
 
   -- "A checked table is opened once and stepped many times": event by event, the steps follow the table's monitor
-  pub stepped-all : (s : ℕ) (es : List ℕ) → s < statesIn (now x) → Word (over (signalsIn (now x))) es → steppedAll (openedOf x) s es ≡ follow (monitorOf (now x)) s es
+  pub stepped-all : (s : ℕ) (es : List ℕ) → s < statesIn (now x) → Word Σ es → steppedAll (openedOf x) s es ≡ follow (monitorOf (now x)) s es
   stepped-all s [] l w = refl
   stepped-all s (e ∷ es) l w =
-      ap (λ (r : ℕ). steppedAll (openedOf x) r es) (step-to s e l (w .0 .0))
-      ∙ stepped-all (successor (now x) (signalsIn (now x)) s e) es (table-inside (now x) h s e l (w .0 .0)) (w .1)
+      ap (λ (r : ℕ). steppedAll (openedOf x) r es) (step-to s e l (w .0))
+      ∙ stepped-all (successor (now x) (signalsIn (now x)) s e) es (table-inside (now x) h s e l (w .0)) (w .1)

@@ -1,1 +1,3 @@
 pub mod Form
+pub mod Bits
+pub mod Masks

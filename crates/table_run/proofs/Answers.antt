@@ -5,14 +5,15 @@
 use mathlib.Core.Path.{_≡_, refl}
 use mathlib.Core.List.{List, [], _∷_}
 use mathlib.Core.Bool.{Bool, true, false, cond, _&&_}
-use Prim.Native.Nat.{ℕ, suc, _^_, _≤_, _<_}
+use Prim.Native.Nat.{ℕ, suc, _≤_, _<_}
 use native.Mathlib.Omega.{arith}
 use borrow.Author.Tests.{lt-ltb, leb-true, ltb-true, ltb-false}
 use lib.Dec.{leb, ltb}
 use lib.ListN.{length, getD}
 use Rattle.sequences.specs.Tabulate.{every}
+use Rattle.meaning.specs.Traces.{Alphabet, isEvent}
 use Rattle.meaning.specs.Monitors.{Monitor, follow}
-use Rattle.meaning.specs.TableFiles.{isTable, signalsIn, statesIn, checkedOf, verdictOf, verdictByte, successor, monitorIn, contentTests}
+use Rattle.meaning.specs.TableFiles.{isTable, alphabetIn, signalsIn, statesIn, checkedOf, verdictOf, verdictByte, successor, monitorIn, contentTests}
 use Rattle.meaning.specs.Runs.{endOf, firstBad, ranOf, runOf, countsFit, inTable, onTable, tested, ranIn, noRow, rowOf, rowRead, rowIn}
 use Rattle.meaning.specs.declared.Verdict.{Verdict}
 use Rattle.meaning.specs.declared.Decided.{Decided}
@@ -21,7 +22,7 @@ use Rattle.meaning.specs.declared.Refusal.the-variants.{WrongEvent, WrongState,
 use Rattle.meaning.specs.declared.Checked.the-variants as Checked
 use Rattle.meaning.specs.declared.Ran.{Ran}
 use Rattle.meaning.specs.declared.Ran.the-variants as Ran
-use Rattle.table_layout.proofs.Form.{table-counts, table-verdict, table-inside, table-content}
+use Rattle.table_layout.proofs.Form.{test-event, table-counts, table-verdict, table-inside, table-content}
 use Rattle.event_lists.proofs.Laws.{all-events}
 
 both : (a b : Bool) → (a && b) ≡ true → (a ≡ true) × (b ≡ true)
@@ -42,10 +43,13 @@ module _ (t : List ℕ) (P S : ℕ) where
   -- the end state is one of the table's, its byte is one of the four, and the verdict is that byte's
   pub stays : (s : ℕ) (es : List ℕ) (r : ℕ) (v : Verdict) (d : Decided) → ranIn t P S s es ≡ Ran.Ended r v d
       → (r < S) × (verdictByte t P r ≤ 3) × (v ≡ verdictOf (verdictByte t P r))
-  stays s es r v d h = go (countsFit t P S) (ltb s S) (ltb (firstBad P es) (length es)) (onTable t P S s es) refl h
+  stays s es r v d h = go (countsFit t P S) (ltb s S) (ltb bad (length es)) (onTable t P S s es) refl h
     where
+      bad : ℕ
+      bad = firstBad (alphabetIn t P) es
+
       go : (a b c o : Bool) → onTable t P S s es ≡ o
-          → cond a (tested o (cond b (cond c (Ran.Refused (WrongEvent (firstBad P es))) (endOf m s es)) (Ran.Refused WrongState))) (Ran.Refused WrongTable) ≡ Ran.Ended r v d
+          → cond a (tested o (cond b (cond c (Ran.Refused (WrongEvent bad)) (endOf m s es)) (Ran.Refused WrongState))) (Ran.Refused WrongTable) ≡ Ran.Ended r v d
           → (r < S) × (verdictByte t P r ≤ 3) × (v ≡ verdictOf (verdictByte t P r))
       go true true false true p e =
           let q : follow m s es ≡ r = cc in
@@ -67,20 +71,23 @@ module _ (t : List ℕ) where
     abbrev S : ℕ
     S = statesIn t
 
-    on-way : (s : ℕ) (es : List ℕ) → s < S → ((i : ℕ) → i < length es → getD es i 0 < 2 ^ P) → onTable t P S s es ≡ true
+    abbrev Σ : Alphabet
+    Σ = alphabetIn t P
+
+    on-way : (s : ℕ) (es : List ℕ) → s < S → ((i : ℕ) → i < length es → isEvent Σ (getD es i 0) ≡ true) → onTable t P S s es ≡ true
     unfolding onTable
     on-way s [] l all = rw (lt-ltb s S l, table-verdict t h s l)
     on-way s (e ∷ es) l all =
-        rw (lt-ltb s S l, table-verdict t h s l) (on-way (successor t P s e) es (table-inside t h s e l (all 0 (omega arith))) (λ i b. all (suc i) (omega arith)))
+        rw (lt-ltb s S l, table-verdict t h s l) (on-way (successor t P s e) es (table-inside t h s e l (test-event Σ e (all 0 (omega arith)))) (λ i b. all (suc i) (omega arith)))
 
-    kept : (s : ℕ) (es : List ℕ) → tested (onTable t P S s es) (ranOf (monitorIn t P S) P s es) ≡ ranOf (monitorIn t P S) P s es
-    kept s es = go (ltb s S) (ltb (firstBad P es) (length es)) refl refl
+    kept : (s : ℕ) (es : List ℕ) → tested (onTable t P S s es) (ranOf (monitorIn t P S) Σ s es) ≡ ranOf (monitorIn t P S) Σ s es
+    kept s es = go (ltb s S) (ltb (firstBad Σ es) (length es)) refl refl
       where
-        go : (b c : Bool) → ltb s S ≡ b → ltb (firstBad P es) (length es) ≡ c
-            → tested (onTable t P S s es) (cond b (cond c (Ran.Refused (WrongEvent (firstBad P es))) (endOf (monitorIn t P S) s es)) (Ran.Refused WrongState))
-            ≡ cond b (cond c (Ran.Refused (WrongEvent (firstBad P es))) (endOf (monitorIn t P S) s es)) (Ran.Refused WrongState)
+        go : (b c : Bool) → ltb s S ≡ b → ltb (firstBad Σ es) (length es) ≡ c
+            → tested (onTable t P S s es) (cond b (cond c (Ran.Refused (WrongEvent (firstBad Σ es))) (endOf (monitorIn t P S) s es)) (Ran.Refused WrongState))
+            ≡ cond b (cond c (Ran.Refused (WrongEvent (firstBad Σ es))) (endOf (monitorIn t P S) s es)) (Ran.Refused WrongState)
         go true true p q = refl
-        go true false p q = rw (on-way s es (ltb-true s S p) (all-events P es (ltb-false (firstBad P es) (length es) q)))
+        go true false p q = rw (on-way s es (ltb-true s S p) (all-events Σ es (ltb-false (firstBad Σ es) (length es) q)))
         go false c p q = refl
 
   differ : (x : Refusal) (Q R : ℕ) → Checked.Refused x ≡ Checked.Table Q R → ⊥

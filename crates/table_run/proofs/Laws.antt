@@ -2,14 +2,16 @@
 use mathlib.Core.Path.{_≡_, refl, sym, _∙_}
 use mathlib.Core.List.{List, [], _∷_}
 use mathlib.Core.Bool.{Bool, true, false, cond}
-use Prim.Native.Nat.{ℕ, _^_, _≤_, _<_}
+use Prim.Native.Nat.{ℕ, _+_, _^_, _≤_, _<_}
 use native.Mathlib.Omega.{arith}
-use borrow.Author.Tests.{lt-leb, le-leb, lt-ltb, le-ltb, leb-true, ltb-true}
+use borrow.Author.Tests.{lt-ltb, le-ltb, leb-true, ltb-true, eq-eqb, ne-eqb}
 use lib.Dec.{ltb}
 use lib.ListN.{length}
+use lib.Pow.{pow-mono}
 use Rattle.sequences.specs.Tabulate.{every}
 use Rattle.sequences.proofs.Tests.{holds}
-use Rattle.meaning.specs.TableFiles.{countsTests, verdictOf, verdictByte, successor, contentTests}
+use Rattle.meaning.specs.Traces.{isEvent}
+use Rattle.meaning.specs.TableFiles.{rowAt, countsTests, verdictOf, verdictByte, successor, noSuccessor, alphabetIn, contentTests}
 use Rattle.meaning.specs.Runs.{decidedFrom, firstBad, countsFit, inTable, onTable, ranIn, noRow, rowOf, rowIn}
 use Rattle.meaning.specs.declared.Verdict.{Verdict}
 use Rattle.meaning.specs.declared.Decided.{Decided}
@@ -18,11 +20,28 @@ use Rattle.meaning.specs.declared.Ran.the-variants as Ran
 use Rattle.meaning.specs.declared.Ran.the-variants.{Ended}
 use Rattle.meaning.specs.declared.Refusal.{Refusal}
 use Rattle.meaning.specs.declared.Refusal.the-variants.{WrongEvent, WrongState, WrongTable}
+use Rattle.event_lists.specs.Bounds.{NoneAbove}
+use Rattle.event_lists.specs.Masks.{firstOutside}
+use Rattle.event_lists.proofs.Laws.{outside-bad, none-above}
+use Rattle.table_layout.specs.Masks.{MaskIn}
+use Rattle.table_layout.proofs.Form.{row-inside}
 use Rattle.run_loop.specs.Ends.{endIn}
 use Rattle.table_run.specs.Tables.{admission, shownBy}
 use Rattle.table_run.specs.declared.Admission.{Admission}
 use Rattle.table_run.specs.declared.Admission.the-variants as Adm
 use Rattle.table_run.specs.declared.Admission.the-variants.{Granted}
+
+-- whether an event can happen, by its successor in the row of state 0
+module _ (t : List ℕ) (P e : ℕ) where
+  pub too-large : 2 ^ P ≤ e → isEvent (alphabetIn t P) e ≡ false
+  too-large h = rw (le-ltb e (2 ^ P) h)
+
+  module _ (h : e < 2 ^ P) where
+    pub impossible : successor t P 0 e ≡ noSuccessor → isEvent (alphabetIn t P) e ≡ false
+    impossible q = rw (lt-ltb e (2 ^ P) h, eq-eqb (successor t P 0 e) noSuccessor q)
+
+    pub possible : (successor t P 0 e ≡ noSuccessor → ⊥) → isEvent (alphabetIn t P) e ≡ true
+    possible q = rw (lt-ltb e (2 ^ P) h, ne-eqb (successor t P 0 e) noSuccessor q)
 
 -- where a run may start
 module _ (t : List ℕ) (P S s : ℕ) where
@@ -30,6 +49,13 @@ module _ (t : List ℕ) (P S s : ℕ) where
     pub fits : countsFit t P S ≡ true
     pub few : P ≤ 4
     pub inside : s < S
+
+  -- the records of state 0 and of s stand within the bytes
+  pub first-row : Start → rowAt P 1 ≤ length t
+  first-row a = row-inside t P S (a .fits) 0 (omega (arith, a .inside))
+
+  pub its-row : Start → rowAt P (s + 1) ≤ length t
+  its-row a = row-inside t P S (a .fits) s (a .inside)
 
   pub granted : {r : Admission} → r ≡ admission t P S s → r ≡ Granted → Start
   granted k l = go (countsFit t P S) (ltb s S) refl refl (sym k ∙ l)
@@ -64,33 +90,43 @@ module _ (t : List ℕ) (P S s : ℕ) where
   pub row-off : Start → every (contentTests t P S s) ≡ false → noRow WrongTable ≡ rowIn t P S s
   row-off a h = rw (a .fits, lt-ltb s S (a .inside), h)
 
-  -- the answer of a run that starts
-  module _ (es : List ℕ) (a : Start) where
-    pub run-bad : (b : ℕ) → b ≡ firstBad P es → b < length es → Ran.Refused (WrongEvent b) ≡ ranIn t P S s es
-    run-bad b e l = rw (a .fits, lt-ltb s S (a .inside), e, lt-ltb (firstBad P es) (length es) (omega (arith, e, l)))
+  -- the answer of a run that starts, where b was found as the first event outside the mask
+  module _ (es : List ℕ) (a : Start) {m b : ℕ} (k : MaskIn t P m) (q : b ≡ firstOutside m es) where
+    abbrev bad : ℕ
+    bad = firstBad (alphabetIn t P) es
 
-    pub run-ends : (r : Ran) → r ≡ endIn t P S s es → length es ≤ firstBad P es → r ≡ ranIn t P S s es
-    run-ends r h l = rw (a .fits, lt-ltb s S (a .inside), le-ltb (firstBad P es) (length es) l) h
+    first : b ≡ bad
+    first = q ∙ outside-bad (alphabetIn t P) es m (k .bits)
+
+    pub run-bad : b < length es → Ran.Refused (WrongEvent b) ≡ ranIn t P S s es
+    run-bad l = rw (a .fits, lt-ltb s S (a .inside), first, lt-ltb bad (length es) (omega (arith, first, l)))
+
+    pub run-ends : (r : Ran) → r ≡ endIn t P S s es → length es ≤ b → r ≡ ranIn t P S s es
+    run-ends r h l = rw (a .fits, lt-ltb s S (a .inside), le-ltb bad (length es) (omega (arith, first, l))) h
+
+    -- the events are those that the rows of a run take
+    pub run-small : length es ≤ b → NoneAbove (length es) es 15
+    run-small l = none-above (alphabetIn t P) es (omega (arith, first, l)) (pow-mono {i = P} {j = 4} (a .few))
 
   -- and of one event
   module _ (e : ℕ) (a : Start) where
-    pub step-refused : 2 ^ P ≤ e → Ran.Refused (WrongEvent 0) ≡ ranIn t P S s (e ∷ [])
-    step-refused h = rw (a .fits, lt-ltb s S (a .inside), le-leb (2 ^ P) e h)
+    pub step-refused : isEvent (alphabetIn t P) e ≡ false → Ran.Refused (WrongEvent 0) ≡ ranIn t P S s (e ∷ [])
+    step-refused h = rw (a .fits, lt-ltb s S (a .inside), h)
 
-    module _ (h : e < 2 ^ P) (r : ℕ) (p : r ≡ successor t P s e) where
+    module _ (h : isEvent (alphabetIn t P) e ≡ true) (r : ℕ) (p : r ≡ successor t P s e) where
       pub step-ended : (v : Verdict) (d : Decided) → inTable t P S s ≡ true → inTable t P S r ≡ true → v ≡ verdictOf (verdictByte t P r) → d ≡ shownBy t P s r
           → Ended r v d ≡ ranIn t P S s (e ∷ [])
       unfolding decidedFrom onTable
       step-ended v d i j q u =
           let k : inTable t P S (successor t P s e) ≡ true = rw p at j in
-          rw (a .fits, i, k, lt-ltb s S (a .inside), lt-leb (2 ^ P) e h, q, u, p)
+          rw (a .fits, i, k, lt-ltb s S (a .inside), h, q, u, p)
 
       pub step-off : inTable t P S s ≡ false → Ran.Refused WrongTable ≡ ranIn t P S s (e ∷ [])
       unfolding onTable
-      step-off i = rw (a .fits, i, lt-ltb s S (a .inside), lt-leb (2 ^ P) e h)
+      step-off i = rw (a .fits, i, lt-ltb s S (a .inside), h)
 
       pub step-away : inTable t P S s ≡ true → inTable t P S r ≡ false → Ran.Refused WrongTable ≡ ranIn t P S s (e ∷ [])
       unfolding onTable
       step-away i j =
           let k : inTable t P S (successor t P s e) ≡ false = rw p at j in
-          rw (a .fits, i, k, lt-ltb s S (a .inside), lt-leb (2 ^ P) e h)
+          rw (a .fits, i, k, lt-ltb s S (a .inside), h)

@@ -18,6 +18,7 @@ use run_parts::in_table;
 use run_parts::successors_of;
 use table_file::content_fits;
 use table_layout::counts_fit;
+use table_layout::possible_mask;
 use table_layout::successor_at;
 use table_layout::verdict_at;
 use wire::wide;
@@ -52,7 +53,8 @@ pub fn run_in(t: &[u8], signals: u8, states: u16, state: u16, events: &[u8]) -> 
     if let Admission::Refused(why) = admitted {
         return Ran::Refused(why);
     }
-    let bad = first_bad(signals, events);
+    let mask = possible_mask(t, signals);
+    let bad = first_bad(mask, events);
     if bad < events.len() {
         return Ran::Refused(Refusal::WrongEvent(bad));
     }
@@ -91,6 +93,9 @@ pub fn step_in(t: &[u8], signals: u8, states: u16, state: u16, event: u8) -> Ran
     if width(signals) <= wide(event) {
         return Ran::Refused(Refusal::WrongEvent(0));
     }
+    if successor_at(t, signals, 0, event) == 65535 {
+        return Ran::Refused(Refusal::WrongEvent(0));
+    }
     let to = successor_at(t, signals, state, event);
     if in_table(t, signals, states, state) {
         if in_table(t, signals, states, to) {
@@ -125,7 +130,8 @@ pub fn row_in(t: &[u8], signals: u8, states: u16, state: u16) -> StateRow
     if let Admission::Refused(why) = admitted {
         return no_row(why);
     }
-    if content_fits(t, signals, states, state) {
+    let mask = possible_mask(t, signals);
+    if content_fits(t, signals, states, mask, state) {
         let verdict = verdict_at(t, signals, state);
         let successors = successors_of(t, signals, state);
         return StateRow {

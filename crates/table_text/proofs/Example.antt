@@ -1,8 +1,9 @@
--- Document 01's printed example: rule P3's table and its four lines.
+-- Document 01's printed example: rule P3's table and its four lines. And a table in which an event cannot happen.
 use mathlib.Core.Path.{_≡_, refl}
 use mathlib.Core.Bool.{true}
 use mathlib.Core.List.{List, [], _∷_, _++_}
 use Prim.Native.Nat.{ℕ}
+use Rattle.meaning.specs.Bytes.{ascii}
 use Rattle.meaning.specs.TableFiles.{isTable}
 use Rattle.text_pieces.specs.Decimal.{digits}
 use Rattle.table_text.specs.Text.{textOf}
@@ -30,3 +31,16 @@ table-P3 = refl
 pub text-P3 : textOf tableP3 ≡ linesP3
 unfolding textOf digits
 text-P3 = refl
+
+-- C-14: "An impossible event's successor is written 65,535, and printed as `65535`." Over two signals that are never on together, "not both" is satisfied
+-- from the start.
+abbrev tableApart : List ℕ
+tableApart = (5 ∷ 0 ∷ 0 ∷ 2 ∷ 2 ∷ 1 ∷ 0 ∷ []) ++ (11 ∷ 0 ∷ 1 ∷ 2 ∷ 1 ∷ 0 ∷ 0 ∷ 0 ∷ 0 ∷ 0 ∷ 0 ∷ 255 ∷ 255 ∷ [])
+
+pub table-apart : isTable tableApart ≡ true
+unfolding isTable
+table-apart = refl
+
+pub text-apart : textOf tableApart ≡ ascii "signals 2 states 1" ++ (10 ∷ []) ++ ascii "0 satisfied 0 0 0 65535" ++ (10 ∷ [])
+unfolding textOf digits
+text-apart = refl

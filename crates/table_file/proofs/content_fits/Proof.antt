@@ -1,17 +1,20 @@
 -- `table_file::content_fits` meets its contract.
 use native.Mathlib.Omega.{arith}
-use mathlib.Core.Path.{_≡_, _∙_, ap, ap₂}
+use mathlib.Core.Path.{_≡_, sym, _∙_, ap}
 use mathlib.Core.Bool.{true, false}
 use Prim.Native.Nat.{ℕ, _+_, _*_, _^_}
 use borrow.Author.Tests.{lt-leb, le-leb}
 use borrow.Author.Needs.{needs}
 use denote.Ref.{now}
-use lib.Dec.{leb, ltb}
+use lib.Dec.{leb, eqb}
 use lib.ListN.{getD}
 use Rattle.sequences.specs.Tabulate.{allBelow}
-use Rattle.sequences.proofs.Tests.{last}
-use Rattle.meaning.specs.Bytes.{u16At}
-use Rattle.meaning.specs.TableFiles.{rowAt, verdictByte, successor}
+use Rattle.sequences.proofs.Tests.{fails, last}
+use Rattle.meaning.specs.Bytes.{bit, u16At}
+use Rattle.meaning.specs.TableFiles.{rowAt, verdictByte, eventLeft, successorFits, contentTests}
+use Rattle.table_layout.proofs.Masks.{no-event, some-event}
+use Rattle.table_file.specs.Successors.{fitsBy}
+use Rattle.table_file.proofs.Checking.{successors-by}
 use Rattle.table_file.proofs.content_fits.Statement.{statement}
 use Rattle.table_file.proofs.content_fits.Tie as tie
 
@@ -33,28 +36,36 @@ returns c =
     let h : leb (verdictByte (now (a .t)) (a .signals) (a .state)) 3 ≡ false = lt-leb (verdictByte (now (a .t)) (a .signals) (a .state)) 3 (omega (arith, c .if1 .taken, byte)) in
     rw h
 
+returns-2 : tie.Need-returns-2
+returns-2 c =
+    let placed = c .before .before .before in
+    let a = placed .before .before .args in
+    sym (fails (contentTests (now (a .t)) (a .signals) (a .states) (a .state)) 1 (no-event (placed .before .before .pre .2) (omega (arith, c .if2 .taken))))
+
 add-successors-fit : tie.Need-add-successors-fit
 add-successors-fit c = search needs
-
-width-requires : tie.Need-width-requires
-width-requires c κs = search needs
 
 successors-fit-requires : tie.Need-successors-fit-requires
 successors-fit-requires c κs = search needs
 
-returns-2 : tie.Need-returns-2
-returns-2 c =
-    let tested = c .before .before in
+returns-3 : tie.Need-returns-3
+returns-3 c =
+    let left = c .before in
+    let tested = left .before in
     let placed = tested .before .before in
-    let a = placed .before .before .args in
+    let start = placed .before .before in
+    let a = start .args in
     let l = now (a .t) in
     let place : placed .row-at .result ≡ rowAt (a .signals) (a .state) = placed .row-at .ensures .0 in
     let byte : tested .before .byte-at .result ≡ verdictByte l (a .signals) (a .state)
     = tested .before .byte-at .ensures ∙ ap (λ (n : ℕ). getD l (n + 4) 0) place in
     let h : leb (verdictByte l (a .signals) (a .state)) 3 ≡ true = le-leb (verdictByte l (a .signals) (a .state)) 3 (omega (arith, tested .if1 .left, byte)) in
-    rw h
-    (c .successors-fit .ensures ∙ ap₂ (λ (k n : ℕ). allBelow n (λ e. ltb (u16At l (k + 5 + 2 * e)) (a .states))) place (c .before .width .ensures .0)
-    ∙ last (allBelow (2 ^ a .signals) (λ e. ltb (successor l (a .signals) (a .state) e) (a .states))))
+    let some : eventLeft l (a .signals) ≡ true = some-event (start .pre .2) (omega arith) (λ z. omega (arith, z, left .if2 .left)) in
+    rw (h, some)
+    (c .successors-fit .ensures
+    ∙ ap (λ (k : ℕ). allBelow (2 ^ a .signals) (λ e. fitsBy (eqb (bit e (a .mask)) 1) (a .states) (u16At l (k + 5 + 2 * e)))) place
+    ∙ successors-by l (start .pre .2) (a .states) (a .state)
+    ∙ last (allBelow (2 ^ a .signals) (successorFits l (a .signals) (a .states) (a .state))))
 
 pub content-fits-spec : {M : Type 1} → statement M
 content-fits-spec =
@@ -64,7 +75,7 @@ content-fits-spec =
     add-byte-at
     byte-at-requires
     returns
+    returns-2
     add-successors-fit
-    width-requires
     successors-fit-requires
-    returns-2)
+    returns-3)

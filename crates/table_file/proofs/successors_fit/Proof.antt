@@ -1,77 +1,50 @@
 -- `table_file::successors_fit` meets its contract.
-use native.Mathlib.Omega.{arith}
+use mathlib.Core.Path.{ap, _∙_}
+use Prim.Native.Nat.{ℕ, _+_, _*_}
 use borrow.Author.Needs.{needs}
-use mathlib.Core.Path.{sym}
-use borrow.Author.Tests.{lt-ltb, le-ltb}
-use mathlib.Core.List.{List}
-use mathlib.Core.Bool.{Bool}
-use Prim.Native.Nat.{ℕ, _+_, _-_, _*_, _≤_}
-use lib.Dec.{ltb}
 use denote.Ref.{now}
-use Rattle.meaning.specs.Bytes.{u16At}
-use Rattle.sequences.proofs.Loops.{Passed, passed-none, passed-more, passed-all, all-not}
+use lib.Dec.{eqb, ltb}
+use Rattle.sequences.specs.Tabulate.{allBelow}
+use Rattle.meaning.specs.Bytes.{bit, u16At}
+use Rattle.table_file.specs.Successors.{fitsBy}
+use Rattle.table_file.proofs.Checking.{successors-full}
 use Rattle.table_file.proofs.successors_fit.Statement.{statement}
 use Rattle.table_file.proofs.successors_fit.Tie as tie
 
-abbrev test : List ℕ → ℕ → ℕ → ℕ → Bool
-test t at states e = ltb (u16At t (at + 2 * e)) states
+width-requires : tie.Need-width-requires
+width-requires c κs = search needs
 
-abbrev Inv-loop : tie.InvT-loop
-Inv-loop t at events states e₀ e = (e ≤ events) × Passed e (test t at states)
+full-mask-requires : tie.Need-full-mask-requires
+full-mask-requires c κs = search needs
 
-abbrev μ-loop : tie.MeasureT-loop
-μ-loop t at events states e₀ e = events - e
+all-below-requires : tie.Need-all-below-requires
+all-below-requires c κs = search needs
 
-loop-holds : tie.Need-loop-holds Inv-loop μ-loop
-loop-holds c = (omega arith, passed-none)
-
-mul-u16-at : tie.Need-mul-u16-at Inv-loop μ-loop
-mul-u16-at c = search needs
-
-add-u16-at : tie.Need-add-u16-at Inv-loop μ-loop
-add-u16-at c = search needs
-
-u16-at-requires : tie.Need-u16-at-requires Inv-loop μ-loop
-u16-at-requires c κs = search needs
-
-returns : tie.Need-returns Inv-loop μ-loop
+returns : tie.Need-returns
 returns c =
-    let loop = c .before .before .before in
-    let a = loop .before .before .args in
-    let e = loop .loop .e in
-    let fails = le-ltb (u16At (now (a .t)) (a .at + 2 * e)) (a .states) (omega (arith, c .if1 .taken, c .before .u16-at .ensures)) in
-    sym (all-not (a .events) (test (now (a .t)) (a .at) (a .states)) e (c .before .before .loop-test .taken) fails)
+    let full = c .before in
+    let counted = full .before .before in
+    let a = counted .before .before .args in
+    let l = now (a .t) in
+    c .all-below .ensures ∙ ap (λ (n : ℕ). allBelow n (λ e. ltb (u16At l (a .at + 2 * e)) (a .states))) (counted .width .ensures .0)
+    ∙ successors-full (a .signals) (a .mask) (a .states) (λ e. u16At l (a .at + 2 * e)) (full .if1 .taken ∙ full .before .full-mask .ensures)
 
-add-e : tie.Need-add-e Inv-loop μ-loop
-add-e c = search needs
+each-fits-requires : tie.Need-each-fits-requires
+each-fits-requires c κs = search needs
 
-loop-less : tie.Need-loop-less Inv-loop μ-loop
-loop-less c = search needs
-
-loop-again : tie.Need-loop-again Inv-loop μ-loop
-loop-again c =
-    let loop = c .before .before .before in
-    let a = loop .before .before .args in
-    let e = loop .loop .e in (
-      omega arith,
-      passed-more (loop .loop .inv .1) (lt-ltb (u16At (now (a .t)) (a .at + 2 * e)) (a .states) (omega (arith, c .if1 .left, c .before .u16-at .ensures))),
-    )
-
-returns-2 : tie.Need-returns-2 Inv-loop μ-loop
-returns-2 c = sym (passed-all (c .before .loop .inv .1) (c .before .before .before .args .events) (omega arith))
+returns-2 : tie.Need-returns-2
+returns-2 c =
+    let counted = c .before .before .before in
+    let a = counted .before .before .args in
+    c .each-fits .ensures ∙ ap (λ (n : ℕ). allBelow n (λ e. fitsBy (eqb (bit e (a .mask)) 1) (a .states) (u16At (now (a .t)) (a .at + 2 * e)))) (counted .width .ensures .0)
 
 pub successors-fit-spec : {M : Type 1} → statement M
 successors-fit-spec =
     tie.close
     (tie.spec
-    Inv-loop
-    μ-loop
-    loop-holds
-    mul-u16-at
-    add-u16-at
-    u16-at-requires
+    width-requires
+    full-mask-requires
+    all-below-requires
     returns
-    add-e
-    loop-less
-    loop-again
+    each-fits-requires
     returns-2)
