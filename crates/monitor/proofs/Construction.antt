@@ -5,8 +5,7 @@ use mathlib.Core.Bool.{Bool}
 use Prim.Native.Nat.{ℕ, _^_, _≤_, _<_}
 use native.Mathlib.Omega.{arith}
 use lib.ListN.{take, length-take}
-use Rattle.meaning.specs.Traces.{over}
-use Rattle.meaning.specs.RuleFiles.{Rule, Judgement}
+use Rattle.meaning.specs.RuleFiles.{Rule, alphabetOf, Judgement}
 use Rattle.meaning.specs.declared.Node.{Node}
 use Rattle.meaning.specs.declared.Refusal.the-variants.{TooManyResiduals}
 use Rattle.meaning.specs.declared.Built.{Built}
@@ -16,7 +15,7 @@ use Rattle.moore.specs.Grouping.{Machine}
 use Rattle.smallest.proofs.Extensional.{Agree}
 use Rattle.table_bytes.specs.Written.{tableBytes}
 use Rattle.smallest.specs.Table.{Outcome, Table, reducedBytes}
-use Rattle.smallest.proofs.Accepted.{Signals, Formed}
+use Rattle.smallest.proofs.Accepted.{Formed}
 use Rattle.ltl.proofs.Nodes.{split-temporals}
 use Rattle.valuation.specs.Valued.{Valuable}
 use Rattle.ltl.specs.Arrays.{TablesIn}
@@ -36,21 +35,21 @@ pub record Answers (r : Rule) (before : List ℕ) (b : Built) (after : List ℕ)
 
 -- the walk over a rule's keys met n of them
 pub record Walks (r : Rule) (n : ℕ) (rows : List (List ℕ)) (classes : List ℕ) : Type 0 where
-  pub is : Explores (r .signals) (tablesFor r) n rows classes
+  pub is : Explores (r .signals) (r .mask) (tablesFor r) n rows classes
 
 -- the walk closed with n states
 record Found (r : Rule) (n : ℕ) (rows : List (List ℕ)) (classes : List ℕ) : Type 0 where
-  machine : Machine (over (r .signals)) n rows classes
+  machine : Machine (alphabetOf r) n rows classes
   states : List (List ℕ)
   model : List ℕ
-  agree : Agree (over (r .signals)) n rows states classes model
-  outcome : outcomeOf r ≡ Table (reducedBytes (over (r .signals)) (r .signals) n states model)
+  agree : Agree (alphabetOf r) n rows states classes model
+  outcome : outcomeOf r ≡ Table (reducedBytes (alphabetOf r) (r .signals) n states model)
 
-module _ {r : Rule} (s : Signals (r .signals)) {n : ℕ} {rows : List (List ℕ)} {classes : List ℕ} (a : Walks r n rows classes) where
+module _ {r : Rule} (s : Formed r) {n : ℕ} {rows : List (List ℕ)} {classes : List ℕ} (a : Walks r n rows classes) where
   found : n ≤ 256 → Found r n rows classes
-  found l = go (exploreKeys (tablesFor r) (r .signals)) refl (a .is)
+  found l = go (exploreKeys (tablesFor r) (alphabetOf r)) refl (a .is)
     where
-      go : (m : Explored ℕ (List (List ℕ))) → exploreKeys (tablesFor r) (r .signals) ≡ m → ExploredAs (r .signals) (tablesFor r) m n rows classes → Found r n rows classes
+      go : (m : Explored ℕ (List (List ℕ))) → exploreKeys (tablesFor r) (alphabetOf r) ≡ m → ExploredAs (r .signals) (tablesFor r) m n rows classes → Found r n rows classes
       go (within keys states) q A =
           let C = closes r s keys states q in
           subst (λ (k : ℕ). Found r k rows classes) (sym (A .count))
@@ -59,26 +58,26 @@ module _ {r : Rule} (s : Signals (r .signals)) {n : ℕ} {rows : List (List ℕ)
             states = states;
             model = classList r keys;
             agree = agrees r C A;
-            outcome = C .outcome ∙ ap (λ (k : ℕ). Table (reducedBytes (over (r .signals)) (r .signals) k states (classList r keys))) (C .count);
+            outcome = C .outcome ∙ ap (λ (k : ℕ). Table (reducedBytes (alphabetOf r) (r .signals) k states (classList r keys))) (C .count);
           })
       go (beyond keys k) q A = absurd (omega arith)
 
-  pub closed-machine : n ≤ 256 → Machine (over (r .signals)) n rows classes
+  pub closed-machine : n ≤ 256 → Machine (alphabetOf r) n rows classes
   closed-machine l = found l .machine
 
-  pub closed-answers : n ≤ 256 → (before after : List ℕ) (b : Built) → Finished (r .signals) n rows classes before b after → Answers r before b after
+  pub closed-answers : n ≤ 256 → (before after : List ℕ) (b : Built) → Finished (r .signals) (r .mask) n rows classes before b after → Answers r before b after
   closed-answers l before after b F =
       let f = found l in
-      let is : outcomeOf r ≡ Table (tableBytes (r .signals) (F .groups) (F .bytes) (F .to)) = f .outcome ∙ ap Table (sym (bytes-are (r .signals) n (f .agree) (F .reduction))) in
+      let is : outcomeOf r ≡ Table (tableBytes (alphabetOf r) (r .signals) (F .groups) (F .bytes) (F .to)) = f .outcome ∙ ap Table (sym (bytes-are (r .signals) (r .mask) n (f .agree) (F .reduction))) in
       record {
         answer = F .answer ∙ answer-is r (F .groups) (F .bytes) (F .to) is before;
         output = F .output ∙ output-is r (F .groups) (F .bytes) (F .to) is before;
       }
 
   pub over-answers : 256 < n → (before : List ℕ) → Answers r before (Built.Refused TooManyResiduals) before
-  over-answers l before = go (exploreKeys (tablesFor r) (r .signals)) refl (a .is)
+  over-answers l before = go (exploreKeys (tablesFor r) (alphabetOf r)) refl (a .is)
     where
-      go : (m : Explored ℕ (List (List ℕ))) → exploreKeys (tablesFor r) (r .signals) ≡ m → ExploredAs (r .signals) (tablesFor r) m n rows classes → Answers r before (Built.Refused TooManyResiduals) before
+      go : (m : Explored ℕ (List (List ℕ))) → exploreKeys (tablesFor r) (alphabetOf r) ≡ m → ExploredAs (r .signals) (tablesFor r) m n rows classes → Answers r before (Built.Refused TooManyResiduals) before
       go (within keys states) q A = absurd (omega (arith, closes r s keys states q .few, A .count))
       go (beyond keys k) q A =
           let e = goes-beyond r s keys k q in
@@ -86,10 +85,10 @@ module _ {r : Rule} (s : Signals (r .signals)) {n : ℕ} {rows : List (List ℕ)
 
 -- the answer of the walk over the arrays, as one over the rule's keys
 pub walks : (r : Rule) {k : ℕ} {profiles : List (List ℕ)} {whole : List Bool} (n : ℕ) (rows : List (List ℕ)) (classes : List ℕ) → TablesIn (2 ^ r .signals) k (tablesFor r) profiles whole
-    → Explores (r .signals) (tablesIn k profiles whole) n rows classes → Walks r n rows classes
-walks r n rows classes T E = record { is = explored-same (r .signals) T n rows classes E }
+    → Explores (r .signals) (r .mask) (tablesIn k profiles whole) n rows classes → Walks r n rows classes
+walks r n rows classes T E = record { is = explored-same (r .signals) (r .mask) T n rows classes E }
 
 -- what the tables ask of the nodes
-pub valuable : (P count : ℕ) (nodes : List Node) → Formed (ruleIn P count nodes) → count ≤ 64 → Valuable count nodes
-valuable P count nodes f l =
+pub valuable : (P mask count : ℕ) (nodes : List Node) → Formed (ruleIn P mask count nodes) → count ≤ 64 → Valuable count nodes
+valuable P mask count nodes f l =
     record { some = omega (arith, f .some, length-take count nodes); few = l; temporal = omega (arith, split-temporals (take count nodes), f .temporal) }

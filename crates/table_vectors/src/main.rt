@@ -13,7 +13,7 @@ use meaning::Built;
 use meaning::Checked;
 use meaning::Ran;
 
-// A state's row, read from the table. In a checked table a successor is below 256; what is read past the last event is not written again.
+// A state's row, read from the table. In a checked table a successor is below 256 where its event can happen; what else is read is not written again.
 fn row_of(t: &[u8], signals: u8, state: u16) -> [u8; 16]
     requires { ⌜ signals ≤ 4 ⌝ }
 {
@@ -38,7 +38,7 @@ fn kept(a: &[u8], b: &[u8]) -> bool {
     true
 }
 
-// Whether the table comes out the same when it is written from its rows and verdicts, with the bytes past it kept.
+// Whether the table comes out the same when it is written from its rows, verdicts and possible events, with the bytes past it kept.
 fn rewritten(t: &[u8], signals: u8, states: u16) -> bool
     requires { ⌜ (signals ≤ 4) × (states ≤ 256) ⌝ }
 {
@@ -53,7 +53,12 @@ fn rewritten(t: &[u8], signals: u8, states: u16) -> bool
         s += 1;
     }
     let mut out = room();
-    let built = table_writer::write(&mut out, signals, states, &verdicts, &rows);
+    let second = table_layout::row_at(signals, 1);
+    if t.len() < second {
+        return false;
+    }
+    let mask = table_layout::possible_mask(t, signals);
+    let built = table_writer::write(&mut out, signals, mask, states, &verdicts, &rows);
     match built {
         Built::Table(n) => n == t.len() && kept(&out, t),
         Built::Refused(_) => false,

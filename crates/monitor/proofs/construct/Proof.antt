@@ -18,7 +18,7 @@ tables-requires : tie.Need-tables-requires
 tables-requires c κs =
     let start = c .before .before .before .before .before in
     let a = start .args in
-    (start .pre .0 .signals .high, (valuable (a .signals) (a .count) (a .nodes) (start .pre .0) (start .pre .1), (c .before .before .before .no-profiles .ensures, c .before .before .nowhere .ensures)))
+    (start .pre .0 .signals .high, (valuable (a .signals) (a .mask) (a .count) (a .nodes) (start .pre .0) (start .pre .1), (c .before .before .before .no-profiles .ensures, c .before .before .nowhere .ensures)))
 
 zeros-requires : tie.Need-zeros-requires
 zeros-requires c κs = search needs
@@ -28,7 +28,7 @@ explore-requires c κs =
     let tables = c .before .before .before .before .before .tables in
     let start = c .before .before .before .before .before .before .before .before .before .before .before in
     let a = start .args in
-    let nodes = valuable (a .signals) (a .count) (a .nodes) (start .pre .0) (start .pre .1) in
+    let nodes = valuable (a .signals) (a .mask) (a .count) (a .nodes) (start .pre .0) (start .pre .1) in
     ((start .pre .0 .signals .high, omega (arith, tables .ensures .0, nodes .temporal), tabled (tables .ensures .1)), c .before .before .before .before .zeros .ensures)
 
 returns : tie.Need-returns
@@ -37,10 +37,10 @@ returns c =
     let tables = c .before .before .before .before .before .before .before .tables in
     let start = c .before .before .before .before .before .before .before .before .before .before .before .before .before in
     let a = start .args in
-    let rule = ruleIn (a .signals) (a .count) (a .nodes) in
-    let signals = start .pre .0 .signals in
-    let walked = walks rule (explore .last .1 .1 .1 .1 .0) (explore .result) (explore .last .1 .1 .1 .1 .1 .0) (tables .ensures .1) (explore .ensures) in
-    let answers = over-answers signals walked (c .if1 .taken) (now (a .table)) in
+    let rule = ruleIn (a .signals) (a .mask) (a .count) (a .nodes) in
+    let formed = start .pre .0 in
+    let walked = walks rule (explore .last .1 .1 .1 .1 .1 .0) (explore .result) (explore .last .1 .1 .1 .1 .1 .1 .0) (tables .ensures .1) (explore .ensures) in
+    let answers = over-answers formed walked (c .if1 .taken) (now (a .table)) in
     (answers .answer, answers .output)
 
 finish-requires : tie.Need-finish-requires
@@ -49,11 +49,11 @@ finish-requires c κs =
     let tables = c .before .before .before .before .before .before .before .before .before .tables in
     let start = c .before .before .before .before .before .before .before .before .before .before .before .before .before .before .before in
     let a = start .args in
-    let rule = ruleIn (a .signals) (a .count) (a .nodes) in
-    let signals = start .pre .0 .signals in
-    let walked = walks rule (explore .last .1 .1 .1 .1 .0) (explore .result) (explore .last .1 .1 .1 .1 .1 .0) (tables .ensures .1) (explore .ensures) in
+    let rule = ruleIn (a .signals) (a .mask) (a .count) (a .nodes) in
+    let formed = start .pre .0 in
+    let walked = walks rule (explore .last .1 .1 .1 .1 .1 .0) (explore .result) (explore .last .1 .1 .1 .1 .1 .1 .0) (tables .ensures .1) (explore .ensures) in
     let few = c .before .before .if1 .left in
-    ((signals .high, few), closed-machine signals walked few)
+    ((formed .signals .high, few), closed-machine formed walked few)
 
 same-length : tie.Need-same-length
 same-length c = search needs
@@ -64,10 +64,10 @@ returns-2 c =
     let tables = c .before .before .before .before .before .before .before .before .before .before .before .before .tables in
     let start = c .before .before .before .before .before .before .before .before .before .before .before .before .before .before .before .before .before .before in
     let a = start .args in
-    let rule = ruleIn (a .signals) (a .count) (a .nodes) in
-    let signals = start .pre .0 .signals in
-    let walked = walks rule (explore .last .1 .1 .1 .1 .0) (explore .result) (explore .last .1 .1 .1 .1 .1 .0) (tables .ensures .1) (explore .ensures) in
-    let answers = closed-answers signals walked (c .before .before .before .before .before .if1 .left) (now (a .table)) _ _ (c .before .before .finish .ensures) in
+    let rule = ruleIn (a .signals) (a .mask) (a .count) (a .nodes) in
+    let formed = start .pre .0 in
+    let walked = walks rule (explore .last .1 .1 .1 .1 .1 .0) (explore .result) (explore .last .1 .1 .1 .1 .1 .1 .0) (tables .ensures .1) (explore .ensures) in
+    let answers = closed-answers formed walked (c .before .before .before .before .before .if1 .left) (now (a .table)) _ _ (c .before .before .finish .ensures) in
     (answers .answer, answers .output)
 
 pub construct-spec : {M : Type 1} → statement M

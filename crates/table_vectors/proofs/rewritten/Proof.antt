@@ -1,4 +1,5 @@
 -- `table_vectors::rewritten` meets its contract.
+use native.Mathlib.Omega.{arith}
 use borrow.Author.Needs.{needs}
 use Prim.Native.Nat.{_≤_, _-_}
 use lib.ListN.{length}
@@ -51,6 +52,15 @@ loop-again c = search needs
 room-requires : tie.Need-room-requires Inv-loop μ-loop
 room-requires c κs = search needs
 
+row-at-requires-2 : tie.Need-row-at-requires-2 Inv-loop μ-loop
+row-at-requires-2 c κs = search needs
+
+returns : tie.Need-returns Inv-loop μ-loop
+returns c = search needs
+
+possible-mask-requires : tie.Need-possible-mask-requires Inv-loop μ-loop
+possible-mask-requires c κs = (search needs, omega (arith, c .if1 .left, c .before .row-at2 .ensures .0))
+
 slice-aggregate-write : tie.Need-slice-aggregate-write Inv-loop μ-loop
 slice-aggregate-write c = search needs
 
@@ -69,14 +79,14 @@ kept-requires c κs = search needs
 enum-told : tie.Need-enum-told Inv-loop μ-loop
 enum-told c = search needs
 
-returns : tie.Need-returns Inv-loop μ-loop
-returns c = search needs
-
 returns-2 : tie.Need-returns-2 Inv-loop μ-loop
 returns-2 c = search needs
 
 returns-3 : tie.Need-returns-3 Inv-loop μ-loop
 returns-3 c = search needs
+
+returns-4 : tie.Need-returns-4 Inv-loop μ-loop
+returns-4 c = search needs
 
 pub rewritten-spec : {M : Type 1} → statement M
 rewritten-spec =
@@ -97,12 +107,15 @@ rewritten-spec =
     loop-less
     loop-again
     room-requires
+    row-at-requires-2
+    returns
+    possible-mask-requires
     slice-aggregate-write
     write-requires
     enum-known-built
     slice-aggregate-kept
     kept-requires
     enum-told
-    returns
     returns-2
-    returns-3)
+    returns-3
+    returns-4)

@@ -1,9 +1,10 @@
 -- `table_writer::put_row` meets its contract.
 use native.Mathlib.Omega.{arith}
 use mathlib.Core.Path.{refl, _∙_}
-use Prim.Native.Nat.{_-_}
+use Prim.Native.Nat.{_-_, _^_}
 use denote.Ref.{now}
 use lib.ListN.{length-set}
+use Rattle.meaning.specs.Traces.{masked}
 use Rattle.table_writer.proofs.Laws.{row-stored}
 use borrow.Author.Needs.{needs}
 use Rattle.table_writer.proofs.put_row.Statement.{statement}
@@ -60,7 +61,7 @@ returns c =
     let at-put-u16 = at-put-u162 .before .before .before .before in
     let at-width = at-put-u16 .before .before in
     let start = at-width .before .before in
-    row-stored (now (start .args .out)) (at-put-u16 .put-u16 .last .0) (at-put-u162 .put-u162 .last .0) _ (start .args .row) (start .args .at) (start .args .signals) (start .args .verdict) (at-width .width .result) _ (at-width .width .ensures .0) refl (at-put-u16 .put-u16 .ensures) (at-put-u162 .put-u162 .ensures) (at-put-successors .put-successors .ensures)
+    row-stored (masked (2 ^ start .args .signals) (start .args .mask)) (now (start .args .out)) (at-put-u16 .put-u16 .last .0) (at-put-u162 .put-u162 .last .0) _ (start .args .row) (start .args .at) (start .args .signals) (start .args .verdict) (at-width .width .result) _ (at-width .width .ensures .0) refl (at-put-u16 .put-u16 .ensures) (at-put-u162 .put-u162 .ensures) (at-put-successors .put-successors .ensures)
 
 pub put-row-spec : {M : Type 1} → statement M
 put-row-spec =

@@ -2,11 +2,12 @@
 use native.Mathlib.Omega.{arith}
 use borrow.Author.Needs.{needs}
 use mathlib.Core.Path.{_≡_, refl, _∙_, ap}
-use Prim.Native.Nat.{ℕ, _-_, _≤_}
+use Prim.Native.Nat.{ℕ, _-_, _^_, _≤_}
 use mathlib.Core.List.{List, []}
 use denote.Ref.{now}
 use lib.ListN.{length, getD}
 use Rattle.sequences.proofs.Stores.{Stored, stored-none, stored-length}
+use Rattle.meaning.specs.Traces.{masked}
 use Rattle.table_writer.proofs.Laws.{rows-more, row-within}
 use Rattle.table_bytes.specs.Written.{rowBytes, rowsBytes}
 use lib.Seq.{sets}
@@ -14,10 +15,10 @@ use Rattle.table_writer.proofs.put_rows.Statement.{statement}
 use Rattle.table_writer.proofs.put_rows.Tie as tie
 
 abbrev Inv-loop : tie.InvT-loop
-Inv-loop out₀ signals states verdicts rows s₀ out s = (s ≤ states) × (length out ≡ length out₀) × Stored out₀ 7 (rowsBytes signals s verdicts rows) out
+Inv-loop out₀ signals mask states verdicts rows s₀ out s = (s ≤ states) × (length out ≡ length out₀) × Stored out₀ 7 (rowsBytes (masked (2 ^ signals) mask) signals s verdicts rows) out
 
 abbrev μ-loop : tie.MeasureT-loop
-μ-loop out₀ signals states verdicts rows s₀ out s = states - s
+μ-loop out₀ signals mask states verdicts rows s₀ out s = states - s
 
 loop-holds : tie.Need-loop-holds Inv-loop μ-loop
 loop-holds c = (omega arith, refl, stored-none)
@@ -58,16 +59,16 @@ loop-again c =
     let at-loop = at-wide16 .before .before in
     let start = at-loop .before .before in
     let w : at-wide16 .wide16 .result ≡ at-loop .loop .s = at-wide16 .wide16 .ensures .0 in
-    let bytes : ℕ → List ℕ = λ n. rowBytes (start .args .signals) (getD (now (start .args .verdicts)) n 0) (getD (now (start .args .rows)) n []) in
+    let bytes : ℕ → List ℕ = λ n. rowBytes (masked (2 ^ start .args .signals) (start .args .mask)) (start .args .signals) (getD (now (start .args .verdicts)) n 0) (getD (now (start .args .rows)) n []) in
     let stored = at-put-row .put-row .ensures ∙ ap (λ (n : ℕ). sets (at-loop .loop .out) (at-row-at .row-at .result) (bytes n)) w in
-    let h = rows-more (start .args .signals) (now (start .args .verdicts)) (now (start .args .rows)) (at-loop .loop .s) _ (at-row-at .row-at .result) (at-loop .loop .inv .2) (at-row-at .row-at .ensures .0) stored in
+    let h = rows-more (masked (2 ^ start .args .signals) (start .args .mask)) (start .args .signals) (now (start .args .verdicts)) (now (start .args .rows)) (at-loop .loop .s) _ (at-row-at .row-at .result) (at-loop .loop .inv .2) (at-row-at .row-at .ensures .0) stored in
     (omega arith, stored-length h ∙ refl, h)
 
 same-length : tie.Need-same-length Inv-loop μ-loop
 same-length c = c .before .loop .inv .1
 
 returns : tie.Need-returns Inv-loop μ-loop
-returns c = let z : c .before .loop .s ≡ c .before .before .before .args .states = omega arith in c .before .loop .inv .2 .is ∙ ap (λ (n : ℕ). sets (now (c .before .before .before .args .out)) 7 (rowsBytes (c .before .before .before .args .signals) n (now (c .before .before .before .args .verdicts)) (now (c .before .before .before .args .rows)))) z
+returns c = let z : c .before .loop .s ≡ c .before .before .before .args .states = omega arith in c .before .loop .inv .2 .is ∙ ap (λ (n : ℕ). sets (now (c .before .before .before .args .out)) 7 (rowsBytes (masked (2 ^ c .before .before .before .args .signals) (c .before .before .before .args .mask)) (c .before .before .before .args .signals) n (now (c .before .before .before .args .verdicts)) (now (c .before .before .before .args .rows)))) z
 
 pub put-rows-spec : {M : Type 1} → statement M
 put-rows-spec =

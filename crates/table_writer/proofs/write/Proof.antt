@@ -2,9 +2,10 @@
 use native.Mathlib.Omega.{arith}
 use mathlib.Core.Path.{_∙_}
 use borrow.Author.Tests.{lt-leb, le-leb}
-use Prim.Native.Nat.{_-_, _≤_}
+use Prim.Native.Nat.{_-_, _^_, _≤_}
 use denote.Ref.{now}
 use lib.ListN.{length}
+use Rattle.meaning.specs.Traces.{masked}
 use Rattle.table_writer.proofs.Laws.{table-stored}
 use Rattle.meaning.specs.TableFiles.{tableLength}
 use borrow.Author.Needs.{needs}
@@ -35,7 +36,7 @@ returns-2 c =
     let start = at-row-at .before .before in
     let l : tableLength (start .args .signals) (start .args .states) ≤ length (now (start .args .out)) = omega (arith, at-if1 .if1 .left, at-row-at .row-at .ensures .0) in
     let h = le-leb (tableLength (start .args .signals) (start .args .states)) (length (now (start .args .out))) l in
-    (rw (h, at-row-at .row-at .ensures .0), rw h (table-stored (start .args .signals) (now (start .args .verdicts)) (now (start .args .rows)) (start .args .states) (now (start .args .out)) _ _ (at-put-header .put-header .ensures) (at-put-rows .put-rows .ensures) l))
+    (rw (h, at-row-at .row-at .ensures .0), rw h (table-stored (masked (2 ^ start .args .signals) (start .args .mask)) (start .args .signals) (now (start .args .verdicts)) (now (start .args .rows)) (start .args .states) (now (start .args .out)) _ _ (at-put-header .put-header .ensures) (at-put-rows .put-rows .ensures) l))
 
 pub write-spec : {M : Type 1} → statement M
 write-spec =
