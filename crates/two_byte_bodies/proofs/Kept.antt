@@ -9,22 +9,22 @@ use Rattle.meaning.specs.declared.Refusal.{Refusal}
 use Rattle.residuals.specs.System.{System}
 use Rattle.ltl.proofs.Instance.{ltlSystem}
 use Rattle.smallest.specs.Table.{Outcome, tableOf}
-use Rattle.smallest.proofs.Accepted.{accepted-signals}
-use Rattle.smallest.proofs.Tables.{over-signals}
+use Rattle.smallest.proofs.Accepted.{accepted-formed}
+use Rattle.smallest.proofs.Tables.{of-formed}
+use Rattle.smallest.proofs.Alike.{Alike, alike, system-same, tables-same}
 use Rattle.building.specs.Build.{outcomeOf, answerTo, outputOf, answerOf, outputAfter}
 use Rattle.two_byte_bodies.specs.Earlier.{oldProperty, oldJudge}
 use Rattle.two_byte_bodies.specs.Kept.{widenedRule, widenedJudgement, ThirdByte, oldAnswer, oldOutput, Kept}
 use Rattle.two_byte_bodies.proofs.Readings.{readings}
 use Rattle.two_byte_bodies.proofs.Meanings.{property-kept}
-use Rattle.two_byte_bodies.proofs.Tables.{Equal, system-same, tables-same}
 
-rule-same : (r : Rule) → Equal (propertyOf (widenedRule r)) (oldProperty r)
-rule-same r = record { on = property-kept r }
+rule-same : (r : Rule) → Alike (alphabetOf r) (alphabetOf r) (propertyOf (widenedRule r)) (oldProperty r)
+rule-same r = alike (alphabetOf r) (property-kept r)
 
 module _ (system : (r : Rule) → System (alphabetOf r) (oldProperty r)) (file : List ℕ) (same : judge file ≡ widenedJudgement (oldJudge file)) where
   outcome-same : (r : Rule) → oldJudge file ≡ Accepted r → outcomeOf (widenedRule r) ≡ tableOf (system r) (r .signals)
   unfolding outcomeOf
-  outcome-same r q = tables-same (over-signals (accepted-signals file (widenedRule r) (same ∙ ap widenedJudgement q))) (rule-same r) (ltlSystem (widenedRule r)) (system r)
+  outcome-same r q = tables-same (rule-same r) (of-formed (accepted-formed file (widenedRule r) (same ∙ ap widenedJudgement q))) (ltlSystem (widenedRule r)) (system r)
 
   -- what follows from the judgement
   follows : {A : Type 0} (now was : Judgement → A) → ((r : Rule) → oldJudge file ≡ Accepted r → now (Accepted (widenedRule r)) ≡ was (Accepted r))
@@ -48,7 +48,7 @@ kept system file = elim (readings file) [ inl same ↦ inl (all-kept system file
 
 -- there is such a system: that of the rule as it is now
 pub oldSystem : (r : Rule) → System (alphabetOf r) (oldProperty r)
-oldSystem r = system-same (alphabetOf r) (rule-same r) (ltlSystem (widenedRule r))
+oldSystem r = system-same (rule-same r) (ltlSystem (widenedRule r))
 
 pub kept-here : (file : List ℕ) → Kept oldSystem file ⊎ ThirdByte file
 kept-here file = kept oldSystem file

@@ -1,4 +1,3 @@
 pub mod Readings
 pub mod Meanings
-pub mod Tables
 pub mod Kept

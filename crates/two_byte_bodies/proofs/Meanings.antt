@@ -8,7 +8,8 @@ use native.Mathlib.Omega.{arith}
 use lib.ListN.{length, getD, length-map, List·getD-map}
 use lib.Dec.{lit<}
 use Rattle.meaning.specs.Traces.{Lasso, at}
-use Rattle.meaning.specs.Formulas.{Formula, falsum, verum, signal, atLeast, neg, and, or, implies, iff, xor, next, until, eventually, always, bit, countOn, Until, Sat}
+use Rattle.meaning.specs.Bytes.{bit}
+use Rattle.meaning.specs.Formulas.{Formula, falsum, verum, signal, atLeast, neg, and, or, implies, iff, xor, next, until, eventually, always, countOn, Until, Sat}
 use Rattle.meaning.specs.RuleFiles.{Rule, formulaOf, formulas, ruleFormula, propertyOf}
 use Rattle.meaning.specs.declared.Node.{Node}
 use Rattle.two_byte_bodies.specs.Earlier.{OldSat, oldProperty}

@@ -9,15 +9,17 @@ use lib.ListN.{length, take, length-map}
 use lib.Dec.{ltb, leb, eqb}
 use borrow.Author.Tests.{eqb-true, ne-eqb}
 use Rattle.meaning.specs.Bytes.{u16At}
-use Rattle.meaning.specs.RuleFiles.{bodyLength, lengthFits, temporal, temporals, firstOf, frameChecks, headerOf, nodeAt, operandsFit, rangesFit, readingOf, Judgement, Accepted, Refused, nodesFrom, judge}
+use Rattle.meaning.specs.RuleFiles.{bodyLength, lengthFits, temporal, temporals, firstOf, frameChecks, headerOf, nodeAt, operandsFit, rangesFit, readingOf, Judgement, Accepted, Refused, maskOf, nodesFrom, bodyFrom, judge}
 use Rattle.meaning.specs.declared.Node.{Node}
 use Rattle.meaning.specs.declared.Refusal.{Refusal}
 use Rattle.meaning.specs.declared.Refusal.the-variants.{WrongLength, WrongOperand, OutOfRange, EighthTemporal, TrailingBytes}
 use Rattle.meaning.specs.declared.HeaderReading.{HeaderReading}
 use Rattle.meaning.specs.declared.HeaderReading.the-variants as HeaderReading
+use Rattle.meaning.specs.declared.MaskReading.{MaskReading}
+use Rattle.meaning.specs.declared.MaskReading.the-variants as MaskReading
 use Rattle.meaning.specs.declared.Reading.{Reading}
 use Rattle.meaning.specs.declared.Reading.the-variants as Reading
-use Rattle.two_byte_bodies.specs.Earlier.{oldNodeAt, oldReading, oldNodes, oldJudge}
+use Rattle.two_byte_bodies.specs.Earlier.{oldNodeAt, oldReading, oldNodes, oldBody, oldJudge}
 use Rattle.two_byte_bodies.specs.Kept.{widened, widenedJudgement, ThirdByte}
 
 abbrev kindAt : List ℕ → ℕ → ℕ
@@ -90,20 +92,20 @@ after-first f (c ∷ cs) n = go (c .0) (after-first f cs n)
 abbrev checks : List ℕ → ℕ → ℕ → Bool → List Node → Node → List (Bool × Refusal)
 checks b P p fits earlier n = frameChecks b p (leb (n .kind) 13) fits ++ later P p earlier n
 
-nodes-are : (k : ℕ) (b : List ℕ) (P p : ℕ) (earlier : List Node)
-    → nodesFrom (suc k) b P p earlier
-    ≡ firstOf Refused (checks b P p (lengthFits (kindAt b p) (u16At b p)) earlier (nodeAt b p)) (nodesFrom k b P (p + 2 + u16At b p) (earlier ++ (nodeAt b p ∷ [])))
+nodes-are : (k : ℕ) (b : List ℕ) (P m p : ℕ) (earlier : List Node)
+    → nodesFrom (suc k) b P m p earlier
+    ≡ firstOf Refused (checks b P p (lengthFits (kindAt b p) (u16At b p)) earlier (nodeAt b p)) (nodesFrom k b P m (p + 2 + u16At b p) (earlier ++ (nodeAt b p ∷ [])))
 unfolding nodesFrom readingOf
-nodes-are k b P p earlier =
-    after-first (λ n. nodesFrom k b P (p + 2 + u16At b p) (earlier ++ (n ∷ []))) (checks b P p (lengthFits (kindAt b p) (u16At b p)) earlier (nodeAt b p)) (nodeAt b p)
+nodes-are k b P m p earlier =
+    after-first (λ n. nodesFrom k b P m (p + 2 + u16At b p) (earlier ++ (n ∷ []))) (checks b P p (lengthFits (kindAt b p) (u16At b p)) earlier (nodeAt b p)) (nodeAt b p)
 
-old-nodes-are : (k : ℕ) (b : List ℕ) (P p : ℕ) (earlier : List Node)
-    → oldNodes (suc k) b P p earlier
+old-nodes-are : (k : ℕ) (b : List ℕ) (P m p : ℕ) (earlier : List Node)
+    → oldNodes (suc k) b P m p earlier
     ≡ firstOf Refused (checks b P p (eqb (u16At b p) (2 + bodyLength (kindAt b p))) earlier (oldNodeAt b p))
-    (oldNodes k b P (p + 4 + bodyLength (kindAt b p)) (earlier ++ (oldNodeAt b p ∷ [])))
+    (oldNodes k b P m (p + 4 + bodyLength (kindAt b p)) (earlier ++ (oldNodeAt b p ∷ [])))
 unfolding oldNodes oldReading
-old-nodes-are k b P p earlier =
-    after-first (λ n. oldNodes k b P (p + 4 + bodyLength (n .kind)) (earlier ++ (n ∷ [])))
+old-nodes-are k b P m p earlier =
+    after-first (λ n. oldNodes k b P m (p + 4 + bodyLength (n .kind)) (earlier ++ (n ∷ [])))
     (checks b P p (eqb (u16At b p) (2 + bodyLength (kindAt b p))) earlier (oldNodeAt b p)) (oldNodeAt b p)
 
 -- ---- the judgement
@@ -146,30 +148,40 @@ module _ (b : List ℕ) where
       go false true true e q r =
           inr (λ was. record { place = p; was = was; kind = omega (arith, eqb-true k 3 q); length = omega (arith, eqb-true l (2 + 3) r) })
 
-  nodes-alike : (k P p : ℕ) (earlier : List Node) → Alike (nodesFrom k b P p (map widened earlier)) (oldNodes k b P p earlier)
+  nodes-alike : (k P m p : ℕ) (earlier : List Node) → Alike (nodesFrom k b P m p (map widened earlier)) (oldNodes k b P m p earlier)
   unfolding nodesFrom oldNodes
-  nodes-alike zero P p earlier =
+  nodes-alike zero P m p earlier =
       first-alike ((ltb p (length b), TrailingBytes p) ∷ [])
-      (Accepted (record { signals = P; nodes = map widened earlier })) (Accepted (record { signals = P; nodes = earlier })) (inl refl)
-  nodes-alike (suc k) P p earlier =
+      (Accepted (record { signals = P; mask = m; nodes = map widened earlier })) (Accepted (record { signals = P; mask = m; nodes = earlier })) (inl refl)
+  nodes-alike (suc k) P m p earlier =
       let n = oldNodeAt b p in
-      let old = oldNodes k b P (p + 4 + bodyLength (n .kind)) (earlier ++ (n ∷ [])) in
-      let new = nodesFrom k b P (p + 2 + u16At b p) (map widened earlier ++ (nodeAt b p ∷ [])) in
-      subst₂ Alike (sym (nodes-are k b P p (map widened earlier))) (sym (old-nodes-are k b P p earlier))
+      let old = oldNodes k b P m (p + 4 + bodyLength (n .kind)) (earlier ++ (n ∷ [])) in
+      let new = nodesFrom k b P m (p + 2 + u16At b p) (map widened earlier ++ (nodeAt b p ∷ [])) in
+      subst₂ Alike (sym (nodes-are k b P m p (map widened earlier))) (sym (old-nodes-are k b P m p earlier))
       (first-alike (take 4 (frameChecks b p (leb (n .kind) 13) true)) _ _
       (length-alike p _ _ new old (λ h. (
         later-same b P p earlier h,
-        subst₂ (λ (q : ℕ) (ns : List Node). Alike (nodesFrom k b P q ns) old) (omega arith)
+        subst₂ (λ (q : ℕ) (ns : List Node). Alike (nodesFrom k b P m q ns) old) (omega arith)
             (map-append widened earlier (n ∷ []) ∙ ap (λ (m : Node). map widened earlier ++ (m ∷ [])) (sym (node-is b p h)))
-            (nodes-alike k P (p + 4 + bodyLength (n .kind)) (earlier ++ (n ∷ []))),
+            (nodes-alike k P m (p + 4 + bodyLength (n .kind)) (earlier ++ (n ∷ []))),
       ))))
+
+  body-alike : (k P : ℕ) → Alike (bodyFrom k b P) (oldBody k b P)
+  unfolding bodyFrom oldBody
+  body-alike k P = go (maskOf b P)
+    where
+      go : (x : MaskReading)
+          → Alike (elim x as (λ _. Judgement) [ MaskReading.Mask m p ↦ nodesFrom k b P m p [] | MaskReading.Refused r ↦ Refused r ])
+          (elim x as (λ _. Judgement) [ MaskReading.Mask m p ↦ oldNodes k b P m p [] | MaskReading.Refused r ↦ Refused r ])
+      go (MaskReading.Mask m p) = nodes-alike k P m p []
+      go (MaskReading.Refused r) = inl refl
 
 pub readings : (file : List ℕ) → (judge file ≡ widenedJudgement (oldJudge file)) ⊎ ThirdByte file
 unfolding judge oldJudge
 readings file = elim (go (headerOf file)) [ inl q ↦ inl q | inr third ↦ inr (third refl) ]
   where
     go : (x : HeaderReading)
-        → Alike file (elim x as (λ _. Judgement) [ HeaderReading.Header h ↦ nodesFrom (h .nodes) file (h .signals) 6 [] | HeaderReading.Refused r ↦ Refused r ])
-        (elim x as (λ _. Judgement) [ HeaderReading.Header h ↦ oldNodes (h .nodes) file (h .signals) 6 [] | HeaderReading.Refused r ↦ Refused r ])
-    go (HeaderReading.Header h) = nodes-alike file (h .nodes) (h .signals) 6 []
+        → Alike file (elim x as (λ _. Judgement) [ HeaderReading.Header h ↦ bodyFrom (h .nodes) file (h .signals) | HeaderReading.Refused r ↦ Refused r ])
+        (elim x as (λ _. Judgement) [ HeaderReading.Header h ↦ oldBody (h .nodes) file (h .signals) | HeaderReading.Refused r ↦ Refused r ])
+    go (HeaderReading.Header h) = body-alike file (h .nodes) (h .signals)
     go (HeaderReading.Refused r) = inl refl

@@ -1,5 +1,5 @@
--- Rule files before C-12, by document 01 alone: what they meant, and how they were read. A node of that time is one whose upper count is 0, which the
--- check of ranges always lets pass and nothing else looks at. What C-12 leaves alone is taken from meaning.
+-- Rule files without C-12, by document 01: what they meant, and how they were read. A node of that time is one whose upper count is 0, which the
+-- check of ranges always lets pass and nothing else looks at. What C-12 leaves alone, the mask of a later request too, is taken from meaning.
 use mathlib.Core.List.{List, [], _∷_, _++_}
 use mathlib.Core.Bool.{cond, not, _&&_}
 use mathlib.Core.Logic.{_⊎_, _↔_}
@@ -7,15 +7,16 @@ use mathlib.Core.Path.{_≡_}
 use Prim.Native.Nat.{ℕ, zero, suc, _+_, _≤_}
 use lib.ListN.{length, getD}
 use lib.Dec.{ltb, leb, eqb}
-use Rattle.meaning.specs.Bytes.{u16At}
+use Rattle.meaning.specs.Bytes.{bit, u16At}
 use Rattle.meaning.specs.Traces.{at}
-use Rattle.meaning.specs.Formulas.{Formula, falsum, verum, signal, atLeast, neg, and, or, implies, iff, xor, next, until, eventually, always, bit, countOn, Until, Eventually}
+use Rattle.meaning.specs.Formulas.{Formula, falsum, verum, signal, atLeast, neg, and, or, implies, iff, xor, next, until, eventually, always, countOn, Until, Eventually}
 use Rattle.meaning.specs.Verdicts.{Property}
-use Rattle.meaning.specs.RuleFiles.{Rule, ruleFormula, bodyLength, temporal, temporals, operandsFit, rangesFit, firstOf, frameChecks, headerOf, Judgement, Accepted, Refused}
+use Rattle.meaning.specs.RuleFiles.{Rule, ruleFormula, bodyLength, temporal, temporals, operandsFit, rangesFit, firstOf, frameChecks, headerOf, maskOf, Judgement, Accepted, Refused}
 use Rattle.meaning.specs.RuleTexts.{node}
 use Rattle.meaning.specs.declared.Node.{Node}
 use Rattle.meaning.specs.declared.Refusal.the-variants.{WrongOperand, OutOfRange, EighthTemporal, TrailingBytes}
 use Rattle.meaning.specs.declared.HeaderReading.the-variants as HeaderReading
+use Rattle.meaning.specs.declared.MaskReading.the-variants as MaskReading
 use Rattle.meaning.specs.declared.Reading.{Reading}
 use Rattle.meaning.specs.declared.Reading.the-variants as Reading
 
@@ -61,17 +62,24 @@ oldReading b P p number seen =
     ∷ []))
     (Reading.Node n)
 
-unfoldable pub oldNodes : ℕ → List ℕ → ℕ → ℕ → List Node → Judgement
-oldNodes zero b P p earlier = cond (ltb p (length b)) (Refused (TrailingBytes p)) (Accepted (record { signals = P; nodes = earlier }))
-oldNodes (suc k) b P p earlier =
+unfoldable pub oldNodes : ℕ → List ℕ → ℕ → ℕ → ℕ → List Node → Judgement
+oldNodes zero b P m p earlier = cond (ltb p (length b)) (Refused (TrailingBytes p)) (Accepted (record { signals = P; mask = m; nodes = earlier }))
+oldNodes (suc k) b P m p earlier =
     elim (oldReading b P p (length earlier) (temporals earlier)) [
-      | Reading.Node n ↦ oldNodes k b P (p + 4 + bodyLength (n .kind)) (earlier ++ (n ∷ []))
+      | Reading.Node n ↦ oldNodes k b P m (p + 4 + bodyLength (n .kind)) (earlier ++ (n ∷ []))
       | Reading.Refused r ↦ Refused r
+    ]
+
+unfoldable pub oldBody : ℕ → List ℕ → ℕ → Judgement
+oldBody k b P =
+    elim (maskOf b P) [
+      | MaskReading.Mask m p ↦ oldNodes k b P m p []
+      | MaskReading.Refused r ↦ Refused r
     ]
 
 unfoldable pub oldJudge : List ℕ → Judgement
 oldJudge b =
     elim (headerOf b) [
-      | HeaderReading.Header h ↦ oldNodes (h .nodes) b (h .signals) 6 []
+      | HeaderReading.Header h ↦ oldBody (h .nodes) b (h .signals)
       | HeaderReading.Refused r ↦ Refused r
     ]

@@ -22,7 +22,7 @@ abbrev pub widened : Node → Node
 widened n = record { kind = n .kind; a = n .a; b = n .b; upper = cond (eqb (n .kind) 3) 4 0 }
 
 abbrev pub widenedRule : Rule → Rule
-widenedRule r = record { signals = r .signals; nodes = map widened (r .nodes) }
+widenedRule r = record { signals = r .signals; mask = r .mask; nodes = map widened (r .nodes) }
 
 abbrev pub widenedJudgement : Judgement → Judgement
 widenedJudgement (Accepted r) = Accepted (widenedRule r)

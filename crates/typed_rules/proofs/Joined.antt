@@ -51,13 +51,14 @@ typed-table {text} {file} {P} {t} {table} b =
       few = subst (λ (L : Property). ¬ MoreThan (over P) L 256) e (two .not-both table (b .built));
       form = three .form;
       signals = three .signals;
+      events = three .events;
       order = three .order;
       smallest = subst (λ (L : Property). (m : Monitor) → Over (over P) m → ShowsVerdicts (over P) L m → statesIn table ≤ m .states) e (three .smallest);
       unique = subst (λ (L : Property). (m : Monitor) → Over (over P) m → ShowsVerdicts (over P) L m → m .states ≡ statesIn table → Renumbered (over P) (monitorOf table) m) e (three .unique);
       canonical = λ text′ file′ t′ table′ b′.
           subst (λ (L : Property). (table ≡ table′) ↔ ((w : List ℕ) → Word (over P) w → (v : Verdict) → Judged (over P) L w v ↔ Judged (over P) (typed t′) w v)) e
           (subst (λ (L : Property). (table ≡ table′) ↔ ((w : List ℕ) → Word (over P) w → (v : Verdict) → Judged (over P) (propertyOf r) w v ↔ Judged (over P) L w v)) (table-formula b′)
-          (three .canonical file′ (ruleOf P t′) table′ (b′ .reads) (b′ .built) refl));
+          (three .canonical file′ (ruleOf P t′) table′ (b′ .reads) (b′ .built) refl refl));
     }
 
 -- The join. Whatever the text, its file and the buffers: where the text was written as a file of n bytes, building these bytes answers and leaves what

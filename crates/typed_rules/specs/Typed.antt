@@ -5,11 +5,11 @@ use mathlib.Core.List.{List}
 use mathlib.Core.Bool.{true}
 use Prim.Native.Nat.{ℕ, _≤_}
 use lib.ListN.{take}
-use Rattle.meaning.specs.Traces.{over, Word}
+use Rattle.meaning.specs.Traces.{over, isEvent, Word}
 use Rattle.meaning.specs.Formulas.{Holds}
 use Rattle.meaning.specs.Verdicts.{Property, Judged, MoreThan}
 use Rattle.meaning.specs.Monitors.{Monitor, Over, shows, ShowsVerdicts, Renumbered, BreadthFirst}
-use Rattle.meaning.specs.TableFiles.{isTable, signalsIn, statesIn, monitorOf}
+use Rattle.meaning.specs.TableFiles.{isTable, alphabetIn, signalsIn, statesIn, monitorOf}
 use Rattle.meaning.specs.Refusals.{codeOf}
 use Rattle.meaning.specs.Grammar.{Tree, Fits}
 use Rattle.meaning.specs.RuleTexts.{treeFormula, ruleOf}
@@ -39,6 +39,7 @@ pub record TypedTable (text : List ℕ) (P : ℕ) (file table : List ℕ) : Type
   pub few : ¬ MoreThan (over P) (typed tree) 256
   pub form : isTable table ≡ true
   pub signals : signalsIn table ≡ P
+  pub events : (e : ℕ) → isEvent (alphabetIn table (signalsIn table)) e ≡ isEvent (over P) e
   pub order : BreadthFirst (over P) (monitorOf table)
   pub smallest : (m : Monitor) → Over (over P) m → ShowsVerdicts (over P) (typed tree) m → statesIn table ≤ m .states
   pub unique : (m : Monitor) → Over (over P) m → ShowsVerdicts (over P) (typed tree) m → m .states ≡ statesIn table → Renumbered (over P) (monitorOf table) m
