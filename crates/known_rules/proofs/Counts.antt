@@ -6,7 +6,8 @@ use native.Mathlib.Nat.{mod-lt}
 use native.Mathlib.Decide.{ℕ-discrete}
 use native.Mathlib.Omega.{arith}
 use lib.Dec.{lit<}
-use Rattle.meaning.specs.Formulas.{atLeast, bit, countOn, Sat}
+use Rattle.meaning.specs.Bytes.{bit}
+use Rattle.meaning.specs.Formulas.{atLeast, countOn, Sat}
 
 -- an upper count below k: "such a node is false"
 pub never : (w : ℕ → ℕ) (m k upper i : ℕ) → upper < k → ¬ Sat w (atLeast m k upper) i

@@ -13,7 +13,7 @@ unfolding ruleFile tableFile ruleIn outcomeOf
 computed = refl
 
 -- two functions with the same values over a list are equal at each of its elements
-equal-at : {A B : Type 0} (f g : A → B) {a : A} {l : List A} → map f l ≡ map g l → List·Memᴰ a l → f a ≡ g a
+pub equal-at : {A B : Type 0} (f g : A → B) {a : A} {l : List A} → map f l ≡ map g l → List·Memᴰ a l → f a ≡ g a
 equal-at f g c (List·Memᴰ·head e) = cc
 equal-at f g c (List·Memᴰ·tail m) = equal-at f g (cc) m
 

@@ -1,4 +1,5 @@
 pub mod Lines
+pub mod Masks
 pub mod Known
 pub mod Faults
 pub mod Printed

@@ -2,12 +2,12 @@
 use mathlib.Core.Path.{_≡_, ap, subst, subst₂}
 use mathlib.Core.Logic.{_↔_}
 use mathlib.Core.List.{List, []}
-use Prim.Native.Nat.{ℕ}
-use Rattle.meaning.specs.Traces.{over, Word}
+use Prim.Native.Nat.{ℕ, _^_}
+use Rattle.meaning.specs.Traces.{masked, Word}
 use Rattle.meaning.specs.Formulas.{Formula, Holds}
 use Rattle.meaning.specs.Verdicts.{Judged}
 use Rattle.meaning.specs.Monitors.{shows}
-use Rattle.meaning.specs.RuleFiles.{Rule, propertyOf, ruleFormula, Judgement, judge, headerOf, nodesFrom, readingOf}
+use Rattle.meaning.specs.RuleFiles.{Rule, propertyOf, ruleFormula, Judgement, judge, headerOf, maskOf, bodyFrom, nodesFrom, readingOf}
 use Rattle.meaning.specs.TableFiles.{monitorOf}
 use Rattle.meaning.specs.Demands.{Reads}
 use Rattle.meaning.specs.declared.Verdict.{Verdict}
@@ -23,35 +23,37 @@ use Rattle.smallest.specs.Table.{Outcome, reducedBytes, classOf, classesOf, tab
 use Rattle.smallest.specs.Builder.{Built}
 use Rattle.smallest.proofs.Demands.{demands}
 use Rattle.known_rules.specs.Rules.{KnownRule}
-use Rattle.known_rules.specs.Lines.{bytes, Line, TableOf}
+use Rattle.known_rules.specs.Lines.{bytes, alphabet, Line, TableOf}
 
 -- the rule of a file, and one with no node where the file is refused
 unfoldable pub ruleIn : List ℕ → Rule
-unfolding judge headerOf nodesFrom readingOf
-ruleIn file = elim (judge file) [ Judgement.Accepted r ↦ r | Judgement.Refused r ↦ record { signals = 0; nodes = [] } ]
+unfolding judge headerOf bodyFrom maskOf nodesFrom readingOf
+ruleIn file = elim (judge file) [ Judgement.Accepted r ↦ r | Judgement.Refused r ↦ record { signals = 0; mask = 0; nodes = [] } ]
 
 -- what is built of a rule; where this unfolds, all does that is needed to compute it
 unfoldable pub outcomeOf : Rule → Outcome
 unfolding ltlSystem nodesSystem tablesOf wholeSet realizable explore exploreFrom expand expandFrom visit enter locate tableOf classOf classesOf reducedBytes grouping rounds nextGroups firstGroups leaders size number closed verdicts quotientRows tableBytes
 outcomeOf rule = tableOf (ltlSystem rule) (rule .signals)
 
--- what is computed of a file: the judgement, and of its rule the signals, the formula and the table
+-- what is computed of a file: the judgement, and of its rule the signals, the mask, the formula and the table
 pub record Found : Type 0 where
   pub judgement : Judgement
   pub signals : ℕ
+  pub mask : ℕ
   pub formula : Formula
   pub outcome : Outcome
 
 abbrev pub found : KnownRule → Found
 found k =
     let rule = ruleIn (k .file) in
-    record { judgement = judge (k .file); signals = rule .signals; formula = ruleFormula rule; outcome = outcomeOf rule }
+    record { judgement = judge (k .file); signals = rule .signals; mask = rule .mask; formula = ruleFormula rule; outcome = outcomeOf rule }
 
 -- what a line says of it
 abbrev pub expected : KnownRule → Found
 expected k = record {
   judgement = Judgement.Accepted (ruleIn (k .file));
   signals = k .table .signals;
+  mask = k .table .mask;
   formula = k .formula;
   outcome = Outcome.Table (bytes k);
 }
@@ -73,6 +75,7 @@ line k c = record {
   rule = ruleIn (k .file);
   reads = reads;
   signals = ap (λ (f : Found). f .signals) c;
+  mask = ap (λ (f : Found). f .mask) c;
   formula = ap (λ (f : Found). f .formula) c;
   built = built;
   only = λ t b. one-table b built;
@@ -89,6 +92,7 @@ line k c = record {
 pub line-table : {k : KnownRule} → Line k → TableOf k
 unfolding propertyOf
 line-table {k} l =
-    subst₂
-    (λ (P : ℕ) (f : Formula). (w : List ℕ) → Word (over P) w → (v : Verdict) → (shows (monitorOf (bytes k)) w ≡ v) ↔ Judged (over P) (λ ρ. Holds ρ 0 f) w v)
-    (l .signals) (l .formula) (l .verdicts)
+    subst (λ (f : Formula). (w : List ℕ) → Word (alphabet k) w → (v : Verdict) → (shows (monitorOf (bytes k)) w ≡ v) ↔ Judged (alphabet k) (λ ρ. Holds ρ 0 f) w v) (l .formula)
+    (subst₂
+    (λ (P m : ℕ). (w : List ℕ) → Word (masked (2 ^ P) m) w → (v : Verdict) → (shows (monitorOf (bytes k)) w ≡ v) ↔ Judged (masked (2 ^ P) m) (propertyOf (l .rule)) w v)
+    (l .signals) (l .mask) (l .verdicts))
