@@ -13,6 +13,7 @@ pub use all::{certify_all, Summary};
 use telling::Telling;
 
 use crate::lasso::{satisfies, POSITIONS};
+use crate::mask;
 use crate::rule::Rule;
 use crate::search::{Bounds, Class, Judgement, Search};
 use crate::table::{Monitor, Verdict};
@@ -20,7 +21,8 @@ use crate::table::{Monitor, Verdict};
 /// What was needed to certify one table.
 #[derive(Clone, Debug)]
 pub struct Report {
-    pub signals: u8,
+    /// How many events can happen.
+    pub events: usize,
     /// How many states show each verdict, by the verdict's byte.
     pub states: [usize; 4],
     pub lists: usize,
@@ -28,12 +30,13 @@ pub struct Report {
     pub longest_lasso: usize,
 }
 
-/// How many further events are tried behind a moot state.
-pub fn moot_depth(signals: u8) -> usize {
-    match signals {
-        1 => 6,
-        2 => 4,
-        3 => 3,
+/// How many further events are tried behind a moot state, where so many can happen.
+pub fn moot_depth(events: usize) -> usize {
+    match events {
+        ..=2 => 6,
+        3 => 5,
+        4 | 5 => 4,
+        6..=8 => 3,
         _ => 2,
     }
 }
@@ -43,6 +46,9 @@ pub fn certify(rule: &Rule, table: &[u8], bounds: Bounds) -> Result<Report, Stri
     let monitor = Monitor::open(table).map_err(|refusal| format!("not a table: {refusal}"))?;
     if monitor.signals != rule.signals {
         return Err(format!("the table has {} signals", monitor.signals));
+    }
+    if monitor.possible() != rule.possible() {
+        return Err(format!("the table has the events of mask {}", monitor.possible()));
     }
     let access = access_lists(&monitor)?;
     let telling = Telling::of(&monitor)?;
@@ -62,8 +68,7 @@ fn access_lists(monitor: &Monitor) -> Result<Vec<Vec<u8>>, String> {
     let mut lists = vec![Vec::new()];
     let mut state = 0;
     while state < lists.len() {
-        for (event, &successor) in monitor.states[state].successors.iter().enumerate() {
-            let successor = usize::from(successor);
+        for (event, successor) in monitor.states[state].steps() {
             if successor > lists.len() {
                 return Err(format!(
                     "state {successor} is met where state {} is due, from state {state} on {event}",
@@ -71,7 +76,7 @@ fn access_lists(monitor: &Monitor) -> Result<Vec<Vec<u8>>, String> {
                 ));
             }
             if successor == lists.len() {
-                lists.push([&lists[state][..], &[event as u8]].concat());
+                lists.push([&lists[state][..], &[event]].concat());
             }
         }
         state += 1;
@@ -97,13 +102,14 @@ impl Check<'_> {
 
     /// A moot state stays where it is, and no further list is decided.
     fn moot_states(&mut self) -> Result<(), String> {
+        let events: Vec<u8> = mask::events(self.monitor.possible()).collect();
         for state in self.states_with(Verdict::Moot) {
-            let successors = &self.monitor.states[state].successors;
-            if let Some(other) = successors.iter().find(|&&other| usize::from(other) != state) {
+            let mut steps = self.monitor.states[state].steps();
+            if let Some((_, other)) = steps.find(|&(_, other)| other != state) {
                 return Err(format!("moot state {state} leads to state {other}"));
             }
-            for length in 1..=moot_depth(self.monitor.signals) {
-                for list in lists_of(length, self.monitor.signals) {
+            for length in 1..=moot_depth(events.len()) {
+                for list in lists_over(&events, length) {
                     self.confirm(state, &list, state)?;
                 }
             }
@@ -144,11 +150,10 @@ impl Check<'_> {
         let lists: Vec<Vec<Vec<u8>>> =
             (0..self.access.len()).map(|state| telling.lists(self.monitor, state)).collect();
         for state in 0..self.access.len() {
-            for (event, &successor) in self.monitor.states[state].successors.iter().enumerate() {
-                let successor = usize::from(successor);
-                self.confirm(state, &[event as u8], successor)?;
+            for (event, successor) in self.monitor.states[state].steps() {
+                self.confirm(state, &[event], successor)?;
                 for list in &lists[successor] {
-                    let further = [&[event as u8], &list[..]].concat();
+                    let further = [&[event], &list[..]].concat();
                     self.confirm(state, &further, follow(self.monitor, successor, list))?;
                 }
             }
@@ -183,9 +188,9 @@ impl Check<'_> {
             if Class::of(self.monitor.states[state].verdict) != Class::Neither {
                 return Some(way);
             }
-            for (event, &successor) in self.monitor.states[state].successors.iter().enumerate() {
-                if !std::mem::replace(&mut seen[usize::from(successor)], true) {
-                    ways.push((successor.into(), [&way[..], &[event as u8]].concat()));
+            for (event, successor) in self.monitor.states[state].steps() {
+                if !std::mem::replace(&mut seen[successor], true) {
+                    ways.push((successor, [&way[..], &[event]].concat()));
                 }
             }
         }
@@ -199,7 +204,7 @@ impl Check<'_> {
         }
         let judged = || self.search.judged();
         Report {
-            signals: self.monitor.signals,
+            events: self.monitor.possible().count_ones() as usize,
             states,
             lists: judged().count(),
             longest_list: judged().map(|(list, _)| list.len()).max().unwrap_or(0),
@@ -229,26 +234,29 @@ fn follow(monitor: &Monitor, state: usize, list: &[u8]) -> usize {
         .fold(state, |state, &event| monitor.states[state].successors[usize::from(event)].into())
 }
 
-/// Every list of this length, in ascending order.
-fn lists_of(length: usize, signals: u8) -> impl Iterator<Item = Vec<u8>> {
-    let digit = move |number: usize, place: usize| {
-        (number >> (usize::from(signals) * place) & ((1 << signals) - 1)) as u8
-    };
-    (0..1 << (usize::from(signals) * length))
-        .map(move |number| (0..length).rev().map(|place| digit(number, place)).collect())
+/// Every list of this length over these events, in their order.
+pub fn lists_over(events: &[u8], length: usize) -> Vec<Vec<u8>> {
+    (0..length).fold(vec![Vec::new()], |lists, _| {
+        let longer = |list: &Vec<u8>| -> Vec<Vec<u8>> {
+            events.iter().map(|&event| [&list[..], &[event]].concat()).collect()
+        };
+        lists.iter().flat_map(longer).collect()
+    })
 }
 
 /// How many of the lists leave different properties, as far as the given
-/// continuations, in each of which the last event comes for ever, can tell.
+/// continuations, in each of which the last event comes for ever, can tell. Those with
+/// an event that cannot happen are passed over.
 pub fn different_residuals(rule: &Rule, lists: &[Vec<u8>], continuations: &[Vec<u8>]) -> usize {
+    let is_possible = |list: &&Vec<u8>| list.iter().all(|&event| mask::has(rule.possible(), event));
     let signature = |list: &Vec<u8>| -> Vec<bool> {
         let holds = |continuation: &Vec<u8>| {
             let trace = [&list[..], continuation].concat();
             satisfies(rule, &trace, trace.len() - 1)
         };
-        continuations.iter().map(holds).collect()
+        continuations.iter().filter(is_possible).map(holds).collect()
     };
-    lists.iter().map(signature).collect::<HashSet<_>>().len()
+    lists.iter().filter(is_possible).map(signature).collect::<HashSet<_>>().len()
 }
 
 #[cfg(test)]

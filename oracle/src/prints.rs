@@ -1,7 +1,7 @@
 //! Inputs of the program that prints tables, each with what it must print.
 //!
 //! The program takes the first 4,096 bytes of its input as a rule file, builds
-//! the table with room for every table, and prints it. So of the sixteen refusals
+//! the table with room for every table, and prints it. So of the seventeen refusals
 //! six cannot happen: 10, since the room is enough; 12 and 13, since nothing is
 //! run; 14, since only a built table is opened; 15 and 16, since no text is read.
 
@@ -12,9 +12,11 @@ use std::path::Path;
 
 use crate::builder;
 use crate::record::{claiming, well_sized};
-use crate::rule::{header_record, kind, Rule};
+use crate::rule::{header_record, kind, mask_record, Rule};
 use crate::table::Monitor;
-use crate::vectors::rule_samples::{nexts, p3, rule, shared_nexts, P};
+use crate::vectors::mask_samples::NOT_ALONE;
+use crate::vectors::rule_samples::{longest_file, one_too_many};
+use crate::vectors::rule_samples::{nexts, p12, p3, rule, shared_nexts, P};
 
 /// How many bytes of its input the program takes.
 const TAKEN: usize = 4096;
@@ -58,6 +60,7 @@ pub fn write_all(folder: &Path, rule_files: &[&Path]) -> Result<usize, String> {
         prints.push(Print::new(stem.to_string_lossy(), input));
     }
     prints.extend(refused());
+    prints.extend(masked());
     prints.extend(long());
     let names: BTreeSet<&str> = prints.iter().map(|print| print.name.as_str()).collect();
     if names.len() < prints.len() {
@@ -101,9 +104,38 @@ fn refused() -> Vec<Print> {
         (8, bytes(nexts(8))),
         (9, [&bytes(p3())[..], &[0]].concat()),
         (11, bytes(shared_nexts(6))),
+        (17, bytes(p3().with_mask(0))),
     ];
     let named = |(number, input)| Print::new(format!("refused_{number}"), input);
     inputs.map(named).into()
+}
+
+/// Rules in which not all events can happen, and masks that are refused.
+fn masked() -> Vec<Print> {
+    let doses = |mask| p12().with_mask(mask).to_bytes();
+    let p = |mask| p3().with_mask(mask).to_bytes();
+    let one_of_sixteen = Rule { signals: 4, ..p3() }.with_mask(0x8000).to_bytes();
+    let twice = [&doses(7)[..12], &doses(7)[6..]].concat();
+    let behind_a_node =
+        [&p12().to_bytes()[..11], &mask_record(7), &p12().to_bytes()[11..]].concat();
+    let last = [&p12().to_bytes()[..], &mask_record(7)].concat();
+    let inputs = [
+        ("mask_apart", doses(7)),
+        ("mask_full", doses(15)),
+        ("mask_off", p(1)),
+        ("mask_on", p(2)),
+        ("mask_one_of_sixteen", one_of_sixteen),
+        ("mask_longest", longest_file().with_mask(0x00ff).to_bytes()),
+        ("mask_edge", one_too_many().with_mask(NOT_ALONE).to_bytes()),
+        ("mask_too_high", doses(16)),
+        ("mask_empty", doses(0)),
+        ("mask_cut", doses(7)[..11].to_vec()),
+        ("mask_twice", twice),
+        ("mask_behind_a_node", behind_a_node),
+        ("mask_last", last),
+        ("mask_first", doses(7)[6..].to_vec()),
+    ];
+    inputs.map(|(name, input)| Print::new(name, input)).into()
 }
 
 /// No input, and inputs about as long as what is taken and far longer. A record that
@@ -150,6 +182,34 @@ mod tests {
             let words = print.expected().replace(' ', "_");
             assert!(words.starts_with(&format!("{}_at_", print.name)), "{}: {words}", print.name);
         }
+    }
+
+    /// Written by hand, but for the tables of the longest file and at the edge of 256.
+    #[test]
+    fn masks_print_as_they_must() {
+        let doses = ["signals 2 states 3", "0 undecided 0 1 0 65535", "1 undecided 1 2 0 65535"];
+        let apart = [&doses[..], &["2 violated 2 2 2 65535"]].concat().join("\n");
+        let one_of_sixteen = format!("signals 4 states 1\n0 satisfied{} 0", " 65535".repeat(15));
+        let expected = [
+            ("mask_apart", apart.as_str()),
+            ("mask_off", "signals 1 states 1\n0 violated 0 65535"),
+            ("mask_on", "signals 1 states 1\n0 satisfied 65535 0"),
+            ("mask_one_of_sixteen", &one_of_sixteen),
+            ("mask_too_high", "refused 7 at 6"),
+            ("mask_empty", "refused 17 at 6"),
+            ("mask_cut", "refused 1 at 6"),
+            ("mask_twice", "refused 3 at 12"),
+            ("mask_behind_a_node", "refused 3 at 11"),
+            ("mask_last", "refused 9 at 43"),
+            ("mask_first", "refused 3 at 0"),
+        ];
+        let prints = masked();
+        for (name, text) in expected {
+            let print = prints.iter().find(|print| print.name == name).unwrap();
+            assert_eq!(print.expected(), format!("{text}\n"), "{name}");
+        }
+        let full = prints.iter().find(|print| print.name == "mask_full").unwrap();
+        assert_eq!(full.expected(), Print::new("p12", p12().to_bytes()).expected());
     }
 
     #[test]

@@ -3,6 +3,8 @@
 use std::ops::RangeInclusive;
 
 use crate::builder;
+use crate::mask;
+use crate::random_masks::Leaving;
 use crate::rng::Rng;
 use crate::rule::{kind, FormulaNode, Rule, TEMPORAL_LIMIT};
 use crate::table::{Monitor, Verdict};
@@ -36,28 +38,77 @@ impl Shape {
             due -= usize::from(takes_temporal);
             drawing.add_node(rng, takes_temporal);
         }
-        Rule { signals, nodes: drawing.nodes }
+        Rule::new(signals, drawing.nodes)
     }
 
     /// A rule whose table has what seldom comes by itself: at least one up to
     /// eight states, each as often, or a moot state. After many vain draws, and
     /// if its table is refused, it is any rule.
     pub fn draw_interesting(&self, rng: &mut Rng) -> Rule {
-        let wants_moot = rng.chance(15);
-        let wanted_states = rng.between(1, if wants_moot { 3 } else { 8 });
-        let is_wanted = |monitor: Monitor| {
-            let has_moot = monitor.states.iter().any(|state| state.verdict == Verdict::Moot);
-            monitor.states.len() >= wanted_states && (has_moot || !wants_moot)
-        };
-        let mut rule = self.draw(rng);
-        for _ in 0..5000 {
-            if table_of(&rule).is_none_or(is_wanted) {
-                break;
-            }
-            rule = self.draw(rng);
-        }
-        rule
+        let wanted = Wanted::draw(rng, 8);
+        until(rng, 5000, |rng| self.draw(rng), |rule| wanted.has(rule))
     }
+
+    /// Such a rule with a mask, up to six states, half of them with a mask without which the
+    /// table has another number of states.
+    pub fn draw_masked(&self, rng: &mut Rng, leaving: Leaving) -> Rule {
+        let masked = |rng: &mut Rng| {
+            let rule = self.draw(rng);
+            let mask = leaving.draw(rng, rule.signals);
+            rule.with_mask(mask)
+        };
+        let (wanted, wants_change) = (Wanted::draw(rng, 6), rng.chance(50));
+        until(rng, 300, masked, |rule| {
+            let is_changed = !wants_change || is_changed_by_its_mask(rule);
+            // With one event there is one state.
+            is_changed && (leaving == Leaving::One || wanted.has(rule))
+        })
+    }
+}
+
+/// Whether the table has another number of states without the rule's mask.
+pub fn is_changed_by_its_mask(rule: &Rule) -> bool {
+    let states = |rule: &Rule| table_of(rule).map(|monitor| monitor.states.len());
+    rule.possible() != mask::full(rule.signals)
+        && states(rule) != states(&rule.clone().without_mask())
+}
+
+/// What a table is to have.
+struct Wanted {
+    states: usize,
+    moot: bool,
+}
+
+impl Wanted {
+    fn draw(rng: &mut Rng, most_states: usize) -> Self {
+        let moot = rng.chance(15);
+        Wanted { states: rng.between(1, if moot { 3 } else { most_states }), moot }
+    }
+
+    /// Whether the rule's table has it, or is refused.
+    fn has(&self, rule: &Rule) -> bool {
+        table_of(rule).is_none_or(|monitor| {
+            let has_moot = monitor.states.iter().any(|state| state.verdict == Verdict::Moot);
+            monitor.states.len() >= self.states && (has_moot || !self.moot)
+        })
+    }
+}
+
+/// The first rule drawn that passes, or any after so many vain draws.
+fn until(
+    rng: &mut Rng,
+    vain_draws: usize,
+    draw: impl Fn(&mut Rng) -> Rule,
+    is_wanted: impl Fn(&Rule) -> bool,
+) -> Rule {
+    let mut rule = draw(rng);
+    for _ in 0..vain_draws {
+        if is_wanted(&rule) {
+            break;
+        }
+        rule = draw(rng);
+    }
+    rule
 }
 
 /// The table of a rule; none if it is refused.
@@ -214,7 +265,7 @@ mod tests {
             }
         }
         let depends_on_the_event = |node: &&FormulaNode| {
-            let bare = Rule { signals: 4, nodes: vec![**node] };
+            let bare = Rule::new(4, vec![**node]);
             table_of(&bare).unwrap().states.len() == 3
         };
         assert!(drawn.iter().filter(depends_on_the_event).count() >= 2000);

@@ -1,11 +1,14 @@
-//! Rule files: a header record, then the formula nodes.
+//! Rule files: a header record, perhaps a mask of the events that can happen, then the
+//! formula nodes.
 
 use std::fmt;
 
+use crate::mask::{self, Mask};
 use crate::record::{self, Record};
 use crate::refusal::Refusal;
 
 pub const HEADER_KIND: u16 = 256;
+pub const MASK_KIND: u16 = 257;
 pub const NODE_LIMIT: u8 = 64;
 pub const TEMPORAL_LIMIT: usize = 7;
 /// The highest count of an "at least", lower or upper, whatever the number of signals.
@@ -143,15 +146,46 @@ impl fmt::Display for FormulaNode {
 #[derive(Clone, Debug, PartialEq, Eq)]
 pub struct Rule {
     pub signals: u8,
+    /// The events that can happen, where a record says it.
+    pub mask: Option<Mask>,
     pub nodes: Vec<FormulaNode>,
 }
 
 impl Rule {
+    /// A rule without a record of its mask.
+    pub fn new(signals: u8, nodes: Vec<FormulaNode>) -> Self {
+        Rule { signals, mask: None, nodes }
+    }
+
+    pub fn with_mask(self, mask: Mask) -> Self {
+        Rule { mask: Some(mask), ..self }
+    }
+
+    pub fn without_mask(self) -> Self {
+        Rule { mask: None, ..self }
+    }
+
+    /// The mask of the events that can happen: all, where no record says it.
+    pub fn possible(&self) -> Mask {
+        self.mask.unwrap_or(mask::full(self.signals))
+    }
+
+    /// The events that can happen, ascending.
+    pub fn events(&self) -> Vec<u8> {
+        mask::events(self.possible()).collect()
+    }
+
     pub fn read(file: &[u8]) -> Result<Rule, Refusal> {
         let header = Record::read(file, 0)?;
         let (signals, node_count) = read_header(&header)?;
-        let mut rule = Rule { signals, nodes: Vec::new() };
+        let mut rule = Rule::new(signals, Vec::new());
         let mut place = header.end();
+        // As there is a node at least, a second record is due.
+        let second = Record::read(file, place)?;
+        if second.kind == MASK_KIND {
+            rule.mask = Some(read_mask(&second, signals)?);
+            place = second.end();
+        }
         for _ in 0..node_count {
             let record = Record::read(file, place)?;
             let node = rule.read_next_node(&record)?;
@@ -195,14 +229,16 @@ impl Rule {
     pub fn to_bytes(&self) -> Vec<u8> {
         let node_count = u8::try_from(self.nodes.len()).expect("a rule has at most 64 nodes");
         let mut bytes = header_record(self.signals, node_count);
+        bytes.extend(self.mask.into_iter().flat_map(mask_record));
         bytes.extend(self.nodes.iter().flat_map(|node| node.to_record()));
         bytes
     }
 }
 
+/// Signals, the mask of the events that can happen, nodes, and each node.
 impl fmt::Display for Rule {
     fn fmt(&self, out: &mut fmt::Formatter<'_>) -> fmt::Result {
-        write!(out, "rule {} {}:", self.signals, self.nodes.len())?;
+        write!(out, "rule {} {} {}:", self.signals, self.possible(), self.nodes.len())?;
         self.nodes.iter().try_for_each(|node| write!(out, " {node}"))
     }
 }
@@ -225,8 +261,28 @@ fn read_header(header: &Record) -> Result<(u8, u8), Refusal> {
     Ok((signals, node_count))
 }
 
+/// The mask of the events that can happen.
+fn read_mask(record: &Record, signals: u8) -> Result<Mask, Refusal> {
+    let refuse = |number| Err(Refusal::new(number, record.start));
+    let &[low, high] = record.body else {
+        return refuse(2);
+    };
+    let mask = Mask::from_le_bytes([low, high]);
+    if mask & !mask::full(signals) != 0 {
+        return refuse(7);
+    }
+    if mask == 0 {
+        return refuse(17);
+    }
+    Ok(mask)
+}
+
 pub fn header_record(signals: u8, node_count: u8) -> Vec<u8> {
     record::well_sized(HEADER_KIND, &[signals, node_count])
+}
+
+pub fn mask_record(mask: Mask) -> Vec<u8> {
+    record::well_sized(MASK_KIND, &mask.to_le_bytes())
 }
 
 pub fn temporal_count(nodes: &[FormulaNode]) -> usize {
@@ -242,7 +298,7 @@ mod tests {
     fn chain_of_nexts(count: usize) -> Rule {
         let mut nodes = vec![FormulaNode::new(kind::SIGNAL, 0, 0)];
         nodes.extend((0..count).map(|below| FormulaNode::new(kind::NEXT, below as u8, 0)));
-        Rule { signals: 1, nodes }
+        Rule::new(1, nodes)
     }
 
     fn refusal(file: &[u8]) -> (u8, usize) {
@@ -253,7 +309,7 @@ mod tests {
     #[test]
     fn reads_the_printed_bytes_of_p3() {
         let rule = Rule::read(&P3).unwrap();
-        assert_eq!(rule.to_string(), "rule 1 1: 2.0.0.0");
+        assert_eq!(rule.to_string(), "rule 1 3 1: 2.0.0.0");
         assert_eq!(rule.to_bytes(), P3);
     }
 
@@ -268,7 +324,7 @@ mod tests {
     #[test]
     fn refuses_an_operand_that_is_not_earlier() {
         let nodes = vec![FormulaNode::new(kind::SIGNAL, 0, 0), FormulaNode::new(kind::NOT, 1, 0)];
-        assert_eq!(refusal(&Rule { signals: 1, nodes }.to_bytes()), (6, 11));
+        assert_eq!(refusal(&Rule::new(1, nodes).to_bytes()), (6, 11));
     }
 
     #[test]
@@ -304,11 +360,11 @@ mod tests {
         };
         let exactly_one = read_back(&[4, 0, 0, 1, 2, 1, 5, 0, 3, 0, 3, 1, 1]);
         assert_eq!(exactly_one.nodes, [FormulaNode::between(3, 1, 1)]);
-        assert_eq!(exactly_one.to_string(), "rule 2 1: 3.3.1.1");
+        assert_eq!(exactly_one.to_string(), "rule 2 15 1: 3.3.1.1");
         let without = read_back(&[4, 0, 0, 1, 2, 1, 4, 0, 3, 0, 3, 1]);
         let with = read_back(&[4, 0, 0, 1, 2, 1, 5, 0, 3, 0, 3, 1, 4]);
-        assert_eq!(without.to_string(), "rule 2 1: 3.3.1.4");
-        assert_eq!(with.to_string(), "rule 2 1: 3.3.1.4");
+        assert_eq!(without.to_string(), "rule 2 15 1: 3.3.1.4");
+        assert_eq!(with.to_string(), "rule 2 15 1: 3.3.1.4");
         assert_ne!(without, with);
     }
 
@@ -349,5 +405,60 @@ mod tests {
         }
         assert_eq!(refusal(&at_least(&[3, 1, 5])[..12]), (1, 6));
         assert_eq!(refusal(&at_least(&[255; 4])), (2, 6));
+    }
+
+    /// The bytes are those of p over one signal, with a mask of event 1 alone.
+    #[test]
+    fn reads_a_mask_that_stands_second() {
+        let file = [4, 0, 0, 1, 1, 1, 4, 0, 1, 1, 2, 0, 3, 0, 2, 0, 0];
+        let rule = Rule::read(&file).unwrap();
+        assert_eq!((rule.mask, rule.events()), (Some(2), vec![1]));
+        assert_eq!(rule.to_string(), "rule 1 2 1: 2.0.0.0");
+        assert_eq!(rule.to_bytes(), file);
+        let full = Rule::read(&chain_of_nexts(0).with_mask(3).to_bytes()).unwrap();
+        assert_eq!(full.to_string(), chain_of_nexts(0).to_string());
+        assert_ne!(full, chain_of_nexts(0));
+    }
+
+    /// A file over so many signals, with these bytes for its second record, and p.
+    fn second(signals: u8, record: &[u8]) -> Vec<u8> {
+        let p = record::well_sized(2, &[0]);
+        [header_record(signals, 1), record.to_vec(), p].concat()
+    }
+
+    #[test]
+    fn a_mask_is_judged_by_its_length_then_by_its_bits() {
+        for length in (0..=5).chain([254, 255, 256, 258]).filter(|&length| length != 2) {
+            let record = record::well_sized(MASK_KIND, &vec![255; length]);
+            assert_eq!(refusal(&second(1, &record)), (2, 6), "{length}");
+        }
+        for (signals, width) in [(1, 2), (2, 4), (3, 8), (4, 16)] {
+            for bit in 0..16 {
+                let read = Rule::read(&second(signals, &mask_record(1 << bit)));
+                let expected = if bit < width { None } else { Some(Refusal::new(7, 6)) };
+                assert_eq!(read.err(), expected, "{signals} {bit}");
+            }
+            assert_eq!(refusal(&second(signals, &mask_record(0))), (17, 6));
+            assert!(Rule::read(&second(signals, &mask_record(mask::full(signals)))).is_ok());
+        }
+        assert_eq!(refusal(&second(2, &mask_record(0x001f))), (7, 6));
+        assert_eq!(refusal(&second(2, &record::claiming(1, MASK_KIND, &[7, 0]))), (2, 6));
+    }
+
+    #[test]
+    fn a_mask_stands_second_and_nowhere_else() {
+        let (mask, p) = (&mask_record(1)[..], &record::well_sized(2, &[0])[..]);
+        let (one, two) = (&header_record(1, 1)[..], &header_record(1, 2)[..]);
+        let refused = |records: &[&[u8]]| refusal(&records.concat());
+        assert_eq!(refused(&[mask, one, p]), (3, 0));
+        assert_eq!(refused(&[one, mask, mask, p]), (3, 12));
+        assert_eq!(refused(&[two, p, mask, p]), (3, 11));
+        assert_eq!(refused(&[two, mask, p, mask, p]), (3, 17));
+        assert_eq!(refused(&[one, p, mask]), (9, 11));
+        assert_eq!(refused(&[one, mask, p, mask]), (9, 17));
+        // It is no node.
+        assert!(Rule::read(&[one, mask, p].concat()).is_ok());
+        assert_eq!(refused(&[one, mask]), (1, 12));
+        assert_eq!(refused(&[two, mask, p]), (1, 17));
     }
 }

@@ -90,7 +90,7 @@ pub fn file_of(text: &[u8], signals: u8) -> Result<Vec<u8>, Refusal> {
     if nodes.iter().filter(|node| node.is_temporal()).count() > TEMPORAL_LIMIT {
         return refuse(8);
     }
-    Ok(Rule { signals, nodes }.to_bytes())
+    Ok(Rule::new(signals, nodes).to_bytes())
 }
 
 /// The node as a rule file has it, of which there are at most 64.

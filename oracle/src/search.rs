@@ -8,38 +8,44 @@ use crate::lasso::{Evaluation, POSITIONS};
 use crate::rule::Rule;
 use crate::table::Verdict;
 
-/// Which lassos are tried, by the length of stem and loop together.
+/// Which lassos are tried, by the length of stem and loop together. None has an event that
+/// cannot happen.
 #[derive(Clone, Copy, Debug, PartialEq, Eq)]
 pub struct Bounds {
-    /// Up to this length: every lasso, over all events.
+    /// Up to this length: every lasso.
     pub every: usize,
-    /// Beyond that, up to this length: every lasso in which only one signal is
-    /// ever on.
-    pub one_signal: usize,
+    /// Beyond that, up to this length: every lasso of the lowest event and one near it. Where
+    /// all events can happen, that is every lasso in which only one signal is ever on.
+    pub two_events: usize,
 }
 
 impl Bounds {
-    /// The bounds for a number of signals.
-    pub fn of(signals: u8) -> Self {
-        match signals {
-            1 => Bounds { every: 8, one_signal: 8 },
-            2 => Bounds { every: 5, one_signal: 7 },
-            3 => Bounds { every: 4, one_signal: 6 },
-            _ => Bounds { every: 3, one_signal: 6 },
+    pub fn of(rule: &Rule) -> Self {
+        Self::over(rule.events().len())
+    }
+
+    /// The bounds where so many events can happen.
+    pub fn over(events: usize) -> Self {
+        match events {
+            ..=2 => Bounds { every: 8, two_events: 8 },
+            3 => Bounds { every: 6, two_events: 7 },
+            4 | 5 => Bounds { every: 5, two_events: 7 },
+            6..=8 => Bounds { every: 4, two_events: 6 },
+            _ => Bounds { every: 3, two_events: 6 },
         }
     }
 
     /// The longest lasso tried.
     pub fn longest(self) -> usize {
-        self.every.max(self.one_signal)
+        self.every.max(self.two_events)
     }
 }
 
 impl fmt::Display for Bounds {
     fn fmt(&self, out: &mut fmt::Formatter<'_>) -> fmt::Result {
         write!(out, "stem and loop up to {}", self.every)?;
-        if self.one_signal > self.every {
-            write!(out, ", with one signal only up to {}", self.one_signal)?;
+        if self.two_events > self.every {
+            write!(out, ", with two events only up to {}", self.two_events)?;
         }
         Ok(())
     }
@@ -140,7 +146,8 @@ impl<'a> Search<'a> {
 
 /// One search: the list, and behind it the stem and loop that are being tried.
 struct Growth {
-    signals: u8,
+    /// Those that can happen, ascending.
+    events: Vec<u8>,
     evaluation: Evaluation,
     list_length: usize,
     trace: [u8; POSITIONS],
@@ -152,7 +159,7 @@ impl Growth {
         let mut trace = [0; POSITIONS];
         trace[..list.len()].copy_from_slice(list);
         Growth {
-            signals: rule.signals,
+            events: rule.events(),
             evaluation: Evaluation::of(rule),
             list_length: list.len(),
             trace,
@@ -161,13 +168,13 @@ impl Growth {
     }
 
     fn run(mut self, bounds: Bounds) -> Judgement {
-        let every_event: Vec<u8> = (0..1 << self.signals).collect();
+        let events = std::mem::take(&mut self.events);
         for length in 1..=bounds.every {
-            self.try_all(length, &every_event);
+            self.try_all(length, &events);
         }
-        for length in bounds.every + 1..=bounds.one_signal {
-            for signal in 0..self.signals {
-                self.try_all(length, &[0, 1 << signal]);
+        for length in bounds.every + 1..=bounds.two_events {
+            for near in near_the_lowest(&events) {
+                self.try_all(length, &[events[0], near]);
             }
         }
         self.judgement
@@ -217,6 +224,17 @@ impl Growth {
     }
 }
 
+/// The events that differ from the lowest, so that no other differs from it in a part of the same
+/// signals only.
+fn near_the_lowest(events: &[u8]) -> Vec<u8> {
+    let differs_by = |event: u8| event ^ events[0];
+    let is_near = |&&event: &&u8| {
+        let mut others = events[1..].iter().filter(|&&other| other != event);
+        others.all(|&other| differs_by(other) & !differs_by(event) != 0)
+    };
+    events[1..].iter().filter(is_near).copied().collect()
+}
+
 #[cfg(test)]
 mod tests {
     use super::*;
@@ -224,7 +242,7 @@ mod tests {
     use crate::vectors::rule_samples::{nexts, p3, p9, rule, shared_nexts, NodeBytes, P, Q};
 
     fn judgement(rule: &Rule, list: &[u8]) -> Judgement {
-        Search::new(rule, Bounds::of(rule.signals)).judge(list).clone()
+        Search::new(rule, Bounds::of(rule)).judge(list).clone()
     }
 
     fn class(signals: u8, nodes: &[NodeBytes], list: &[u8]) -> Class {
@@ -265,8 +283,8 @@ mod tests {
     #[test]
     fn tries_both_families_up_to_their_bounds() {
         let late = shared_nexts(5);
-        let length = |every, one_signal| {
-            let bounds = Bounds { every, one_signal };
+        let length = |every, two_events| {
+            let bounds = Bounds { every, two_events };
             let mut search = Search::new(&late, bounds);
             search.judge(&[1, 1, 1, 1, 2]).satisfying.as_ref().map(Found::length)
         };
@@ -277,9 +295,49 @@ mod tests {
     }
 
     #[test]
+    fn near_the_lowest_are_those_that_differ_in_the_fewest_signals() {
+        assert_eq!(near_the_lowest(&(0..16).collect::<Vec<_>>()), [1, 2, 4, 8]);
+        assert_eq!(near_the_lowest(&[0, 1, 2]), [1, 2]);
+        assert_eq!(near_the_lowest(&[0, 3, 5, 7]), [3, 5]);
+        assert_eq!(near_the_lowest(&[1, 2, 3]), [3]);
+        assert_eq!(near_the_lowest(&[1, 2, 4]), [2, 4]);
+        assert_eq!(near_the_lowest(&[6]), []);
+    }
+
+    #[test]
+    fn judges_by_possible_events_only() {
+        // always (p implies next (p and q)), always not (p and q), p until q
+        let due = [P, Q, (kind::AND, 0, 1), (kind::NEXT, 2, 0), (kind::IMPLIES, 0, 3)];
+        let due = rule(2, &[&due[..], &[(kind::ALWAYS, 4, 0)]].concat());
+        let apart = rule(2, &[P, Q, (kind::AND, 0, 1), (kind::NOT, 2, 0), (kind::ALWAYS, 3, 0)]);
+        let class =
+            |rule: &Rule, mask, list| judgement(&rule.clone().with_mask(mask), list).class();
+        assert_eq!(class(&due, 15, &[1]), Class::Neither);
+        assert_eq!(class(&due, 7, &[1]), Class::Violated);
+        assert_eq!(class(&due, 7, &[]), Class::Neither);
+        assert_eq!(class(&apart, 15, &[]), Class::Neither);
+        assert_eq!(class(&apart, 7, &[]), Class::Satisfied);
+        assert_eq!(class(&p9(), 0b0010, &[]), Class::Violated);
+        assert_eq!(class(&p9(), 0b0110, &[]), Class::Neither);
+        assert_eq!(class(&p9(), 0b1100, &[]), Class::Satisfied);
+    }
+
+    #[test]
+    fn every_lasso_found_is_of_possible_events() {
+        let seventh = nexts(7);
+        let judged = judgement(&Rule { signals: 2, ..seventh }.with_mask(0b1100), &[2]);
+        let events = |found: Option<Found>| {
+            let Found { stem, turn } = found.unwrap();
+            [stem, turn].concat()
+        };
+        assert!(events(judged.satisfying).iter().all(|event| [2, 3].contains(event)));
+        assert!(events(judged.breaking).iter().all(|event| [2, 3].contains(event)));
+    }
+
+    #[test]
     fn each_list_is_judged_once() {
         let rule = p9();
-        let mut search = Search::new(&rule, Bounds::of(2));
+        let mut search = Search::new(&rule, Bounds::of(&rule));
         let first = search.judge(&[1]).clone();
         assert_eq!(search.judge(&[1]), &first);
         assert_eq!(search.judged().count(), 1);

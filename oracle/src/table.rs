@@ -2,12 +2,15 @@
 
 use std::fmt;
 
+use crate::mask::{self, Mask};
 use crate::record;
 use crate::refusal::Refusal;
 
 pub const HEADER_KIND: u16 = 512;
 pub const STATE_KIND: u16 = 513;
 pub const HEADER_LENGTH: usize = 7;
+/// What is written for the successor of an event that cannot happen.
+pub const NO_SUCCESSOR: u16 = 65535;
 
 #[derive(Clone, Copy, Debug, PartialEq, Eq)]
 pub enum Verdict {
@@ -46,11 +49,21 @@ impl fmt::Display for Verdict {
     }
 }
 
-/// One row: the verdict and the successor for each event, from 0 upward.
+/// One row: the verdict and the successor for each event, from 0 upward; `NO_SUCCESSOR`
+/// where the event cannot happen.
 #[derive(Clone, Debug, PartialEq, Eq)]
 pub struct MonitorState {
     pub verdict: Verdict,
     pub successors: Vec<u16>,
+}
+
+impl MonitorState {
+    /// The events that can happen, each with its successor.
+    pub fn steps(&self) -> impl Iterator<Item = (u8, usize)> + '_ {
+        let all = (0..).zip(&self.successors);
+        let possible = all.filter(|&(_, &successor)| successor != NO_SUCCESSOR);
+        possible.map(|(event, &successor)| (event, successor.into()))
+    }
 }
 
 /// A table of the right form.
@@ -81,10 +94,10 @@ impl fmt::Display for RunResult {
 
 impl Monitor {
     pub fn open(table: &[u8]) -> Result<Self, Refusal> {
-        Self::parse(table).ok_or(Refusal::new(14, 0))
+        Self::parse(table).filter(Self::has_events).ok_or(Refusal::new(14, 0))
     }
 
-    /// None if the bytes are not exactly a table.
+    /// None if the bytes are not exactly a table, in which each successor may be missing.
     fn parse(table: &[u8]) -> Option<Self> {
         let mut reader = TableReader { rest: table };
         reader.expect_u16(5)?;
@@ -97,15 +110,37 @@ impl Monitor {
         reader.rest.is_empty().then_some(Monitor { signals, states })
     }
 
+    /// The same events can happen in every row, and at least one can.
+    fn has_events(&self) -> bool {
+        let first = &self.states[0].successors;
+        let is_missing = |&successor: &u16| successor == NO_SUCCESSOR;
+        let is_like_the_first = |state: &MonitorState| {
+            let mut both = first.iter().zip(&state.successors);
+            both.all(|(a, b)| is_missing(a) == is_missing(b))
+        };
+        !first.iter().all(is_missing) && self.states.iter().all(is_like_the_first)
+    }
+
+    /// Whether the bytes are no table for their missing successors alone.
+    pub fn is_spoilt_by_missing_successors(table: &[u8]) -> bool {
+        Self::parse(table).is_some_and(|monitor| !monitor.has_events())
+    }
+
+    /// The mask of the events that can happen.
+    pub fn possible(&self) -> Mask {
+        mask::of(self.states[0].steps().map(|(event, _)| event))
+    }
+
     /// Reads every event, also those after a verdict.
     pub fn run(&self, state: u16, events: &[u8]) -> Result<RunResult, Refusal> {
         if usize::from(state) >= self.states.len() {
             return Err(Refusal::new(13, 0));
         }
+        let possible = self.possible();
         let mut end_state = state;
         let mut count = self.is_decided(state).then_some(0);
         for (index, &event) in events.iter().enumerate() {
-            if event >= 1 << self.signals {
+            if !mask::has(possible, event) {
                 return Err(Refusal::new(12, index));
             }
             end_state = self.state(end_state).successors[usize::from(event)];
@@ -171,7 +206,7 @@ impl TableReader<'_> {
         self.expect_u16(STATE_KIND)?;
         let verdict = Verdict::from_byte(self.u8()?)?;
         let successors = (0..event_count)
-            .map(|_| self.u16().filter(|&successor| successor < state_count))
+            .map(|_| self.u16().filter(|&next| next < state_count || next == NO_SUCCESSOR))
             .collect::<Option<Vec<_>>>()?;
         Some(MonitorState { verdict, successors })
     }
@@ -274,5 +309,70 @@ mod tests {
         assert!(changed(12, 2).is_ok());
         assert!(changed(12, 3).is_err());
         assert!(changed(13, 1).is_err());
+    }
+
+    /// P12 where p and q never come together.
+    fn p12_apart() -> Monitor {
+        let rows: &[(Verdict, &[u16])] = &[
+            (Verdict::Undecided, &[0, 1, 0, 65535]),
+            (Verdict::Undecided, &[1, 2, 0, 65535]),
+            (Verdict::Violated, &[2, 2, 2, 65535]),
+        ];
+        monitor(2, rows)
+    }
+
+    #[test]
+    fn impossible_events_are_read_from_the_rows() {
+        let table = p12_apart().to_bytes();
+        assert_eq!(table[7..20], [11, 0, 1, 2, 0, 0, 0, 1, 0, 0, 0, 255, 255]);
+        let opened = Monitor::open(&table).unwrap();
+        assert_eq!(opened, p12_apart());
+        assert_eq!((opened.possible(), p12().possible()), (7, 15));
+        assert_eq!(opened.states[1].steps().collect::<Vec<_>>(), [(0, 1), (1, 2), (2, 0)]);
+        let one_left = monitor(1, &[(Verdict::Moot, &[65535, 0])]);
+        assert_eq!(Monitor::open(&one_left.to_bytes()), Ok(one_left));
+    }
+
+    #[test]
+    fn a_missing_successor_is_missing_in_every_row_and_not_for_every_event() {
+        let changed = |changes: &[(usize, usize, u16)]| {
+            let mut monitor = p12_apart();
+            for &(state, event, successor) in changes {
+                monitor.states[state].successors[event] = successor;
+            }
+            let table = monitor.to_bytes();
+            let refused = Monitor::open(&table).is_err();
+            assert_eq!(Monitor::is_spoilt_by_missing_successors(&table), refused);
+            refused
+        };
+        assert!(!changed(&[]));
+        for state in 0..3 {
+            assert!(changed(&[(state, 3, 0)]));
+            assert!(changed(&[(state, 0, 65535)]));
+            assert!(changed(&[(state, 3, 2), (state, 1, 65535)]));
+            let all = [0, 1, 2].map(|event| (state, event, 65535));
+            assert!(changed(&all));
+        }
+        let column = |event| [0, 1, 2].map(|state| (state, event, 65535));
+        assert!(!changed(&column(0)));
+        assert!(!changed(&[column(0), column(2)].concat()));
+        assert!(changed(&[column(0), column(1), column(2)].concat()));
+        let mut near = p12_apart();
+        for successor in [65534, 0x00ff, 0xff00, 256, 3] {
+            near.states.iter_mut().for_each(|state| state.successors[3] = successor);
+            assert!(Monitor::open(&near.to_bytes()).is_err());
+            assert!(!Monitor::is_spoilt_by_missing_successors(&near.to_bytes()));
+        }
+    }
+
+    #[test]
+    fn a_run_over_an_impossible_event_is_refused_also_past_a_verdict() {
+        let refusal = |state, events: &[u8]| p12_apart().run(state, events).unwrap_err();
+        assert_eq!(p12_apart().run(0, &[1, 0, 1]).unwrap().to_string(), "state 2 violated 3");
+        assert_eq!(refusal(0, &[3]), Refusal::new(12, 0));
+        assert_eq!(refusal(0, &[1, 0, 1, 2, 3, 0]), Refusal::new(12, 4));
+        assert_eq!(refusal(2, &[0, 3, 4]), Refusal::new(12, 1));
+        assert_eq!(refusal(0, &[0, 4, 3]), Refusal::new(12, 1));
+        assert_eq!(refusal(3, &[3]), Refusal::new(13, 0));
     }
 }

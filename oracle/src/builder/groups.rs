@@ -64,7 +64,7 @@ impl Groups {
     }
 }
 
-/// The groups of the successors, a byte for each event.
+/// The groups of the successors, a byte for each event that can happen.
 fn groups_after(walk: &Walk, state: usize, group_of: &[u8; STATES]) -> u128 {
     let mut groups = [0; EVENTS];
     for (group, &successor) in groups.iter_mut().zip(&walk.successors[state]).take(walk.events) {

@@ -5,6 +5,7 @@
 //! is one machine word, and the nodes are evaluated for all labels at once.
 
 use super::EVENTS;
+use crate::mask;
 use crate::rule::{kind, temporal_count, FormulaNode, Rule};
 
 /// The most labels: seven temporal nodes.
@@ -16,6 +17,7 @@ const NODES: usize = 64;
 pub type LabelSet = u128;
 
 pub struct Labels {
+    /// How many events can happen. They are numbered anew from 0, ascending.
     pub events: usize,
     /// How many labels there are, realizable or not.
     pub count: usize,
@@ -31,20 +33,20 @@ pub struct Labels {
 impl Labels {
     pub fn of(rule: &Rule) -> Self {
         let mut labels = Labels {
-            events: 1 << rule.signals,
+            events: rule.possible().count_ones() as usize,
             count: 1 << temporal_count(&rule.nodes),
             before: [[0; LABELS]; EVENTS],
             holds: [0; EVENTS],
             fair: [[0; LABELS]; EVENTS],
         };
-        for event in 0..labels.events {
-            labels.evaluate(&rule.nodes, event as u8);
+        for (number, event) in mask::events(rule.possible()).enumerate() {
+            labels.evaluate(&rule.nodes, number, event);
         }
         labels
     }
 
     /// All nodes at a position with this event, for every label of the next.
-    fn evaluate(&mut self, nodes: &[FormulaNode], event: u8) {
+    fn evaluate(&mut self, nodes: &[FormulaNode], event_number: usize, event: u8) {
         let mut truth = [0; NODES];
         let mut bit = 0;
         for (number, &node) in nodes.iter().enumerate() {
@@ -62,11 +64,11 @@ impl Labels {
                 kind::EVENTUALLY => (value, !value | a),
                 _ => (value, value | !a),
             };
-            add_column(&mut self.before[usize::from(event)], self.count, obligation, bit);
-            add_column(&mut self.fair[usize::from(event)], self.count, fair, bit);
+            add_column(&mut self.before[event_number], self.count, obligation, bit);
+            add_column(&mut self.fair[event_number], self.count, fair, bit);
             bit += 1;
         }
-        self.holds[usize::from(event)] = truth[nodes.len() - 1];
+        self.holds[event_number] = truth[nodes.len() - 1];
     }
 
     /// The labels that some trace has: those that lead to a strongly connected

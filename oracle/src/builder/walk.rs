@@ -189,7 +189,9 @@ fn rank_of(number: u8, set: LabelSet) -> usize {
 mod tests {
     use super::*;
     use crate::rule::{kind, Rule};
-    use crate::vectors::rule_samples::{edge_rules, nexts, p3, p9, rule, shared_nexts, P, Q};
+    use crate::vectors::mask_samples::{APART_OF_THREE, NOT_ALONE, WITHOUT_Q};
+    use crate::vectors::rule_samples::{edge_rules, one_too_many, one_too_many_merged};
+    use crate::vectors::rule_samples::{nexts, p3, p9, rule, shared_nexts, P, Q};
 
     fn residual_count(rule: &Rule) -> Option<usize> {
         Walk::over(&Labels::of(rule)).map(|walk| walk.count)
@@ -204,6 +206,11 @@ mod tests {
         assert_eq!(residual_count(&shared_nexts(6)), None);
         let at_the_edge: Vec<_> = edge_rules().iter().map(residual_count).collect();
         assert_eq!(at_the_edge, [Some(256), Some(256), None, None]);
+        let without = |rule: Rule, mask| residual_count(&rule.with_mask(mask));
+        assert_eq!(without(one_too_many(), NOT_ALONE), Some(256));
+        assert_eq!(without(one_too_many_merged(), NOT_ALONE), Some(256));
+        assert_eq!(without(shared_nexts(6), WITHOUT_Q), Some(65));
+        assert_eq!(without(shared_nexts(6), APART_OF_THREE), None);
         let infinitely_often = [P, (kind::EVENTUALLY, 0, 0), (kind::ALWAYS, 1, 0)];
         assert_eq!(residual_count(&rule(1, &infinitely_often)), Some(1));
     }

@@ -7,6 +7,7 @@ use std::sync::Mutex;
 use std::thread;
 
 use super::{certify, moot_depth, Report};
+use crate::mask;
 use crate::rule::Rule;
 use crate::search::Bounds;
 use crate::table::Verdict;
@@ -23,7 +24,7 @@ pub fn certify_all(tables: &[(&Rule, Vec<u8>)]) -> Result<Summary, String> {
         let Some((rule, table)) = tables.get(number) else {
             return;
         };
-        let result = certify(rule, table, Bounds::of(rule.signals));
+        let result = certify(rule, table, Bounds::of(rule));
         let named = result.map_err(|reason| format!("{rule}: {reason}"));
         results.lock().expect("no worker panics").insert(number, named);
     };
@@ -33,13 +34,14 @@ pub fn certify_all(tables: &[(&Rule, Vec<u8>)]) -> Result<Summary, String> {
         }
     });
     let mut summary = Summary::default();
-    for result in results.into_inner().expect("no worker panics").into_values() {
-        summary.add(&result?);
+    let results = results.into_inner().expect("no worker panics");
+    for ((rule, _), result) in tables.iter().zip(results.into_values()) {
+        summary.add(rule, &result?);
     }
     Ok(summary)
 }
 
-/// The rules with the same number of signals, and so the same bounds.
+/// The rules with as many events that can happen, and so the same bounds.
 #[derive(Clone, Debug, Default)]
 struct Searched {
     rules: usize,
@@ -52,19 +54,24 @@ struct Searched {
 #[derive(Clone, Debug, Default)]
 pub struct Summary {
     states: [usize; 4],
+    /// Rules with a mask, and those with one that leaves not all events.
+    masked: usize,
+    partial: usize,
     /// By number of states: how many tables have it.
     sizes: BTreeMap<usize, usize>,
-    /// By number of signals.
-    searched: BTreeMap<u8, Searched>,
+    /// By how many events can happen.
+    searched: BTreeMap<usize, Searched>,
 }
 
 impl Summary {
-    fn add(&mut self, report: &Report) {
+    fn add(&mut self, rule: &Rule, report: &Report) {
+        self.masked += usize::from(rule.mask.is_some());
+        self.partial += usize::from(rule.possible() != mask::full(rule.signals));
         for (sum, count) in self.states.iter_mut().zip(report.states) {
             *sum += count;
         }
         *self.sizes.entry(report.states.iter().sum()).or_default() += 1;
-        let searched = self.searched.entry(report.signals).or_default();
+        let searched = self.searched.entry(report.events).or_default();
         searched.rules += 1;
         searched.lists += report.lists;
         searched.longest_list = searched.longest_list.max(report.longest_list);
@@ -89,13 +96,18 @@ impl fmt::Display for Summary {
             Verdict::Violated,
             Verdict::Moot
         )?;
+        writeln!(
+            out,
+            "  with a mask {}, of which {} leave not all events",
+            self.masked, self.partial
+        )?;
         write!(out, "  tables by states:")?;
         for (states, tables) in &self.sizes {
             write!(out, " {states}:{tables}")?;
         }
-        for (&signals, searched) in &self.searched {
-            write!(out, "\n  signals {signals}: {} rules, ", searched.rules)?;
-            write!(out, "{}; behind moot {} events; ", Bounds::of(signals), moot_depth(signals))?;
+        for (&events, searched) in &self.searched {
+            write!(out, "\n  events {events}: {} rules, ", searched.rules)?;
+            write!(out, "{}; behind moot {} events; ", Bounds::over(events), moot_depth(events))?;
             write!(out, "{} lists, longest {}; ", searched.lists, searched.longest_list)?;
             write!(out, "longest lasso needed {}", searched.longest_lasso)?;
         }

@@ -49,20 +49,16 @@ impl Telling {
     /// Whether more pairs are told apart than before.
     fn look_one_event_further(&mut self, monitor: &Monitor) -> bool {
         let known = self.steps.clone();
-        let is_known = |first: u16, second: u16| {
-            known[usize::from(first)][usize::from(second)] != Step::Unknown
-        };
+        let is_known = |first: usize, second: usize| known[first][second] != Step::Unknown;
         let mut has_grown = false;
         for (first, row) in self.steps.iter_mut().enumerate() {
             for (second, step) in row.iter_mut().enumerate() {
                 if *step != Step::Unknown {
                     continue;
                 }
-                let successors =
-                    monitor.states[first].successors.iter().zip(&monitor.states[second].successors);
-                let event = successors.into_iter().position(|(&a, &b)| is_known(a, b));
-                if let Some(event) = event {
-                    *step = Step::After(event as u8);
+                let mut both = monitor.states[first].steps().zip(monitor.states[second].steps());
+                if let Some(((event, _), _)) = both.find(|&((_, a), (_, b))| is_known(a, b)) {
+                    *step = Step::After(event);
                     has_grown = true;
                 }
             }

@@ -2,9 +2,11 @@
 
 use super::*;
 use crate::builder;
+use crate::random_masks::Leaving;
 use crate::random_rules::Shape;
 use crate::rng::Rng;
 use crate::rule::kind;
+use crate::vectors::mask_samples::{due_together, never_together, valve_block, APART};
 use crate::vectors::rule_samples::{nexts, p12, p3, p9, rule, P, Q};
 
 fn built(rule: &Rule) -> Monitor {
@@ -14,7 +16,7 @@ fn built(rule: &Rule) -> Monitor {
 }
 
 fn certified(rule: &Rule, monitor: &Monitor) -> Result<Report, String> {
-    certify(rule, &monitor.to_bytes(), Bounds::of(rule.signals))
+    certify(rule, &monitor.to_bytes(), Bounds::of(rule))
 }
 
 /// The reason for which a table is refused.
@@ -31,12 +33,17 @@ fn infinitely_often() -> Rule {
     rule(1, &[P, (kind::EVENTUALLY, 0, 0), (kind::ALWAYS, 1, 0)])
 }
 
-/// Known rules and some random ones with few states.
+/// Known rules and some random ones with few states, some of each with a mask.
 fn sample() -> Vec<Rule> {
     let mut rng = Rng::new(41);
     let shape = Shape { signals: 1..=2, temporal: 0..=3, nodes: 9 };
     let mut rules = vec![p3(), p9(), p12(), p13(), nexts(3), infinitely_often()];
     rules.extend((0..40).map(|_| shape.draw_interesting(&mut rng)));
+    rules.extend([p12(), p13(), due_together()].map(|rule| rule.with_mask(APART)));
+    rules.push(valve_block());
+    for leaving in Leaving::EACH {
+        rules.extend((0..4).map(|_| shape.draw_masked(&mut rng, leaving)));
+    }
     rules
 }
 
@@ -69,7 +76,7 @@ fn a_changed_successor_is_refused() {
     for rule in sample() {
         let right = built(&rule);
         for state in 0..right.states.len() {
-            for event in 0..1 << rule.signals {
+            for event in rule.events().into_iter().map(usize::from) {
                 for successor in 0..right.states.len() {
                     let mut changed = right.clone();
                     changed.states[state].successors[event] = successor as u16;
@@ -116,7 +123,7 @@ fn a_state_split_in_two_is_refused() {
         let last = split.states.len() - 1;
         let mut copy = split.states[last].clone();
         let copied = u16::try_from(split.states.len()).unwrap();
-        if let Some(own) = copy.successors.iter().position(|&state| usize::from(state) == last) {
+        if let Some(own) = copy.successors.iter().position(|&next| usize::from(next) == last) {
             split.states[last].successors[own] = copied;
             copy.successors[own] = copied;
             split.states.push(copy);
@@ -166,15 +173,48 @@ fn what_is_wrong_is_said_with_a_lasso() {
 fn bounds_that_are_too_small_are_said() {
     let pulse = rule(1, &[P, (kind::NEXT, 0, 0), (kind::NOT, 1, 0), (kind::AND, 0, 2)]);
     let table = built(&pulse).to_bytes();
-    assert!(certify(&pulse, &table, Bounds { every: 2, one_signal: 2 }).is_ok());
-    let reason = certify(&pulse, &table, Bounds { every: 1, one_signal: 1 }).unwrap_err();
+    assert!(certify(&pulse, &table, Bounds { every: 2, two_events: 2 }).is_ok());
+    let reason = certify(&pulse, &table, Bounds { every: 1, two_events: 1 }).unwrap_err();
     assert_eq!(reason, "after [], shown as undecided: no satisfying lasso within the bounds");
 }
 
 #[test]
 fn the_wrong_number_of_signals_and_bad_bytes_are_refused() {
     assert_eq!(reason(&p3(), &built(&p9())), "the table has 2 signals");
-    assert!(certify(&p3(), &[], Bounds::of(1)).unwrap_err().starts_with("not a table"));
+    assert!(certify(&p3(), &[], Bounds::of(&p3())).unwrap_err().starts_with("not a table"));
+}
+
+/// The table with this successor for an event in every state.
+fn with_column(monitor: &Monitor, event: usize, successor: u16) -> Monitor {
+    let mut changed = monitor.clone();
+    changed.states.iter_mut().for_each(|state| state.successors[event] = successor);
+    changed
+}
+
+/// A table that takes an event that cannot happen, or not one that can, is refused for that alone.
+#[test]
+fn other_events_than_the_rules_are_refused() {
+    let doses = p12().with_mask(APART);
+    let changed = |event, successor| reason(&doses, &with_column(&built(&doses), event, successor));
+    assert_eq!(changed(3, 1), "the table has the events of mask 15");
+    assert_eq!(changed(2, 65535), "the table has the events of mask 3");
+    assert_eq!(reason(&doses, &built(&p12())), "the table has the events of mask 15");
+    assert_eq!(reason(&p12(), &built(&doses)), "the table has the events of mask 7");
+    let mut uneven = built(&doses);
+    uneven.states[1].successors[3] = 1;
+    assert_eq!(reason(&doses, &uneven), "not a table: refused 14 at 0");
+}
+
+/// The right table of a rule without its mask, with the columns of impossible events struck out,
+/// speaks too late.
+#[test]
+fn a_table_that_knows_no_mask_is_refused() {
+    let due = due_together();
+    let late = with_column(&built(&due), 3, 65535);
+    let expected = "after [1], shown as undecided: no satisfying lasso within the bounds";
+    assert_eq!(reason(&due.with_mask(APART), &late), expected);
+    let late = with_column(&built(&never_together()), 3, 65535);
+    assert_eq!(reason(&never_together().with_mask(APART), &late), "state 1 is never met");
 }
 
 #[test]
@@ -182,7 +222,7 @@ fn a_failure_names_its_rule() {
     let (p3, p9) = (p3(), p9());
     let wrong = swapped(&built(&p9), 1, 2).to_bytes();
     let reason = certify_all(&[(&p3, built(&p3).to_bytes()), (&p9, wrong)]).unwrap_err();
-    assert!(reason.starts_with("rule 2 3: 2.0.0.0 2.1.0.0 11.0.1.0: "), "{reason}");
+    assert!(reason.starts_with("rule 2 15 3: 2.0.0.0 2.1.0.0 11.0.1.0: "), "{reason}");
     let summary = certify_all(&[(&p3, built(&p3).to_bytes())]).unwrap();
     assert_eq!(summary.rules(), 1);
 }
@@ -193,7 +233,7 @@ fn alone(
     monitor: &Monitor,
     check: impl Fn(&mut Check, &Telling) -> Result<(), String>,
 ) -> Result<(), String> {
-    let bounds = Bounds::of(rule.signals);
+    let bounds = Bounds::of(rule);
     let access = access_lists(monitor).unwrap();
     let telling = Telling::of(monitor).unwrap();
     let mut all = Check { monitor, access: &access, search: Search::new(rule, bounds), bounds };
@@ -222,7 +262,7 @@ fn each_check_alone_refuses() {
 
 #[test]
 fn lists_come_in_ascending_order() {
-    let lists: Vec<Vec<u8>> = lists_of(2, 1).collect();
-    assert_eq!(lists, [[0, 0], [0, 1], [1, 0], [1, 1]]);
-    assert_eq!(lists_of(3, 2).count(), 64);
+    assert_eq!(lists_over(&[0, 1], 2), [[0, 0], [0, 1], [1, 0], [1, 1]]);
+    assert_eq!(lists_over(&[1, 2], 2), [[1, 1], [1, 2], [2, 1], [2, 2]]);
+    assert_eq!(lists_over(&[0, 1, 2, 3], 3).len(), 64);
 }

@@ -5,7 +5,7 @@ use std::fmt::Write;
 
 use super::build_cases::{Question, ROOM};
 use crate::builder;
-use crate::certify::{certify_all, different_residuals, Summary};
+use crate::certify::{certify_all, different_residuals, lists_over, Summary};
 use crate::refusal::Refusal;
 use crate::rule::Rule;
 use crate::table::Monitor;
@@ -118,19 +118,11 @@ fn behind_numbers() -> Way {
     }
 }
 
-/// Every list of this length over these events.
-fn lists_over(events: &[u8], length: usize) -> Vec<Vec<u8>> {
-    (0..length).fold(vec![Vec::new()], |lists, _| {
-        let longer = |list: &Vec<u8>| -> Vec<Vec<u8>> {
-            events.iter().map(|&event| [&list[..], &[event]].concat()).collect()
-        };
-        lists.iter().flat_map(longer).collect()
-    })
-}
-
 #[cfg(test)]
 mod tests {
+    use super::super::mask_samples::{APART_OF_THREE, NOT_ALONE, WITHOUT_Q};
     use super::super::rule_samples::{edge_rules, p12, p3, shared_nexts};
+    use super::super::rule_samples::{one_too_many, one_too_many_merged};
     use super::*;
 
     fn line(rule: Rule, output: u16, events: &[u8]) -> String {
@@ -155,6 +147,14 @@ mod tests {
         assert_eq!(way.count(&shared_nexts(6)), 729);
         assert!(confirm_refusal_11(&shared_nexts(6)).is_ok());
         assert!(confirm_refusal_11(&shared_nexts(5)).is_err());
+    }
+
+    #[test]
+    fn masks_leave_fewer_properties_or_as_many() {
+        let six = |mask| behind_delays().count(&shared_nexts(6).with_mask(mask));
+        assert_eq!([APART_OF_THREE, WITHOUT_Q].map(six), [729, 64]);
+        let edge = |rule: Rule| behind_numbers().count(&rule.with_mask(NOT_ALONE));
+        assert_eq!([one_too_many(), one_too_many_merged()].map(edge), [256, 256]);
     }
 
     #[test]

@@ -1,17 +1,21 @@
 //! The cases of the build stream: document 01's table of known rules, document
-//! 02's counts between two bounds, the rules at the edge of 256, and rules made at
-//! random. The results of the known rules are written out by hand from document 01,
-//! or, for seven nexts, the counts and the edge, counted; only the rows of the table
-//! with 244 states, and the lines of the random rules, come from certified tables.
+//! 02's counts between two bounds, the rules at the edge of 256, rules where some
+//! events cannot happen, and rules made at random. The results of the known rules are
+//! written out by hand from document 01, or, for seven nexts, the counts and the edge,
+//! counted; only the rows of the tables with 244 and with 65 states, and the lines of
+//! the random rules, come from certified tables.
 
 use super::build_answers::Answers;
 use super::build_samples;
 use super::edge_tables;
+use super::mask_tables;
+use super::rule_faults::refused_by_mask;
 use super::rule_samples::{always, counted_until, flap_pair, longest_file};
 use super::rule_samples::{full_table, merged_states, one_too_many, one_too_many_merged};
 use super::rule_samples::{nexts, p12, p3, p9, rule, shared_nexts, NodeBytes, P, Q};
 use super::{append_counted, Case};
 use crate::certify::Summary;
+use crate::mask;
 use crate::rule::{kind, FormulaNode, Rule};
 
 /// A rule to build into an output of so many bytes and the events of a run over
@@ -38,6 +42,18 @@ impl Case for BuildCase {
 
     fn expected_line(&self) -> String {
         self.expected.clone()
+    }
+
+    fn brought_by_masks(&self) -> Option<&'static str> {
+        let Question { rule, events, .. } = &self.question;
+        let is_run = self.expected.contains("run refused 12");
+        let refused = events.iter().find(|&&event| !mask::has(rule.possible(), event));
+        match refused {
+            Some(&event) if is_run && event < 1 << rule.signals => {
+                Some("12 by an impossible event")
+            }
+            _ => refused_by_mask(&rule.to_bytes()),
+        }
     }
 }
 
@@ -68,7 +84,7 @@ pub fn all() -> Result<(Vec<BuildCase>, Summary), String> {
 }
 
 /// A known rule and what was written of it by hand.
-struct KnownCase {
+pub struct KnownCase {
     question: Question,
     written: Written,
 }
@@ -82,6 +98,13 @@ enum Written {
 }
 
 impl KnownCase {
+    /// A rule of whose line only the beginning and the end are written.
+    pub fn around_rows(rule: Rule, output: u16, events: &[u8], before: &str, after: &str) -> Self {
+        let question = Question { rule, output, events: events.to_vec() };
+        let (before, after) = (before.to_string(), after.to_string());
+        KnownCase { question, written: Written::LineAroundRows { before, after } }
+    }
+
     fn is_answered_by(&self, line: &str) -> bool {
         match &self.written {
             Written::Line(written) => line == written,
@@ -92,18 +115,24 @@ impl KnownCase {
     }
 }
 
-fn case(rule: Rule, output: u16, events: &[u8], line: &str) -> KnownCase {
+pub fn case(rule: Rule, output: u16, events: &[u8], line: &str) -> KnownCase {
     let question = Question { rule, output, events: events.to_vec() };
     KnownCase { question, written: Written::Line(line.to_string()) }
 }
 
 /// A rule whose table is given row by row, run on the empty list.
-fn known(rule: Rule, rows: &[impl AsRef<str>], end: &str) -> KnownCase {
+pub fn known(rule: Rule, rows: &[impl AsRef<str>], end: &str) -> KnownCase {
     ran(rule, rows, ROOM, &[], &format!("state 0 {end}"))
 }
 
 /// A rule whose table is given row by row, and how a run over it ends.
-fn ran(rule: Rule, rows: &[impl AsRef<str>], output: u16, events: &[u8], end: &str) -> KnownCase {
+pub fn ran(
+    rule: Rule,
+    rows: &[impl AsRef<str>],
+    output: u16,
+    events: &[u8],
+    end: &str,
+) -> KnownCase {
     let signals = rule.signals;
     let length = 7 + rows.len() * (5 + 2 * (1 << signals));
     let count = rows.len();
@@ -114,10 +143,9 @@ fn ran(rule: Rule, rows: &[impl AsRef<str>], output: u16, events: &[u8], end: &s
 
 /// The five shared nexts: the document gives their size and not their rows.
 fn five_nexts(output: u16) -> KnownCase {
-    let before = "built 5131 signals 3 states 244 | 0 undecided ".to_string();
-    let after = " run state 0 undecided none kept".to_string();
-    let question = Question { rule: shared_nexts(5), output, events: Vec::new() };
-    KnownCase { question, written: Written::LineAroundRows { before, after } }
+    let before = "built 5131 signals 3 states 244 | 0 undecided ";
+    let after = " run state 0 undecided none kept";
+    KnownCase::around_rows(shared_nexts(5), output, &[], before, after)
 }
 
 fn next_p_or_next_not_p() -> Rule {
@@ -408,7 +436,7 @@ fn known_rules() -> Vec<KnownCase> {
     let document_01 = [one_signal(), two_signals(), limits(), runs()];
     let counts = [flap_pairs(), always_of_two(), counts_of_two(), counts_of_more()];
     let all = document_01.into_iter().chain(counts).flatten();
-    all.chain(bare_counts_of_four()).chain(edge_of_256()).collect()
+    all.chain(bare_counts_of_four()).chain(edge_of_256()).chain(mask_tables::all()).collect()
 }
 
 #[cfg(test)]
@@ -424,7 +452,7 @@ mod tests {
             let line = answers.line(&case.question);
             assert!(case.is_answered_by(&line), "{:?} and not {line}", case.written);
         }
-        assert_eq!(answers.summary.rules(), 17 + 55 + 2);
+        assert_eq!(answers.summary.rules(), 17 + 55 + 2 + 59);
     }
 
     #[test]

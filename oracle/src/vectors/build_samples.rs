@@ -4,22 +4,51 @@ use std::collections::HashSet;
 
 use super::build_cases::{Question, ROOM};
 use crate::builder;
+use crate::random_masks::Leaving;
 use crate::random_rules::Shape;
 use crate::rng::Rng;
 use crate::rule::Rule;
 
 const SEED: u64 = 0x5eed_0000_0000_0003;
 const RULES: usize = 2100;
+const MASKED_SEED: u64 = 0x5eed_0000_0000_0005;
+/// How many rules have a mask that leaves as many events, for each such number.
+const MASKED_RULES: usize = 200;
 
-/// A question about each of so many different rules.
+/// A question about each of so many different rules, those without a mask first.
 pub fn random_questions() -> Vec<Question> {
     let mut rng = Rng::new(SEED);
+    let plain = |rng: &mut Rng| Shape::searchable().draw_interesting(rng);
+    let mut questions = about_different_rules(&mut rng, RULES, plain);
+    let mut rng = Rng::new(MASKED_SEED);
+    for leaving in Leaving::EACH {
+        let masked = |rng: &mut Rng| masked_shape(leaving).draw_masked(rng, leaving);
+        questions.extend(about_different_rules(&mut rng, MASKED_RULES, masked));
+    }
+    questions
+}
+
+/// The rules that the search can judge, where the mask leaves as many events.
+fn masked_shape(leaving: Leaving) -> Shape {
+    let signals = match leaving {
+        Leaving::One | Leaving::Two | Leaving::Half => 1..=4,
+        _ => 1..=3,
+    };
+    Shape { signals, ..Shape::searchable() }
+}
+
+/// So many questions.
+fn about_different_rules(
+    rng: &mut Rng,
+    count: usize,
+    draw: impl Fn(&mut Rng) -> Rule,
+) -> Vec<Question> {
     let mut files = HashSet::new();
     let mut questions = Vec::new();
-    while questions.len() < RULES {
-        let rule = Shape::searchable().draw_interesting(&mut rng);
+    while questions.len() < count {
+        let rule = draw(rng);
         if files.insert(rule.to_bytes()) {
-            questions.push(random_question(&mut rng, rule));
+            questions.push(random_question(rng, rule));
         }
     }
     questions
@@ -28,11 +57,17 @@ pub fn random_questions() -> Vec<Question> {
 /// Mostly with room for the table and a run over good events.
 fn random_question(rng: &mut Rng, rule: Rule) -> Question {
     let output = random_output(rng, &rule);
+    let possible = rule.events();
+    let mut events: Vec<u8> = (0..rng.between(0, 8)).map(|_| *rng.pick(&possible)).collect();
     let event_count = 1 << rule.signals;
-    let mut events: Vec<u8> = (0..rng.between(0, 8)).map(|_| rng.byte_below(event_count)).collect();
     if !events.is_empty() && rng.chance(4) {
         let place = rng.below(events.len());
         events[place] = rng.between(event_count, 255) as u8;
+    }
+    if !events.is_empty() && possible.len() < event_count && rng.chance(20) {
+        let place = rng.below(events.len());
+        let impossible = (0..event_count as u8).filter(|event| !possible.contains(event));
+        events[place] = *rng.pick(&Vec::from_iter(impossible));
     }
     Question { rule, output, events }
 }
@@ -51,6 +86,8 @@ fn random_output(rng: &mut Rng, rule: &Rule) -> u16 {
 #[cfg(test)]
 mod tests {
     use super::*;
+    use crate::mask;
+    use crate::random_rules::is_changed_by_its_mask;
     use crate::rule::FormulaNode;
 
     fn table(rule: &Rule) -> Option<Vec<u8>> {
@@ -76,6 +113,32 @@ mod tests {
         assert!(rules_with_an_upper_count(|_| true) >= 300);
         assert!(rules_with_an_upper_count(|node| node.second == 0) >= 200);
         assert!(rules_with_an_upper_count(|node| node.second == node.upper()) >= 100);
+    }
+
+    /// Those with a mask that leaves not all events.
+    fn masked_rules() -> Vec<Rule> {
+        let rules = random_questions().into_iter().map(|question| question.rule);
+        rules.filter(|rule| rule.possible() != mask::full(rule.signals)).collect()
+    }
+
+    #[test]
+    fn masks_leave_every_number_of_events_up_to_eight() {
+        let rules = masked_rules();
+        assert!(rules.len() >= 900);
+        for count in 1..=8 {
+            let is_it = |rule: &&Rule| rule.events().len() == count;
+            assert!(rules.iter().filter(is_it).count() >= 5, "{count} events");
+        }
+        let without_event_0 = |rule: &&Rule| rule.possible() & 1 == 0;
+        assert!(rules.iter().filter(without_event_0).count() >= 300);
+    }
+
+    #[test]
+    fn masks_decide_the_tables_of_many_rules() {
+        let rules = masked_rules();
+        let changed = rules.iter().filter(|rule| is_changed_by_its_mask(rule));
+        let several = changed.clone().filter(|rule| rule.events().len() > 1);
+        assert!(changed.count() >= 350 && several.count() >= 200);
     }
 
     #[test]

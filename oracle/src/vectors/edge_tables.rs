@@ -1,5 +1,5 @@
-//! The tables of the rules at the edge of 256, row by row, counted from what the rules say.
-//! Nothing here knows how a table is built.
+//! The tables of the rules at the edge of 256, row by row, counted from what the rules say,
+//! also where some events cannot happen. Nothing here knows how a table is built.
 //!
 //! Both rules are the exclusive or of terms: some that the first event decides, or makes
 //! undecidable, and "signals 0 to 2 eventually show k", for each number k from 1 to the last,
@@ -9,6 +9,8 @@
 //! can still come, or not. Each pair of the two is a state of its own: if a number has come in
 //! one pair only, all the others decide that one; if the same have come, the rest of them
 //! decides both, and not alike.
+
+use crate::mask::Mask;
 
 /// What matters of the events read so far.
 #[derive(Clone, Copy, PartialEq)]
@@ -50,13 +52,34 @@ impl Past {
     }
 }
 
-/// The rows, states numbered as a walk meets them, breadth-first and events ascending.
+/// The rows where every event can happen.
 pub fn rows(last: u8) -> Vec<String> {
-    let mut met = vec![Past::Empty];
+    rows_over(last, 65535)
+}
+
+/// The rows where the events of a mask can happen. The first term must be (signal 3, and any
+/// other), or mean the same over the mask.
+pub fn rows_over(last: u8, mask: Mask) -> Vec<String> {
+    rows_from(Past::Empty, last, mask)
+}
+
+/// The rows where signal 3 is never on: the first event decides nothing that a later one
+/// would not.
+pub fn rows_of_numbers(last: u8) -> Vec<String> {
+    rows_from(Past::Come { numbers: 0, odd: false }, last, 0x00ff)
+}
+
+/// States numbered as a walk meets them, breadth-first and events ascending.
+fn rows_from(start: Past, last: u8, mask: Mask) -> Vec<String> {
+    let mut met = vec![start];
     let mut rows = Vec::new();
     while let Some(&past) = met.get(rows.len()) {
         let mut row = format!("{} {}", rows.len(), past.verdict(last));
         for event in 0..16 {
+            if mask >> event & 1 == 0 {
+                row += " 65535";
+                continue;
+            }
             let next = past.after(event, last);
             let state = met.iter().position(|&other| other == next).unwrap_or(met.len());
             if state == met.len() {
@@ -94,5 +117,22 @@ mod tests {
             |rows: &[String]| rows.iter().filter(|row| row.contains("undecided")).count();
         assert_eq!((rows(7).len(), undecided(&rows(7))), (256, 254));
         assert_eq!((rows(6).len(), undecided(&rows(6))), (129, 126));
+    }
+
+    /// By hand: without event 8, state 1 is left by the same events as before; without 7 and
+    /// 15, nothing is endless; without signal 3, the start is "none has come".
+    #[test]
+    fn impossible_events_have_their_columns() {
+        let (alone, below) = (rows_over(7, 0xfeff), rows_over(6, 0x7f7f));
+        assert_eq!(alone[0], "0 undecided 1 2 3 4 5 6 7 8 65535 9 10 11 12 13 14 15");
+        assert_eq!(alone.len(), 256);
+        assert_eq!(below[0], "0 undecided 1 2 3 4 5 6 7 65535 1 8 9 10 11 12 13 65535");
+        assert_eq!(
+            (below.len(), below.iter().filter(|row| row.contains("moot")).count()),
+            (128, 0)
+        );
+        let numbers = rows_of_numbers(7);
+        assert_eq!(numbers[0], format!("0 undecided 0 1 2 3 4 5 6 7{}", " 65535".repeat(8)));
+        assert_eq!(numbers.len(), 128);
     }
 }

@@ -1,12 +1,15 @@
 //! The cases of the rule file stream.
 
+use super::mask_samples;
 use super::rule_faults::{self, Fault, RuleStart};
 use super::rule_samples as samples;
 use super::{append_counted, Case};
+use crate::random_masks::any_mask;
 use crate::record::{claiming, well_sized, Record};
 use crate::refusal::Refusal;
 use crate::rng::Rng;
-use crate::rule::{header_record, kind, BodyShape, FormulaNode, Rule};
+use crate::rule::MASK_KIND;
+use crate::rule::{header_record, kind, mask_record, BodyShape, FormulaNode, Rule};
 
 const SEED: u64 = 0x5eed_0000_0000_0001;
 const LONGEST_FILE: usize = 4096;
@@ -25,6 +28,10 @@ impl Case for RuleCase {
             Ok(rule) => rule.to_string(),
             Err(refusal) => refusal.to_string(),
         }
+    }
+
+    fn brought_by_masks(&self) -> Option<&'static str> {
+        rule_faults::refused_by_mask(&self.file)
     }
 }
 
@@ -49,6 +56,10 @@ pub fn all() -> Vec<RuleCase> {
     gathered.add_random_bytes();
     gathered.add_random_records();
     gathered.add_changed_files();
+    gathered.add_masked_rules();
+    gathered.add_mask_faults();
+    gathered.add_misplaced_masks();
+    gathered.add_nodes_behind_masks();
     gathered.cases
 }
 
@@ -190,7 +201,8 @@ impl RuleCases {
 
     /// Refusal 9: one byte or many after the last node.
     fn add_trailing_bytes(&mut self) {
-        let mut rules = vec![samples::longest_file()];
+        let longest = samples::longest_file();
+        let mut rules = vec![longest.clone(), longest.with_mask(1)];
         rules.extend((0..30).map(|_| samples::random_short_rule(&mut self.rng, 20)));
         for file in rules.iter().map(Rule::to_bytes) {
             let rest = self.random_bytes_up_to(40);
@@ -210,8 +222,11 @@ impl RuleCases {
 
     /// Refusal 1: whole records, but fewer than N.
     fn add_missing_nodes(&mut self) {
-        for _ in 0..30 {
-            let rule = samples::random_short_rule(&mut self.rng, 12);
+        for round in 0..40 {
+            let mut rule = samples::random_short_rule(&mut self.rng, 12);
+            if round >= 30 {
+                rule = self.masked(rule);
+            }
             let given = rule.nodes.len();
             let any_more = self.rng.between(given + 1, 64);
             for node_count in [given + 1, any_more, 64] {
@@ -224,11 +239,12 @@ impl RuleCases {
         self.add_refused(header_record(4, 64), 1, 6);
     }
 
-    /// Every proper beginning of six files.
+    /// Every proper beginning of seven files.
     fn add_truncations(&mut self) {
         let largest = samples::largest(&mut self.rng);
         let known = [samples::p3(), samples::p9(), samples::p12(), samples::all_kinds()];
-        let rules = known.into_iter().chain([largest, samples::mixed_counts(5)]);
+        let others = [largest, samples::mixed_counts(5), mask_samples::valve_block()];
+        let rules = known.into_iter().chain(others);
         for file in rules.map(|rule| rule.to_bytes()) {
             let starts = record_starts(&file);
             for length in 0..file.len() {
@@ -261,7 +277,11 @@ impl RuleCases {
     fn add_random_records(&mut self) {
         for _ in 0..300 {
             let node_count = self.rng.between(1, 12);
-            let mut file = header_record(self.rng.byte_below(6), node_count as u8);
+            let signals = self.rng.byte_below(6);
+            let mut file = header_record(signals, node_count as u8);
+            if self.rng.chance(20) {
+                file.extend(mask_record(self.rng.below(1 << (1 << signals.min(4))) as u16));
+            }
             for number in 0..node_count {
                 file.extend(self.random_record(number));
             }
@@ -278,11 +298,112 @@ impl RuleCases {
         well_sized(kind, &body)
     }
 
+    /// A good rule, with a mask that any may be.
+    fn masked(&mut self, rule: Rule) -> Rule {
+        let mask = any_mask(&mut self.rng, rule.signals);
+        rule.with_mask(mask)
+    }
+
+    fn add_masked_rules(&mut self) {
+        for rule in mask_samples::masked_rules() {
+            self.add_good(rule);
+        }
+        for _ in 0..250 {
+            let rule = samples::random_short_rule(&mut self.rng, 16);
+            let masked = self.masked(rule);
+            self.add_good(masked);
+        }
+        for _ in 0..50 {
+            let rule = samples::random_rule(&mut self.rng);
+            let masked = self.masked(rule);
+            self.add_good(masked);
+        }
+    }
+
+    /// Masks that are refused, with anything behind them, and behind a faulty header, which
+    /// comes first.
+    fn add_mask_faults(&mut self) {
+        let faulty_header =
+            |fault: &&Fault| [4, 5].contains(&fault.number) && fault.record.len() == 6;
+        let headers: Vec<Fault> =
+            rule_faults::header_faults().iter().filter(faulty_header).cloned().collect();
+        for start in rule_faults::headers() {
+            for fault in rule_faults::mask_faults(start.signals) {
+                let rests = [
+                    Vec::new(),
+                    well_sized(1, &[]).repeat(start.node_count.into()),
+                    mask_record(1),
+                    rule_faults::node_faults(&start)[self.rng.below(300)].record.clone(),
+                    self.random_rest(),
+                ];
+                let many = [7, 17].contains(&fault.number);
+                for after in &rests[..if many { 5 } else { 2 }] {
+                    self.add_fault(&start.to_bytes(), &fault, after);
+                }
+                let header = self.rng.pick(&headers).clone();
+                self.add_fault(&[], &header, &fault.record);
+            }
+        }
+    }
+
+    /// Masks, good ones and others, behind a mask, behind some nodes, behind the last one, and
+    /// in the place of a node that is due.
+    fn add_misplaced_masks(&mut self) {
+        let lengthened = well_sized(MASK_KIND, &[1, 0, 0]);
+        for _ in 0..30 {
+            let rule = samples::random_short_rule(&mut self.rng, 12);
+            let any = any_mask(&mut self.rng, rule.signals);
+            let wrong = [mask_record(any), mask_record(0), mask_record(65535), lengthened.clone()];
+            let record = self.rng.pick(&wrong).clone();
+            for rule in [rule.clone(), rule.with_mask(any)] {
+                let file = rule.to_bytes();
+                self.add_refused([&file[..], &record].concat(), 9, file.len());
+                let starts = record_starts(&file);
+                // From the third record on: a mask has come, or a node.
+                for &place in starts.iter().skip(2).take(2) {
+                    let broken = [&file[..place], &record, &file[place..]].concat();
+                    self.add_refused(broken, 3, place);
+                }
+            }
+        }
+    }
+
+    /// A mask is no node: as many nodes as before are due behind it, with the refusals that they
+    /// had, six bytes later.
+    fn add_nodes_behind_masks(&mut self) {
+        for signals in 1..=4 {
+            let header = header_record(signals, 1);
+            self.add_refused([&header[..], &mask_record(1)].concat(), 1, 12);
+        }
+        for _ in 0..60 {
+            let mut file = samples::random_short_rule(&mut self.rng, 10).to_bytes();
+            let place = self.rng.between(6, file.len() - 1);
+            file[place] = self.rng.byte_below(16);
+            if u16::from_le_bytes([file[8], file[9]]) == MASK_KIND {
+                continue;
+            }
+            let without = Rule::read(&file);
+            let mask = mask_record(any_mask(&mut self.rng, file[4]));
+            let masked = [&file[..6], &mask, &file[6..]].concat();
+            match without {
+                Err(Refusal { number, place }) => self.add_refused(masked, number, place + 6),
+                Ok(_) => self.add(masked),
+            }
+            // A mask that is refused comes before the nodes, whatever they are.
+            let none = [&file[..6], &mask_record(0), &file[6..]].concat();
+            self.add_refused(none, 17, 6);
+        }
+    }
+
     /// Good files with one byte changed, added or taken away.
     fn add_changed_files(&mut self) {
         for round in 0..900 {
             let limit = if round % 10 == 0 { 64 } else { 14 };
-            let mut file = samples::random_short_rule(&mut self.rng, limit).to_bytes();
+            let mut rule = samples::random_short_rule(&mut self.rng, limit);
+            if round % 3 == 0 {
+                rule = self.masked(rule);
+            }
+            let mut file = rule.to_bytes();
             let place = self.rng.below(file.len());
             let small = self.rng.chance(60);
             let value = self.rng.byte_below(if small { 16 } else { 256 });
@@ -314,7 +435,7 @@ mod tests {
     #[test]
     fn p3_has_its_line() {
         let case = RuleCase { file: samples::p3().to_bytes() };
-        assert_eq!(case.expected_line(), "rule 1 1: 2.0.0.0");
+        assert_eq!(case.expected_line(), "rule 1 3 1: 2.0.0.0");
     }
 
     /// The bodies of the records of kind 3 by which a file is refused by this number, each with the
@@ -350,6 +471,34 @@ mod tests {
             assert!(refused.iter().filter(|(_, body)| body.len() == length).count() >= 6);
         }
         assert!(refused.iter().all(|(_, body)| ![2, 3].contains(&body.len())));
+    }
+
+    #[test]
+    fn masks_are_refused_in_every_way_at_least_20_times() {
+        let ways: Vec<_> = all().iter().filter_map(Case::brought_by_masks).collect();
+        for way in ["2 by a mask's length", "3 by a mask's place", "7 by the mask"] {
+            assert!(ways.iter().filter(|&&other| other == way).count() >= 20, "{way}");
+        }
+        for way in ["9 by a mask's place", "17 by the mask"] {
+            assert!(ways.iter().filter(|&&other| other == way).count() >= 20, "{way}");
+        }
+    }
+
+    /// The bits that are too high, by the number of signals of the files that are refused for one.
+    #[test]
+    fn every_bit_too_high_is_met() {
+        let is_refused =
+            |case: &RuleCase| case.brought_by_masks().is_some_and(|way| way.starts_with('7'));
+        let files: Vec<Vec<u8>> =
+            all().into_iter().filter(is_refused).map(|case| case.file).collect();
+        for (signals, width) in [(1, 2), (2, 4), (3, 8)] {
+            for bit in width..16 {
+                let mask = (1u16 << bit).to_le_bytes();
+                let is_it = |file: &&Vec<u8>| file[4] == signals && file[10..12] == mask;
+                assert!(files.iter().filter(is_it).count() >= 3, "{signals} {bit}");
+            }
+        }
+        assert!(files.iter().all(|file| file[4] < 4));
     }
 
     #[test]

@@ -1,10 +1,12 @@
 //! Faulty records of rule files, each with the refusal number due to it.
 
 use super::rule_samples::random_nodes;
-use crate::record::{claiming, well_sized};
+use crate::mask::{self, Mask};
+use crate::random_masks::any_mask;
+use crate::record::{claiming, well_sized, Record};
 use crate::rng::Rng;
-use crate::rule::{header_record, kind, temporal_count, BodyShape, FormulaNode};
-use crate::rule::{HEADER_KIND, NODE_LIMIT, TEMPORAL_LIMIT};
+use crate::rule::{header_record, kind, mask_record, temporal_count, BodyShape, FormulaNode, Rule};
+use crate::rule::{HEADER_KIND, MASK_KIND, NODE_LIMIT, TEMPORAL_LIMIT};
 
 const ONE_OPERAND: [u8; 4] = [kind::NOT, kind::NEXT, kind::EVENTUALLY, kind::ALWAYS];
 const TWO_OPERANDS: [u8; 6] =
@@ -26,13 +28,24 @@ fn fault(number: u8, record: Vec<u8>) -> Fault {
 pub struct RuleStart {
     pub signals: u8,
     pub node_count: u8,
+    pub mask: Option<Mask>,
     pub nodes: Vec<FormulaNode>,
 }
 
 impl RuleStart {
     fn random(rng: &mut Rng, signals: u8, node_count: u8, given: usize, temporal: usize) -> Self {
         let nodes = random_nodes(rng, signals, given, temporal);
-        RuleStart { signals, node_count, nodes }
+        RuleStart { signals, node_count, mask: None, nodes }
+    }
+
+    /// The same with a mask, which any may be.
+    fn masked(self, rng: &mut Rng) -> Self {
+        RuleStart { mask: Some(any_mask(rng, self.signals)), ..self }
+    }
+
+    /// Whether what comes next is the second record, where a mask may stand.
+    fn takes_mask(&self) -> bool {
+        self.mask.is_none() && self.nodes.is_empty()
     }
 
     /// The number of the node that comes next.
@@ -46,12 +59,13 @@ impl RuleStart {
 
     pub fn to_bytes(&self) -> Vec<u8> {
         let mut bytes = header_record(self.signals, self.node_count);
+        bytes.extend(self.mask.into_iter().flat_map(mask_record));
         bytes.extend(self.nodes.iter().flat_map(|node| node.to_record()));
         bytes
     }
 }
 
-/// Starts of several sizes, with and without room for a temporal node.
+/// Starts of several sizes, with and without room for a temporal node, some with a mask.
 pub fn starts(rng: &mut Rng) -> Vec<RuleStart> {
     vec![
         RuleStart::random(rng, 1, 1, 0, 0),
@@ -60,7 +74,17 @@ pub fn starts(rng: &mut Rng) -> Vec<RuleStart> {
         RuleStart::random(rng, 1, 9, 8, TEMPORAL_LIMIT),
         RuleStart::random(rng, 3, 40, 20, TEMPORAL_LIMIT),
         RuleStart::random(rng, 4, NODE_LIMIT, 63, TEMPORAL_LIMIT),
+        RuleStart::random(rng, 2, 1, 0, 0).masked(rng),
+        RuleStart::random(rng, 3, 12, 8, TEMPORAL_LIMIT).masked(rng),
     ]
+}
+
+/// Starts that are a header alone, for each number of signals.
+pub fn headers() -> Vec<RuleStart> {
+    let counts = [1, 3, 64, 2];
+    let start =
+        |(signals, node_count)| RuleStart { signals, node_count, mask: None, nodes: Vec::new() };
+    (1..=4).zip(counts).map(start).collect()
 }
 
 /// Refusal 1: the file ends here, before or within a record.
@@ -109,14 +133,82 @@ pub fn wrong_lengths() -> Vec<Fault> {
     faults
 }
 
-/// Refusal 3: no node has the kind.
-pub fn unknown_kinds() -> Vec<Fault> {
+/// Refusal 3: no node has the kind. A mask, good or not, is such a record wherever it does
+/// not stand second.
+pub fn unknown_kinds(start: &RuleStart) -> Vec<Fault> {
     let low = [14, 15, 16, 255];
-    let high = [257, 0x0102, 0x0103, 0x0200, 0x0201, 0x0300, 0x0303, 0x0d00, 0x0d0d, 0x8000, 65535];
+    let high = [258, 0x0102, 0x0103, 0x0200, 0x0201, 0x0300, 0x0303, 0x0d00, 0x0d0d, 0x8000, 65535];
     let mut faults = Vec::new();
     for kind in low.into_iter().chain([HEADER_KIND]).chain(high) {
         faults.extend((0..=3).map(|length| fault(3, well_sized(kind, &vec![0; length]))));
     }
+    if !start.takes_mask() {
+        let masks = [0, 1, 2, 3, mask::full(start.signals), 0x8000, 65535];
+        faults.extend(masks.map(|mask| fault(3, mask_record(mask))));
+        let lengths = [0, 1, 3, 4];
+        faults.extend(lengths.map(|length| fault(3, well_sized(MASK_KIND, &vec![0; length]))));
+    }
+    faults
+}
+
+/// A second record that is a mask, or like one, and is refused.
+pub fn mask_faults(signals: u8) -> Vec<Fault> {
+    [mask_cuts(), mask_lengths(), masks_too_high(signals), no_masks(), double_mask_faults(signals)]
+        .concat()
+}
+
+/// Refusal 1: the file ends within the mask.
+fn mask_cuts() -> Vec<Fault> {
+    let whole = mask_record(1);
+    let cuts = (0..whole.len()).map(|length| fault(1, whole[..length].to_vec()));
+    let longer = [5, 6, 260, 65535].map(|length| fault(1, claiming(length, MASK_KIND, &[1, 0])));
+    cuts.chain(longer).collect()
+}
+
+/// Refusal 2: no mask has the length.
+fn mask_lengths() -> Vec<Fault> {
+    let mut faults: Vec<Fault> =
+        [0, 1].map(|length| fault(2, claiming(length, MASK_KIND, &[1, 0]))).into();
+    let lengths = [0, 1, 3, 4, 5, 254, 255, 256, 258];
+    faults.extend(lengths.map(|length| fault(2, well_sized(MASK_KIND, &vec![1; length]))));
+    faults
+}
+
+/// Refusal 7: a bit at or above 2^P, alone or beside others; none with four signals.
+fn masks_too_high(signals: u8) -> Vec<Fault> {
+    let full = mask::full(signals);
+    let bits = (0..16).map(|bit| 1 << bit);
+    let alone = bits.filter(|bit| full & bit == 0);
+    let all = alone.clone().chain(alone.map(|bit| bit | full)).chain([!full, 65535, !1, 0xff00]);
+    let too_high = all.filter(|mask| mask & !full != 0);
+    too_high.map(|mask| fault(7, mask_record(mask))).collect()
+}
+
+/// Kinds near the mask's: 3, or 2 for the kind that has its low byte.
+fn no_masks() -> Vec<Fault> {
+    let kinds = [255, HEADER_KIND, 258, 512, 513, 769, 0x8101, 0xff01];
+    let near = kinds.map(|kind| fault(3, well_sized(kind, &[1, 0])));
+    near.into_iter().chain([fault(2, well_sized(kind::TRUE.into(), &[1, 0]))]).collect()
+}
+
+/// Two faults in a mask, and 17 alone.
+fn double_mask_faults(signals: u8) -> Vec<Fault> {
+    let mut faults = vec![
+        fault(17, mask_record(0)),
+        // Too short a length, and no event possible.
+        fault(2, claiming(1, MASK_KIND, &[0, 0])),
+        // Fewer bytes than the length says, and no event possible, or a length that no mask has.
+        fault(1, claiming(4, MASK_KIND, &[0])),
+        fault(1, claiming(5, MASK_KIND, &[0, 0])),
+        fault(1, claiming(65535, MASK_KIND, &[255, 255])),
+    ];
+    // The wrong length, and no event possible or, but for four signals, a bit too high.
+    for length in [1, 3, 4] {
+        faults.extend([0, 255].map(|byte| fault(2, well_sized(MASK_KIND, &vec![byte; length]))));
+    }
+    // A bit too high, and no event possible.
+    let lowest_too_high = 1u32 << (1 << signals);
+    faults.extend(Mask::try_from(lowest_too_high).ok().map(|mask| fault(7, mask_record(mask))));
     faults
 }
 
@@ -253,13 +345,34 @@ pub fn node_faults(start: &RuleStart) -> Vec<Fault> {
     [
         cut_records(),
         wrong_lengths(),
-        unknown_kinds(),
+        unknown_kinds(start),
         late_operands(start),
         out_of_range(start),
         eighth_temporal(start),
         double_faults(start),
     ]
     .concat()
+}
+
+/// Every fault that the next record can have, also as a mask where one may stand.
+pub fn next_faults(start: &RuleStart) -> Vec<Fault> {
+    let masks = if start.takes_mask() { mask_faults(start.signals) } else { Vec::new() };
+    [node_faults(start), masks].concat()
+}
+
+/// What a file is refused for, if it is its mask, or a record of a mask in another place.
+pub fn refused_by_mask(file: &[u8]) -> Option<&'static str> {
+    let refusal = Rule::read(file).err()?;
+    let record = Record::read(file, refusal.place).ok()?;
+    match refusal.number {
+        _ if record.kind != MASK_KIND => None,
+        2 => Some("2 by a mask's length"),
+        3 => Some("3 by a mask's place"),
+        7 => Some("7 by the mask"),
+        9 => Some("9 by a mask's place"),
+        17 => Some("17 by the mask"),
+        _ => None,
+    }
 }
 
 /// Faults of the header record, single and double.
@@ -282,8 +395,9 @@ fn header_lengths() -> Vec<Fault> {
 }
 
 fn header_kinds() -> Vec<Fault> {
-    let kinds = (0..=13).chain([14, 255, 257, 512, 513, 0x0101, 0x8000, 0xff00, 65535]);
-    kinds.map(|kind| fault(3, well_sized(kind, &[1, 1]))).collect()
+    let kinds = (0..=13).chain([14, 255, MASK_KIND, 258, 512, 513, 0x8000, 0xff00, 65535]);
+    let masks = [0, 1, 65535].map(|mask| fault(3, mask_record(mask)));
+    kinds.map(|kind| fault(3, well_sized(kind, &[1, 1]))).chain(masks).collect()
 }
 
 fn header_numbers() -> Vec<Fault> {

@@ -21,7 +21,7 @@ pub const P: NodeBytes = (kind::SIGNAL, 0, 0);
 pub const Q: NodeBytes = (kind::SIGNAL, 1, 0);
 
 pub fn rule(signals: u8, nodes: &[impl Into<FormulaNode> + Copy]) -> Rule {
-    Rule { signals, nodes: nodes.iter().map(|&node| node.into()).collect() }
+    Rule::new(signals, nodes.iter().map(|&node| node.into()).collect())
 }
 
 pub fn p3() -> Rule {
@@ -161,7 +161,7 @@ pub fn mixed_counts(order: u8) -> Rule {
 /// The longest file: as many nodes as there may be, all of them counts with a third byte.
 pub fn longest_file() -> Rule {
     let count = |number| FormulaNode::between(number % 16, number % 5, number / 7 % 5);
-    Rule { signals: 4, nodes: (0..NODE_LIMIT).map(count).collect() }
+    Rule::new(4, (0..NODE_LIMIT).map(count).collect())
 }
 
 /// Every lower with every upper count, over this mask.
@@ -299,7 +299,7 @@ pub fn edge_rules() -> Vec<Rule> {
     vec![full_table(), merged_states(), one_too_many(), one_too_many_merged()]
 }
 
-/// All of these that are not drawn.
+/// All of these that are not drawn; none has a mask.
 pub fn known_rules() -> Vec<Rule> {
     [document_rules(), limit_rules(), count_rules(), edge_rules()].concat()
 }
@@ -321,7 +321,7 @@ pub fn random_short_rule(rng: &mut Rng, limit: usize) -> Rule {
 }
 
 fn random_rule_of(rng: &mut Rng, signals: u8, node_count: usize, temporal: usize) -> Rule {
-    Rule { signals, nodes: random_nodes(rng, signals, node_count, temporal) }
+    Rule::new(signals, random_nodes(rng, signals, node_count, temporal))
 }
 
 /// Good nodes, of which `temporal` are temporal, or all but the first if

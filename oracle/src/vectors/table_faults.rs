@@ -1,9 +1,10 @@
 //! Byte lists that are not tables, all for refusal 14.
 
-use super::table_samples::chain;
+use super::table_samples::{chain, impossible_events};
+use crate::mask;
 use crate::record::well_sized;
 use crate::table::{row_length, Monitor, MonitorState, Verdict};
-use crate::table::{HEADER_KIND, HEADER_LENGTH, STATE_KIND};
+use crate::table::{HEADER_KIND, HEADER_LENGTH, NO_SUCCESSOR, STATE_KIND};
 
 /// Every way in which this good table can be spoilt in one field or in size.
 pub fn spoilt_tables(monitor: &Monitor) -> Vec<Vec<u8>> {
@@ -53,10 +54,66 @@ fn spoilt_rows(monitor: &Monitor, row: usize) -> Vec<Vec<u8>> {
     tables.extend([4, 5, 128, 255].map(|verdict| patched(monitor, start + 4, &[verdict])));
     for event in [0, last_event / 2, last_event] {
         let place = start + 5 + 2 * event;
-        let successors = [state_count, state_count + 1, 256, 65535];
+        let successors = [state_count, state_count + 1, 256, 65534];
         tables.extend(successors.map(|successor| patched_u16(monitor, place, successor)));
     }
     tables
+}
+
+/// The table with successors missing, or written, where they must not be. The events that can
+/// happen are then not the same in every row, or there are none.
+pub fn missing_successors(monitor: &Monitor) -> Vec<Vec<u8>> {
+    let rows: Vec<usize> = (0..monitor.states.len()).collect();
+    let possible: Vec<u8> = mask::events(monitor.possible()).collect();
+    let mut spoilt = vec![written(monitor, &rows, &possible, NO_SUCCESSOR)];
+    if let [first, .., last] = rows[..] {
+        spoilt.extend([first, last / 2, last].iter().flat_map(|&row| uneven(monitor, row)));
+    }
+    spoilt.iter().map(Monitor::to_bytes).collect()
+}
+
+/// The monitor in which other events can happen in one row than in the others.
+fn uneven(monitor: &Monitor, row: usize) -> Vec<Monitor> {
+    let others: Vec<usize> = (0..monitor.states.len()).filter(|&other| other != row).collect();
+    let possible: Vec<u8> = mask::events(monitor.possible()).collect();
+    let last_state = monitor.states.len() as u16 - 1;
+    let mut uneven = Vec::new();
+    for events in [&possible[..1], &possible[possible.len() - 1..], &possible] {
+        let either = [&[row][..], &others];
+        uneven.extend(either.map(|rows| written(monitor, rows, events, NO_SUCCESSOR)));
+    }
+    for event in impossible_events(monitor).into_iter().step_by(3) {
+        let here = written(monitor, &[row], &[event], last_state);
+        uneven.push(written(monitor, &others, &[event], 0));
+        uneven.push(written(&here, &[row], &possible[..1], NO_SUCCESSOR));
+        uneven.push(here);
+    }
+    uneven
+}
+
+/// What an impossible event must not be written as, in every row: a number that is no state, and
+/// not 65,535 either.
+pub fn wrong_numbers(monitor: &Monitor) -> Vec<Vec<u8>> {
+    let impossible = impossible_events(monitor);
+    if impossible.is_empty() {
+        return Vec::new();
+    }
+    let rows: Vec<usize> = (0..monitor.states.len()).collect();
+    let state_count = rows.len() as u16;
+    let numbers = [state_count, 256, 257, 0x00ff, 0xff00, 32767, 65534];
+    let no_states = numbers.into_iter().filter(|&number| number >= state_count);
+    no_states.map(|number| written(monitor, &rows, &impossible, number).to_bytes()).collect()
+}
+
+/// The monitor with this successor for these events in these rows.
+fn written(monitor: &Monitor, rows: &[usize], events: &[u8], successor: u16) -> Monitor {
+    let mut monitor = monitor.clone();
+    for &row in rows {
+        for &event in events {
+            monitor.states[row].successors[usize::from(event)] = successor;
+        }
+    }
+    monitor
 }
 
 /// The table cut, or with bytes too many, whole rows among them.

@@ -1,7 +1,10 @@
-//! Good monitors: those of document 01, slow ones, and random ones.
+//! Good monitors: those of document 01, slow ones, and random ones; each also with events
+//! that cannot happen.
 
+use crate::mask::{self, Mask};
+use crate::random_masks::any_mask;
 use crate::rng::Rng;
-use crate::table::{Monitor, MonitorState, Verdict};
+use crate::table::{Monitor, MonitorState, Verdict, NO_SUCCESSOR};
 
 use Verdict::{Moot, Satisfied, Undecided, Violated};
 
@@ -36,6 +39,32 @@ fn p13() -> Monitor {
     let rows: [Row; 3] =
         [(Undecided, &[1, 1, 2, 2]), (Violated, &[1, 1, 1, 1]), (Moot, &[2, 2, 2, 2])];
     monitor(2, &rows)
+}
+
+/// P12 where p and q never come together.
+pub fn p12_apart() -> Monitor {
+    let rows: [Row; 3] = [
+        (Undecided, &[0, 1, 0, 65535]),
+        (Undecided, &[1, 2, 0, 65535]),
+        (Violated, &[2, 2, 2, 65535]),
+    ];
+    monitor(2, &rows)
+}
+
+/// The monitor in which only the events of a mask can happen.
+pub fn leaving(mut monitor: Monitor, mask: Mask) -> Monitor {
+    for state in &mut monitor.states {
+        let successors = (0..).zip(&mut state.successors);
+        let impossible = successors.filter(|&(event, _)| !mask::has(mask, event));
+        impossible.for_each(|(_, successor)| *successor = NO_SUCCESSOR);
+    }
+    monitor
+}
+
+/// The monitor in which any events can happen.
+pub fn masked(rng: &mut Rng, monitor: Monitor) -> Monitor {
+    let mask = any_mask(rng, monitor.signals);
+    leaving(monitor, mask)
 }
 
 /// The tables of P1 to P6, P9, P10, P12 and P13.
@@ -97,8 +126,14 @@ pub fn random_small_monitor(rng: &mut Rng, limit: usize) -> Monitor {
 }
 
 /// Events that the monitor takes.
-pub fn random_events(rng: &mut Rng, signals: u8, count: usize) -> Vec<u8> {
-    (0..count).map(|_| rng.byte_below(1 << signals)).collect()
+pub fn random_events(rng: &mut Rng, monitor: &Monitor, count: usize) -> Vec<u8> {
+    let possible: Vec<u8> = mask::events(monitor.possible()).collect();
+    (0..count).map(|_| *rng.pick(&possible)).collect()
+}
+
+/// The events below 2^P that cannot happen.
+pub fn impossible_events(monitor: &Monitor) -> Vec<u8> {
+    mask::events(mask::full(monitor.signals) & !monitor.possible()).collect()
 }
 
 #[cfg(test)]
@@ -111,8 +146,22 @@ mod tests {
         let mut monitors = document_monitors();
         monitors.extend([chain(1, 256, Moot), chain(4, 256, Violated), chain(2, 1, Satisfied)]);
         monitors.extend((0..200).map(|_| random_small_monitor(&mut rng, 40)));
+        monitors.push(p12_apart());
+        for _ in 0..200 {
+            let monitor = random_small_monitor(&mut rng, 40);
+            monitors.push(masked(&mut rng, monitor));
+        }
         for monitor in monitors {
             assert_eq!(Monitor::open(&monitor.to_bytes()), Ok(monitor));
         }
+    }
+
+    #[test]
+    fn a_mask_leaves_its_events() {
+        assert_eq!(leaving(p12(), 7), p12_apart());
+        let left = leaving(chain(3, 4, Moot), 0b1000_0001);
+        assert_eq!(left.possible(), 0b1000_0001);
+        assert_eq!(impossible_events(&left), [1, 2, 3, 4, 5, 6]);
+        assert_eq!(impossible_events(&p12()), []);
     }
 }
