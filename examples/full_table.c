@@ -23,7 +23,7 @@ static uint8_t table[TEFUJI_TABLE_MAX];
 
 /* Builds the table of a rule file and says what came of it. */
 static uint64_t build(const char *path) {
-    uint8_t rule[454]; /* the longest that is not refused */
+    uint8_t rule[460]; /* the longest that is not refused */
     FILE *file = fopen(path, "rb");
     if (!file) {
         printf("cannot read %s\n", path);

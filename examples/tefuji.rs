@@ -53,7 +53,7 @@ pub const TABLE_MAX: usize = 9479;
 /// The bytes that `text` needs.
 pub const TEXT_ROOM: usize = 32768;
 
-/// A refusal: its number, 1 to 16, and its place. What was lent keeps every byte.
+/// A refusal: its number, 1 to 17, and its place. What was lent keeps every byte.
 #[derive(Clone, Copy, Debug, PartialEq, Eq)]
 pub struct Refusal {
     pub number: u8,
@@ -117,7 +117,7 @@ pub fn build(rule: &[u8], table: &mut [u8]) -> Result<usize, Refusal> {
     answered(answer).map(|length| length as usize)
 }
 
-/// Checks a table's bytes, and runs them from a state over a list of events.
+/// Checks a table's bytes, and runs them from a state over a list of events. The first that is none or cannot happen is refused by 12.
 pub fn run(table: &[u8], state: u16, events: &[u8]) -> Result<Ended, Refusal> {
     let mut count = 0;
     // All three are lent for the call.

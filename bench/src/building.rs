@@ -6,8 +6,9 @@ use oracle::builder;
 use oracle::random_rules::Shape;
 use oracle::rng::Rng;
 use oracle::rule::Rule;
+use oracle::vectors::mask_samples::{valve_block, APART, APART_OF_THREE, LOWER_HALF, NOT_ALONE};
 use oracle::vectors::rule_samples::{counted_until, flap_pair};
-use oracle::vectors::rule_samples::{document_rules, nexts, p3, shared_nexts};
+use oracle::vectors::rule_samples::{document_rules, nexts, p12, p3, shared_nexts};
 use oracle::vectors::rule_samples::{full_table, merged_states, one_too_many};
 
 use crate::clock::Work;
@@ -68,6 +69,17 @@ pub fn edge_rules() -> [(&'static str, Rule); 3] {
     ]
 }
 
+/// Rules in which some events cannot happen, under their names.
+pub fn masked_rules() -> [(&'static str, Rule); 5] {
+    [
+        ("3 states, 3 of 4 events", p12().with_mask(APART)),
+        ("the valve block, 3 of 4 events", valve_block()),
+        ("244 states, 6 of 8 events", shared_nexts(5).with_mask(APART_OF_THREE)),
+        ("256 states, 15 of 16 events", one_too_many().with_mask(NOT_ALONE)),
+        ("128 states, 8 of 16 events", one_too_many().with_mask(LOWER_HALF)),
+    ]
+}
+
 pub fn report(work: &Work) {
     println!("\n| building, µs | proved | plain | ratio |\n|---|---|---|---|");
     let known = document_rules();
@@ -89,6 +101,9 @@ pub fn report(work: &Work) {
         ("always exactly one of two signals", flap_pair()),
         ("always one or two of four signals imply next two or three until none", counted_until()),
     ] {
+        Cost::of(work, &rule).print(name);
+    }
+    for (name, rule) in masked_rules() {
         Cost::of(work, &rule).print(name);
     }
     let shape = Shape { signals: 1..=4, temporal: 4..=7, nodes: 24 };

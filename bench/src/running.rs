@@ -2,8 +2,10 @@
 
 use std::hint::black_box;
 
+use oracle::mask::{self, Mask};
 use oracle::rng::Rng;
 use oracle::table::{Monitor, MonitorState, Verdict};
+use oracle::vectors::table_samples::leaving;
 
 use crate::clock::Work;
 use crate::tefuji::{self, Opened};
@@ -11,14 +13,17 @@ use crate::tefuji::{self, Opened};
 const SEED: u64 = 0x5eed_0000_0000_0009;
 
 /// A table whose states are all undecided, so that a run looks at every verdict.
-fn random_table(rng: &mut Rng, signals: u8, states: u16) -> Vec<u8> {
+fn random_table(rng: &mut Rng, signals: u8, states: u16) -> Monitor {
     let successors =
         |rng: &mut Rng| (0..1 << signals).map(|_| rng.below(states.into()) as u16).collect();
     let states = (0..states)
         .map(|_| MonitorState { verdict: Verdict::Undecided, successors: successors(rng) })
         .collect();
-    Monitor { signals, states }.to_bytes()
+    Monitor { signals, states }
 }
+
+/// The tables with impossible events: their signals, and the events that can happen.
+const MASKED: [(u8, Mask); 3] = [(2, 0b0111), (4, 0x5a3c), (4, 0x7fff)];
 
 fn u16_at(bytes: &[u8], place: usize) -> u16 {
     u16::from_le_bytes([bytes[place], bytes[place + 1]])
@@ -54,11 +59,15 @@ impl Decoded {
     }
 
     /// The same job as a run: refuses a wrong event, and counts up to the first verdict.
-    fn run(&self, events: &[u8]) -> Option<(u16, u8, Option<usize>)> {
+    fn run(
+        &self,
+        events: &[u8],
+        is_event: impl Fn(u8) -> bool,
+    ) -> Option<(u16, u8, Option<usize>)> {
         let mut state = 0u16;
         let mut count = (self.verdicts[0] != 0).then_some(0);
         for (index, &event) in events.iter().enumerate() {
-            if usize::from(event) >= self.events {
+            if !is_event(event) {
                 return None;
             }
             state = self.successors[usize::from(state) * self.events + usize::from(event)];
@@ -83,34 +92,61 @@ fn bare_walk(table: &[u8], events: &[u8]) -> u16 {
 fn steps(opened: Opened, events: &[u8]) -> u16 {
     let mut state = 0;
     for &event in events {
-        state = opened.step(state, event).expect("the event is below 2^signals").state;
+        state = opened.step(state, event).expect("the event can happen").state;
     }
     state
 }
 
+/// Without a mask the same job refuses what is not below 2^signals.
 fn report_runs(work: &Work, rng: &mut Rng, signals: u8) {
-    let table = random_table(rng, signals, 244);
+    let table = random_table(rng, signals, 244).to_bytes();
     let events: Vec<u8> = (0..work.events).map(|_| rng.byte_below(1 << signals)).collect();
-    let decoded = Decoded::of(&table);
-    let opened = Opened::open(&table).expect("the table is well-formed");
-    let end = tefuji::run(&table, 0, &events).expect("the run is good").reached.state;
-    assert_eq!(end, decoded.follow(&events));
-    assert_eq!(end, bare_walk(&table, &events));
-    assert_eq!(end, steps(opened, &events));
-    assert_eq!(Some((end, 0, None)), decoded.run(&events));
+    report_run(work, &format!("{signals} signals"), &table, &events, |event| event < 1 << signals);
+}
+
+/// With one it refuses what has no bit in the mask.
+fn report_masked_runs(work: &Work, rng: &mut Rng, signals: u8, mask: Mask) {
+    let table = leaving(random_table(rng, signals, 244), mask).to_bytes();
+    let possible: Vec<u8> = mask::events(mask).collect();
+    let events: Vec<u8> = (0..work.events).map(|_| *rng.pick(&possible)).collect();
+    let name = format!("{signals} signals, {} of {} events", possible.len(), 1 << signals);
+    let mask = u32::from(mask);
+    report_run(work, &name, &table, &events, |event| event < 16 && mask >> event & 1 == 1);
+}
+
+fn report_run(
+    work: &Work,
+    name: &str,
+    table: &[u8],
+    events: &[u8],
+    is_event: impl Fn(u8) -> bool + Copy,
+) {
+    let decoded = Decoded::of(table);
+    let opened = Opened::open(table).expect("the table is well-formed");
+    let end = tefuji::run(table, 0, events).expect("the run is good").reached.state;
+    assert_eq!(end, decoded.follow(events));
+    assert_eq!(end, bare_walk(table, events));
+    assert_eq!(end, steps(opened, events));
+    assert_eq!(Some((end, 0, None)), decoded.run(events, is_event));
     let per_event = |total: f64| total / work.events as f64;
     let proved =
-        per_event(work.nanoseconds(|| tefuji::run(black_box(&table), 0, black_box(&events))));
-    let plain = per_event(work.nanoseconds(|| decoded.follow(black_box(&events))));
-    let same_job = per_event(work.nanoseconds(|| decoded.run(black_box(&events))));
-    let bare = per_event(work.nanoseconds(|| bare_walk(black_box(&table), black_box(&events))));
-    let stepped = per_event(work.nanoseconds(|| steps(opened, black_box(&events))));
+        per_event(work.nanoseconds(|| tefuji::run(black_box(table), 0, black_box(events))));
+    let plain = per_event(work.nanoseconds(|| decoded.follow(black_box(events))));
+    let same_job = per_event(work.nanoseconds(|| decoded.run(black_box(events), is_event)));
+    let bare = per_event(work.nanoseconds(|| bare_walk(black_box(table), black_box(events))));
+    let stepped = per_event(work.nanoseconds(|| steps(opened, black_box(events))));
     println!(
-        "| {signals} signals | {proved:.2} | {plain:.2} ({:.2}) | {same_job:.2} ({:.2}) | {bare:.2} ({:.2}) | {stepped:.2} |",
+        "| {name} | {proved:.2} | {plain:.2} ({:.2}) | {same_job:.2} ({:.2}) | {bare:.2} ({:.2}) | {stepped:.2} |",
         proved / plain,
         proved / same_job,
         proved / bare
     );
+}
+
+fn report_opening(work: &Work, name: &str, table: &[u8]) {
+    let proved = work.nanoseconds(|| Opened::open(black_box(table)).is_ok()) / 1000.0;
+    let plain = work.nanoseconds(|| Monitor::open(black_box(table)).is_ok()) / 1000.0;
+    println!("| {name} | {} | {proved:.2} | {plain:.2} |", table.len());
 }
 
 pub fn report(work: &Work) {
@@ -124,16 +160,20 @@ pub fn report(work: &Work) {
     for signals in [1, 2, 3, 4] {
         report_runs(work, &mut rng, signals);
     }
+    for (signals, mask) in MASKED {
+        report_masked_runs(work, &mut rng, signals, mask);
+    }
     println!(
         "\n| opening (every byte checked) | bytes | µs | oracle's reader, µs |\n|---|---|---|---|"
     );
     for (signals, states) in [(1, 3), (3, 28), (3, 82), (3, 244), (4, 256)] {
-        let table = random_table(&mut rng, signals, states);
-        let proved = work.nanoseconds(|| Opened::open(black_box(&table)).is_ok()) / 1000.0;
-        let plain = work.nanoseconds(|| Monitor::open(black_box(&table)).is_ok()) / 1000.0;
-        println!(
-            "| {states} states, {signals} signals | {} | {proved:.2} | {plain:.2} |",
-            table.len()
-        );
+        let table = random_table(&mut rng, signals, states).to_bytes();
+        report_opening(work, &format!("{states} states, {signals} signals"), &table);
+    }
+    for (signals, mask) in MASKED {
+        let table = leaving(random_table(&mut rng, signals, 256), mask).to_bytes();
+        let (possible, all) = (mask.count_ones(), 1 << signals);
+        let name = format!("256 states, {signals} signals, {possible} of {all} events");
+        report_opening(work, &name, &table);
     }
 }

@@ -4,7 +4,8 @@
 use std::hint::black_box;
 use std::ptr;
 
-use oracle::vectors::rule_samples::shared_nexts;
+use oracle::vectors::mask_samples::NOT_ALONE;
+use oracle::vectors::rule_samples::{one_too_many, shared_nexts};
 
 use crate::building;
 use crate::tefuji::{self, Opened};
@@ -59,35 +60,46 @@ fn print(name: &str, allowed: usize, mut call: impl FnMut()) {
 }
 
 fn measure() {
-    let rule = shared_nexts(5).to_bytes();
-    let mut table = vec![0; tefuji::TABLE_MAX];
-    let length = tefuji::build(&rule, &mut table).expect("244 states");
-    let mut spare = table.clone();
-    let table = &table[..length];
-    let events = vec![0; 5000];
-    let mut text = vec![0; tefuji::TEXT_ROOM];
-    let opened = Opened::open(table).expect("a table");
     println!("\n| call (at most {FRAMES}: not told apart) | stack, bytes |\n|---|---|");
+    measure_making();
+    measure_using("", &shared_nexts(5).to_bytes());
+    measure_using(", 15 of 16 events", &one_too_many().with_mask(NOT_ALONE).to_bytes());
+}
+
+fn measure_making() {
     let mut file = vec![0; tefuji::RULE_MAX];
     for text in [writing::typical()].iter().chain(&writing::longest()) {
         let name = format!("write, {}", text.name);
         print(&name, WRITING, || _ = black_box(tefuji::write(&text.bytes, 2, &mut file)));
     }
-    let edge = building::edge_rules().map(|(name, rule)| (name, rule.to_bytes()));
-    for (name, rule) in [("244 states", rule)].iter().chain(&edge) {
-        let name = format!("build, {name}");
-        print(&name, BUILDING, || _ = black_box(tefuji::build(rule, &mut spare)));
+    let mut table = vec![0; tefuji::TABLE_MAX];
+    let edge = building::edge_rules();
+    let rules = [("244 states", shared_nexts(5))].into_iter().chain(edge);
+    for (name, rule) in rules.chain(building::masked_rules()) {
+        let (name, rule) = (format!("build, {name}"), rule.to_bytes());
+        print(&name, BUILDING, || _ = black_box(tefuji::build(&rule, &mut table)));
     }
-    print("check", OTHERS, || _ = black_box(Opened::open(table)));
+}
+
+/// Checks, runs, steps and prints the table of a rule in which event 0 can happen.
+fn measure_using(which: &str, rule: &[u8]) {
+    let mut table = vec![0; tefuji::TABLE_MAX];
+    let length = tefuji::build(rule, &mut table).expect("the rule is good");
+    let table = &table[..length];
+    let events = vec![0; 5000];
+    let mut text = vec![0; tefuji::TEXT_ROOM];
+    let opened = Opened::open(table).expect("a table");
+    print(&format!("check{which}"), OTHERS, || _ = black_box(Opened::open(table)));
     for (name, count, allowed) in [
         ("run, 10 events", 10, OTHERS),
         ("run, 4,095 events", 4095, OTHERS),
         ("run, 4,096 events", 4096, LONG_RUNS),
     ] {
-        print(name, allowed, || _ = black_box(tefuji::run(table, 0, &events[..count])));
+        let name = format!("{name}{which}");
+        print(&name, allowed, || _ = black_box(tefuji::run(table, 0, &events[..count])));
     }
-    print("step", OTHERS, || _ = black_box(opened.step(0, 0)));
-    print("text", OTHERS, || _ = black_box(tefuji::text(table, &mut text)));
+    print(&format!("step{which}"), OTHERS, || _ = black_box(opened.step(0, 0)));
+    print(&format!("text{which}"), OTHERS, || _ = black_box(tefuji::text(table, &mut text)));
 }
 
 /// On a thread of its own, with room to paint.

@@ -56,6 +56,10 @@ fn check(table: &[u8], tally: &mut Tally) -> Compared {
     let expected = Monitor::open(table);
     let code = answer::checked(&expected);
     same_code("answer of check", library::check(&lent), code)?;
+    match &expected {
+        Ok(monitor) => tally.add_masked("check", monitor),
+        Err(_) => tally.add_spoilt(table),
+    }
     let opened = tefuji::Opened::open(&lent);
     let counts = opened.map(|opened| (opened.signals(), usize::from(opened.states())));
     let expected = expected.map(|monitor| (monitor.signals, monitor.states.len()));

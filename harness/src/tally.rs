@@ -3,19 +3,38 @@
 use std::collections::BTreeMap;
 use std::fmt;
 
+use oracle::mask;
+use oracle::refusal::Refusal;
+use oracle::table::{Monitor, RunResult};
+
 const KINDS: [&str; 6] = ["write", "build", "check", "run", "step", "text"];
-const REFUSALS: std::ops::RangeInclusive<u8> = 1..=16;
+const REFUSALS: std::ops::RangeInclusive<u8> = 1..=17;
 /// The refusals of write, which have others' numbers and places of its own.
 const WRITE_REFUSALS: [u8; 6] = [15, 4, 16, 7, 8, 10];
 
 /// The most states of a table, and the least number of rules with as many.
-const FULL: u16 = 256;
+const FULL: usize = 256;
 const FULL_TABLES: u64 = 100;
 
+/// What is done with tables and rules that have impossible events.
+const MASKED_KINDS: [&str; 5] = ["build", "check", "run", "step", "text"];
+/// The refusals that are new with impossible events.
+const BROUGHT_BY_MASKS: [&str; 5] = [
+    "7 by the mask",
+    "17 by the mask",
+    "12 by an impossible event",
+    "12 by an impossible event past a verdict",
+    "14 by missing successors",
+];
+/// The least number of each.
+const SOME_MASKED: u64 = 20;
+
 /// How far a step with counts that need not be the table's comes.
-const STRAYS: [&str; 5] = [
+const STRAYS: [&str; 7] = [
     "no table's counts or length",
     "no state or event",
+    "an impossible event",
+    "a missing successor",
     "a successor past the states",
     "a verdict byte above 3",
     "answered",
@@ -29,6 +48,10 @@ pub struct Tally {
     refused_by_write: BTreeMap<u8, u64>,
     stray_steps: BTreeMap<&'static str, u64>,
     full_tables: u64,
+    full_masked_tables: u64,
+    /// By what was done: tables with impossible events, without a refusal.
+    masked: BTreeMap<&'static str, u64>,
+    brought_by_masks: BTreeMap<&'static str, u64>,
 }
 
 impl Tally {
@@ -48,9 +71,52 @@ impl Tally {
         }
     }
 
-    /// Adds a rule whose table both sides have built, with this number of states.
-    pub fn add_table(&mut self, states: u16) {
-        self.full_tables += u64::from(states == FULL);
+    /// Adds a rule whose table both sides have built.
+    pub fn add_table(&mut self, monitor: &Monitor) {
+        let is_full = monitor.states.len() == FULL;
+        self.full_tables += u64::from(is_full);
+        self.full_masked_tables += u64::from(is_full && has_impossible_events(monitor));
+        self.add_masked("build", monitor);
+    }
+
+    /// Adds something done with a table without a refusal, if the table has impossible events.
+    pub fn add_masked(&mut self, kind: &'static str, monitor: &Monitor) {
+        if has_impossible_events(monitor) {
+            *self.masked.entry(kind).or_default() += 1;
+        }
+    }
+
+    /// Adds a run over a table, or a step, with what it came to.
+    pub fn add_run(
+        &mut self,
+        kind: &'static str,
+        monitor: &Monitor,
+        (state, events): (u16, &[u8]),
+        ended: Result<RunResult, Refusal>,
+    ) {
+        let Err(refusal) = ended else {
+            return self.add_masked(kind, monitor);
+        };
+        if refusal.number == 12 && events[refusal.place] < 1 << monitor.signals {
+            self.add_brought_by_masks(Some("12 by an impossible event"));
+            let before = monitor.run(state, &events[..refusal.place]);
+            let is_decided = before.is_ok_and(|end| end.count.is_some());
+            let words = "12 by an impossible event past a verdict";
+            self.add_brought_by_masks(is_decided.then_some(words));
+        }
+    }
+
+    /// Adds bytes that both sides refuse as a table.
+    pub fn add_spoilt(&mut self, table: &[u8]) {
+        let is_spoilt = Monitor::is_spoilt_by_missing_successors(table);
+        self.add_brought_by_masks(is_spoilt.then_some("14 by missing successors"));
+    }
+
+    /// Adds a refusal that is new with impossible events, if it is one.
+    pub fn add_brought_by_masks(&mut self, words: Option<&'static str>) {
+        if let Some(words) = words {
+            *self.brought_by_masks.entry(words).or_default() += 1;
+        }
     }
 
     /// Adds a step with counts that need not be the table's, by how far it came.
@@ -70,7 +136,23 @@ impl Tally {
         let strays = strays.map(|came| format!("a step with other counts, {came}"));
         let few = (self.full_tables < FULL_TABLES)
             .then(|| format!("{FULL_TABLES} tables with {FULL} states"));
-        kinds.chain(numbers).chain(written).chain(strays).chain(few).collect()
+        let all = kinds.chain(numbers).chain(written).chain(strays).chain(few);
+        all.chain(self.missing_of_masks()).collect()
+    }
+
+    /// The same of impossible events, each at least so often.
+    fn missing_of_masks(&self) -> Vec<String> {
+        let is_seldom = |counts: &BTreeMap<&'static str, u64>, words: &&&'static str| {
+            *counts.get(**words).unwrap_or(&0) < SOME_MASKED
+        };
+        let kinds = MASKED_KINDS.iter().filter(|kind| is_seldom(&self.masked, kind));
+        let kinds = kinds.map(|kind| format!("{SOME_MASKED} times {kind} with impossible events"));
+        let refusals =
+            BROUGHT_BY_MASKS.iter().filter(|words| is_seldom(&self.brought_by_masks, words));
+        let refusals = refusals.map(|words| format!("{SOME_MASKED} times refusal {words}"));
+        let full = (self.full_masked_tables < SOME_MASKED)
+            .then(|| format!("{SOME_MASKED} tables with {FULL} states and impossible events"));
+        kinds.chain(refusals).chain(full).collect()
     }
 
     fn write_kind(&self, out: &mut fmt::Formatter<'_>, kind: &str) -> fmt::Result {
@@ -90,14 +172,26 @@ impl fmt::Display for Tally {
         }
         write!(out, "refused {}; ", listed(&self.refused))?;
         write!(out, "of these by write {}; ", listed(&self.refused_by_write))?;
-        write!(out, "tables with {FULL} states: {}; ", self.full_tables)?;
-        let strays = self.stray_steps.iter().map(|(came, count)| format!("{came} {count}"));
-        write!(out, "steps with other counts: {}", strays.collect::<Vec<_>>().join(", "))
+        write!(out, "of these {}; ", named(&self.brought_by_masks))?;
+        write!(out, "accepted with impossible events: {}; ", named(&self.masked))?;
+        write!(out, "tables with {FULL} states: {}, ", self.full_tables)?;
+        write!(out, "{} of them with impossible events; ", self.full_masked_tables)?;
+        write!(out, "steps with other counts: {}", named(&self.stray_steps))
     }
+}
+
+fn has_impossible_events(monitor: &Monitor) -> bool {
+    monitor.possible() != mask::full(monitor.signals)
 }
 
 /// Numbers and how often each was met.
 fn listed(counts: &BTreeMap<u8, u64>) -> String {
     let counts = counts.iter().map(|(number, count)| format!("{number}: {count}"));
+    counts.collect::<Vec<_>>().join(", ")
+}
+
+/// Words and how often each was met.
+fn named(counts: &BTreeMap<&'static str, u64>) -> String {
+    let counts = counts.iter().map(|(words, count)| format!("{words} {count}"));
     counts.collect::<Vec<_>>().join(", ")
 }

@@ -1,6 +1,8 @@
 //! From a rule file to a table, into outputs of several lengths.
 
 use oracle::builder;
+use oracle::table::Monitor;
+use oracle::vectors::rule_faults::refused_by_mask;
 
 use super::{lent, painted, refused_by, same, same_bytes, Compared};
 use crate::answer;
@@ -19,8 +21,13 @@ pub fn compare(rule: &[u8], rooms: &[Room], paint: u8, tally: &mut Tally) -> Com
     for length in lengths.clone() {
         compare_into(rule, length, paint, tally)?;
     }
-    if built.is_ok_and(|least| lengths.max() >= Some(least)) {
-        tally.add_table(u16::from_le_bytes([table[5], table[6]]));
+    match built {
+        Ok(least) if lengths.max() >= Some(least) => {
+            let monitor = Monitor::open(&table[..least]).expect("the builder writes a table");
+            tally.add_table(&monitor);
+        }
+        Ok(_) => {}
+        Err(_) => tally.add_brought_by_masks(refused_by_mask(rule)),
     }
     Ok(())
 }

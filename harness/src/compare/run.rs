@@ -10,7 +10,9 @@ use crate::tefuji;
 
 /// `cell` is what stands where the count goes.
 pub fn compare(table: &[u8], state: u16, events: &[u8], cell: u64, tally: &mut Tally) -> Compared {
-    let expected = Monitor::open(table).and_then(|monitor| monitor.run(state, events));
+    let opened = Monitor::open(table);
+    let expected = opened.as_ref().map_err(|&refusal| refusal);
+    let expected = expected.and_then(|monitor| monitor.run(state, events));
     let (lent_table, lent_events) = (lent(table), lent(events));
     let mut count = Box::new(cell);
     let code = library::run(&lent_table, state, &lent_events, &mut count);
@@ -21,5 +23,9 @@ pub fn compare(table: &[u8], state: u16, events: &[u8], cell: u64, tally: &mut T
     same_bytes("the table that was read", &lent_table, table)?;
     same_bytes("the events that were read", &lent_events, events)?;
     tally.add_answer("run", refused_by(code));
+    match opened {
+        Ok(monitor) => tally.add_run("run", &monitor, (state, events), expected),
+        Err(_) => tally.add_spoilt(table),
+    }
     Ok(())
 }

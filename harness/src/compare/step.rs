@@ -1,7 +1,7 @@
 //! Single steps: with the counts that checking the same table answered, and with any others.
 
 use oracle::refusal::Refusal;
-use oracle::table::{row_length, Monitor, RunResult, Verdict, HEADER_LENGTH};
+use oracle::table::{row_length, Monitor, RunResult, Verdict, HEADER_LENGTH, NO_SUCCESSOR};
 
 use super::{lent, refused_by, same, same_bytes, same_code, Compared};
 use crate::answer;
@@ -52,6 +52,9 @@ impl Checked<'_> {
         let wrapped = self.opened.and_then(|opened| opened.step(state, event));
         same("step", wrapped, expected.map(answer::reached).map_err(answer::refusal))?;
         tally.add_answer("step", refused_by(code));
+        if let Ok(monitor) = &self.monitor {
+            tally.add_run("step", monitor, (state, &[event]), expected);
+        }
         Ok(())
     }
 }
@@ -67,8 +70,9 @@ fn compare_stray(table: &[u8], counts: u64, step: Step, tally: &mut Tally) -> Co
 }
 
 /// What is promised for any bytes and counts: 14 unless the counts are a table's and the bytes have
-/// its length; then 13 and 12; and 14 where a state or a verdict byte that is read is none of a
-/// table's. With it, how far the step comes.
+/// its length; then 13 and 12, for a byte that is no event and for an event for which the row of
+/// state 0 has 65,535; and 14 where a state or a verdict byte that is read is none of a table's.
+/// With it, how far the step comes.
 fn stray_step(
     table: &[u8],
     counts: u64,
@@ -86,7 +90,14 @@ fn stray_step(
     }
     let row = |state: u16| &table[HEADER_LENGTH + usize::from(state) * row_length(signals)..];
     let place = 5 + 2 * usize::from(event);
-    let end_state = u16::from_le_bytes([row(state)[place], row(state)[place + 1]]);
+    let successor = |state: u16| u16::from_le_bytes([row(state)[place], row(state)[place + 1]]);
+    if successor(0) == NO_SUCCESSOR {
+        return ("an impossible event", Err(Refusal::new(12, 0)));
+    }
+    let end_state = successor(state);
+    if end_state == NO_SUCCESSOR {
+        return ("a missing successor", no_table);
+    }
     if end_state >= states {
         return ("a successor past the states", no_table);
     }

@@ -24,6 +24,9 @@ pub fn compare(table: &[u8], length: usize, paint: u8, tally: &mut Tally) -> Com
     same("bytes past the text kept", past.iter().all(|&byte| byte == paint), true)?;
     same_bytes("the table that was read", &lent_table, table)?;
     tally.add_answer("text", refused_by(answer::code(answer.map(|length| length as u64))));
+    if let (Ok(monitor), Ok(_)) = (Monitor::open(table), answer) {
+        tally.add_masked("text", &monitor);
+    }
     Ok(())
 }
 

@@ -1,4 +1,5 @@
-//! Variants of the rules at the edge of 256 remaining properties, and tables of them.
+//! Variants of the rules at the edge of 256 remaining properties, and tables of them, some with a
+//! mask without which there would be a property too many.
 //!
 //! Drawn are the four bits that an event shows, each a signal or an exclusive or of some, the bits
 //! that are turned round, the order of the seven numbers, the terms that are negated, and how the
@@ -6,6 +7,9 @@
 //! stand for other things.
 
 use oracle::builder;
+use oracle::lasso::satisfies;
+use oracle::mask::Mask;
+use oracle::random_masks::any_mask;
 use oracle::rng::Rng;
 use oracle::rule::{kind, Rule};
 
@@ -14,17 +18,41 @@ use super::planned::Drawing;
 use crate::case::{Case, Input, Room};
 use crate::tefuji::TABLE_MAX;
 
-/// How many of the first cases are of these rules.
-pub const CASES: u64 = 300;
+/// How many of the first cases are of these rules, the last of them with a mask.
+pub const CASES: u64 = 300 + MASKED;
+const MASKED: u64 = 80;
 
 /// By number: two builds of a full table, one of merged states, one that is refused, and a run.
 pub fn case(rng: &mut Rng, number: u64) -> Case {
+    if number >= CASES - MASKED {
+        return masked_case(rng, number);
+    }
     let (origin, rule) = match number % 10 {
         2 | 4 | 7 => ("merged states", variant(rng, First::WithAnother, Last::Merged)),
         3 => ("one too many", variant(rng, First::Alone, Last::Due)),
         8 => ("one too many", variant(rng, First::Alone, Last::Merged)),
         _ => ("full table", variant(rng, First::WithAnother, Last::Due)),
     };
+    case_of(rng, number, origin, rule)
+}
+
+/// By number: two of one too many without the event that makes the difference, so that the table is
+/// full, or has merged states, and one of a full table with any mask.
+fn masked_case(rng: &mut Rng, number: u64) -> Case {
+    let last = if number % 4 == 1 { Last::Merged } else { Last::Due };
+    let origin = "edge with a mask";
+    if number % 4 == 3 {
+        let mask = any_mask(rng, 4);
+        let rule = variant(rng, First::WithAnother, last).with_mask(mask);
+        return case_of(rng, number, origin, rule);
+    }
+    let terms = Terms::new(rng);
+    let mask = terms.without_the_fourth_alone();
+    let rule = terms.variant(rng, First::Alone, last).with_mask(mask);
+    case_of(rng, number, origin, rule)
+}
+
+fn case_of(rng: &mut Rng, number: u64, origin: &'static str, rule: Rule) -> Case {
     let rule = rule.to_bytes();
     if number % 5 == 4 {
         let table = table_of(&rule);
@@ -62,19 +90,7 @@ enum Last {
 }
 
 fn variant(rng: &mut Rng, first: First, last: Last) -> Rule {
-    let mut terms = Terms::new(rng);
-    let [seventh, others @ ..] = terms.numbers();
-    let mut all = others.map(|number| terms.eventually(rng, number)).to_vec();
-    let last = match last {
-        Last::Due => terms.eventually(rng, seventh),
-        Last::Merged => terms.undecidable(seventh, *rng.pick(&all)),
-    };
-    let first = match first {
-        First::WithAnother => terms.fourth_with_another(),
-        First::Alone => terms.fourth,
-    };
-    all.extend([first, last]);
-    terms.joined(rng, all)
+    Terms::new(rng).variant(rng, first, last)
 }
 
 /// The parts of such a rule.
@@ -99,6 +115,33 @@ impl Terms {
         let [fourth, shown @ ..] = bits;
         let literals = shown.map(|on| shuffled(rng, [on, drawing.add(kind::NOT, on, 0)]));
         Terms { drawing, literals, fourth, order: shuffled(rng, [1, 2, 3, 4, 5, 6, 7]) }
+    }
+
+    fn variant(mut self, rng: &mut Rng, first: First, last: Last) -> Rule {
+        let [seventh, others @ ..] = self.numbers();
+        let mut all = others.map(|number| self.eventually(rng, number)).to_vec();
+        let last = match last {
+            Last::Due => self.eventually(rng, seventh),
+            Last::Merged => self.undecidable(seventh, *rng.pick(&all)),
+        };
+        let first = match first {
+            First::WithAnother => self.fourth_with_another(),
+            First::Alone => self.fourth,
+        };
+        all.extend([first, last]);
+        self.joined(rng, all)
+    }
+
+    /// Every event but the one that has the fourth bit on while the others show 0.
+    fn without_the_fourth_alone(&self) -> Mask {
+        let mut drawing = Drawing { signals: 4, nodes: self.drawing.nodes.clone() };
+        let [first, second, third] = self.literals.map(|[off, _]| off);
+        let both = drawing.add(kind::AND, first, second);
+        let zero = drawing.add(kind::AND, both, third);
+        drawing.add(kind::AND, zero, self.fourth);
+        let alone = Rule::new(4, drawing.nodes);
+        let event = (0..16).find(|&event| satisfies(&alone, &[event], 0));
+        !(1 << event.expect("four bits tell all events apart"))
     }
 
     /// For each number that the three bits show it.
@@ -147,7 +190,7 @@ impl Terms {
             let whole = self.drawing.add(kind, first, second);
             terms.push(if rng.chance(20) { self.drawing.add(kind::NOT, whole, 0) } else { whole });
         }
-        Rule { signals: 4, nodes: self.drawing.nodes }
+        Rule::new(4, self.drawing.nodes)
     }
 }
 

@@ -1,7 +1,7 @@
 //! States, events and counts to run a table with. The table need not be good.
 
 use oracle::rng::Rng;
-use oracle::table::{row_length, HEADER_LENGTH};
+use oracle::table::{row_length, HEADER_LENGTH, NO_SUCCESSOR};
 
 use crate::case::Step;
 
@@ -40,58 +40,84 @@ pub fn state(rng: &mut Rng, table: &[u8]) -> u16 {
     }
 }
 
-fn event(rng: &mut Rng, signals: u8) -> u8 {
-    rng.byte_below(1 << signals)
+/// The bytes that can be handed to a table as events, as its first row says.
+struct Events {
+    signals: u8,
+    possible: Vec<u8>,
+    impossible: Vec<u8>,
 }
 
-/// A byte that is no event.
-fn no_event(rng: &mut Rng, signals: u8) -> u8 {
-    let first = 1 << signals;
-    let any = first + rng.byte_below(256 - usize::from(first));
-    *rng.pick(&[first, first + 1, any, any, 255])
+impl Events {
+    fn of(rng: &mut Rng, table: &[u8]) -> Self {
+        let signals = signals(rng, table);
+        let is_possible = |event: &u8| {
+            let place = HEADER_LENGTH + 5 + 2 * usize::from(*event);
+            table.get(place..place + 2) != Some(&NO_SUCCESSOR.to_le_bytes())
+        };
+        let (possible, impossible) = (0..1 << signals).partition(is_possible);
+        Events { signals, possible, impossible }
+    }
+
+    /// One that can happen, or any where none can.
+    fn good(&self, rng: &mut Rng) -> u8 {
+        match self.possible.is_empty() {
+            true => rng.byte_below(1 << self.signals),
+            false => *rng.pick(&self.possible),
+        }
+    }
+
+    /// A byte that is no event, or an event that cannot happen.
+    fn bad(&self, rng: &mut Rng) -> u8 {
+        if !self.impossible.is_empty() && rng.chance(60) {
+            return *rng.pick(&self.impossible);
+        }
+        let first = 1 << self.signals;
+        let any = first + rng.byte_below(256 - usize::from(first));
+        *rng.pick(&[first, first + 1, any, any, 255])
+    }
 }
 
-/// At most 64 events, in one list of five with some that are none.
+/// At most 64 events, in one list of five with some that are none or cannot happen.
 pub fn list(rng: &mut Rng, table: &[u8]) -> Vec<u8> {
-    let signals = signals(rng, table);
+    let all = Events::of(rng, table);
     let count = if rng.chance(50) { rng.below(12) } else { rng.between(0, 64) };
-    let mut events: Vec<u8> = (0..count).map(|_| event(rng, signals)).collect();
+    let mut events: Vec<u8> = (0..count).map(|_| all.good(rng)).collect();
     if count > 0 && rng.chance(20) {
         for _ in 0..rng.between(1, 3) {
             let place = rng.below(count);
-            events[place] = no_event(rng, signals);
+            events[place] = all.bad(rng);
         }
     }
     events
 }
 
-/// Thousands of events: any, or few other than 0, the first of them late, so that a verdict may
-/// come late.
+/// Thousands of events: any, or few other than the lowest, the first of them late, so that a
+/// verdict may come late.
 pub fn long_list(rng: &mut Rng, table: &[u8]) -> Vec<u8> {
-    let signals = signals(rng, table);
+    let all = Events::of(rng, table);
     let count = if rng.chance(50) { *rng.pick(&LONG) } else { rng.between(5000, 9000) };
-    let mut events = vec![0; count];
+    let mut events = vec![all.possible.first().copied().unwrap_or(0); count];
     if rng.chance(50) {
-        events.iter_mut().for_each(|place| *place = event(rng, signals));
+        events.iter_mut().for_each(|place| *place = all.good(rng));
     } else {
         let first = rng.below(count);
         for _ in 0..rng.below(300) {
             let place = rng.between(first, count - 1);
-            events[place] = event(rng, signals);
+            events[place] = all.good(rng);
         }
     }
     if rng.chance(20) {
         let anywhere = rng.below(count);
         let place = *rng.pick(&[0, count - 1, anywhere]);
-        events[place] = no_event(rng, signals);
+        events[place] = all.bad(rng);
     }
     events
 }
 
 pub fn step(rng: &mut Rng, table: &[u8]) -> Step {
-    let signals = signals(rng, table);
+    let all = Events::of(rng, table);
     let state = state(rng, table);
-    let event = if rng.chance(90) { event(rng, signals) } else { no_event(rng, signals) };
+    let event = if rng.chance(85) { all.good(rng) } else { all.bad(rng) };
     Step { state, event }
 }
 
@@ -107,7 +133,7 @@ fn fitting(table: &[u8], signals: u8) -> Option<u64> {
 /// A step with counts that need not be the table's.
 pub fn stray(rng: &mut Rng, table: &[u8]) -> (u64, Step) {
     let any = number(rng);
-    let refusal = rng.below(17) as u64 * (1 << 56) + rng.below(300) as u64;
+    let refusal = rng.below(18) as u64 * (1 << 56) + rng.below(300) as u64;
     let mut step = step(rng, table);
     let fit: Vec<u64> = (1..=4).filter_map(|signals| fitting(table, signals)).collect();
     let counts = match rng.below(12) {

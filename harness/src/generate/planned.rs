@@ -27,7 +27,7 @@ pub fn delayed(rng: &mut Rng, signals: u8, delay: usize) -> Rule {
         whole = drawing.add(*rng.pick(&BINARY), whole, other);
     }
     drawing.add(*rng.pick(&[kind::ALWAYS, kind::ALWAYS, kind::EVENTUALLY]), whole, 0);
-    Rule { signals, nodes: drawing.nodes }
+    Rule::new(signals, drawing.nodes)
 }
 
 /// always (a signal and what comes one or two events later), and two or three things that have to
@@ -52,7 +52,7 @@ pub fn recurring(rng: &mut Rng) -> Rule {
         let join = *rng.pick(&[kind::AND, kind::AND, kind::OR, kind::IMPLIES]);
         whole = drawing.add(join, whole, due);
     }
-    Rule { signals, nodes: drawing.nodes }
+    Rule::new(signals, drawing.nodes)
 }
 
 pub struct Drawing {
