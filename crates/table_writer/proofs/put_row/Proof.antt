@@ -61,7 +61,9 @@ returns c =
     let at-put-u16 = at-put-u162 .before .before .before .before in
     let at-width = at-put-u16 .before .before in
     let start = at-width .before .before in
-    row-stored (masked (2 ^ start .args .signals) (start .args .mask)) (now (start .args .out)) (at-put-u16 .put-u16 .last .0) (at-put-u162 .put-u162 .last .0) _ (start .args .row) (start .args .at) (start .args .signals) (start .args .verdict) (at-width .width .result) _ (at-width .width .ensures .0) refl (at-put-u16 .put-u16 .ensures) (at-put-u162 .put-u162 .ensures) (at-put-successors .put-successors .ensures)
+    let a = start .args in
+    row-stored (masked (2 ^ a .signals) (a .mask)) (now (a .out)) (at-put-u16 .put-u16 .last .0) (at-put-u162 .put-u162 .last .0) _ (a .row) (a .at) (a .signals) (a .verdict) (at-width .width .result) _ (at-width .width .ensures .0) refl
+    (at-put-u16 .put-u16 .ensures) (at-put-u162 .put-u162 .ensures) (at-put-successors .put-successors .ensures)
 
 pub put-row-spec : {M : Type 1} → statement M
 put-row-spec =

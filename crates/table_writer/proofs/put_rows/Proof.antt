@@ -68,7 +68,10 @@ same-length : tie.Need-same-length Inv-loop μ-loop
 same-length c = c .before .loop .inv .1
 
 returns : tie.Need-returns Inv-loop μ-loop
-returns c = let z : c .before .loop .s ≡ c .before .before .before .args .states = omega arith in c .before .loop .inv .2 .is ∙ ap (λ (n : ℕ). sets (now (c .before .before .before .args .out)) 7 (rowsBytes (masked (2 ^ c .before .before .before .args .signals) (c .before .before .before .args .mask)) (c .before .before .before .args .signals) n (now (c .before .before .before .args .verdicts)) (now (c .before .before .before .args .rows)))) z
+returns c =
+    let a = c .before .before .before .args in
+    let z : c .before .loop .s ≡ a .states = omega arith in
+    c .before .loop .inv .2 .is ∙ ap (λ (n : ℕ). sets (now (a .out)) 7 (rowsBytes (masked (2 ^ a .signals) (a .mask)) (a .signals) n (now (a .verdicts)) (now (a .rows)))) z
 
 pub put-rows-spec : {M : Type 1} → statement M
 put-rows-spec =
