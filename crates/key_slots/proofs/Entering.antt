@@ -22,13 +22,13 @@ module _ (s count : ℕ) (keys : List (List ℕ)) (key : List ℕ) (i : ℕ) (h 
   pub entered-met : i < count → Within (enter eqb s 256 (keysIn count keys) (keyOf key)) count keys slots i
   entered-met l = record { is = enter-met eqb s 256 (keysIn count keys) (keyOf key) (omega (arith, length-keys)) ∙ ap (within (keysIn count keys)) (sym at); fit = h; slotted = slotted }
 
-  pub entered-new : count ≤ i → count < 256 → WordsFit key → (slot : ℕ) → slot ≡ slotOf key
-      → Within (enter eqb s 256 (keysIn count keys) (keyOf key)) (count + 1) (set keys count key) (set slots slot count) count
-  entered-new l m w slot there = record {
+  pub entered-new : count ≤ i → count < 256 → WordsFit key → (slot : ℕ) → slot ≡ slotOf key → slot < 768
+      → Within (enter eqb s 256 (keysIn count keys) (keyOf key)) (count + 1) (set keys count key) (set (set slots (768 + count) (getD slots slot 0)) slot count) count
+  entered-new l m w slot there low = record {
     is = enter-new eqb s 256 (keysIn count keys) (keyOf key) (omega (arith, length-keys)) (omega (arith, length-keys))
         ∙ ap₂ within (sym (front-more keyOf [] keys count key (omega (arith, h .room)))) length-keys;
     fit = keys-added key h m w (new-key keys (keyOf key) i (at ∙ locate-is s count keys (keyOf key)) l);
-    slotted = slotted-added h slotted key slot there m;
+    slotted = slotted-added h slotted key slot there low m;
   }
 
   pub entered-full : count ≤ i → 256 ≤ count → Beyond (enter eqb s 256 (keysIn count keys) (keyOf key))

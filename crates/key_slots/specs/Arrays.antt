@@ -1,8 +1,8 @@
 -- How the keys met and their slots stand in arrays.
 use mathlib.Core.Path.{_≡_}
-use mathlib.Core.Bool.{Bool, true, false}
+use mathlib.Core.Bool.{Bool}
 use mathlib.Core.List.{List, []}
-use Prim.Native.Nat.{ℕ, _+_, _%_, _^_, _≤_, _<_}
+use Prim.Native.Nat.{ℕ, _+_, _/_, _%_, _≤_, _<_}
 use lib.ListN.{length, getD}
 use lib.Dec.{eqb}
 use Rattle.sequences.specs.Tabulate.{tabulate}
@@ -26,14 +26,15 @@ pub record KeysFit (count : ℕ) (keys : List (List ℕ)) : Type 0 where
 
 -- the slot of a key, by its words
 unfoldable pub slotOf : List ℕ → ℕ
-slotOf words = (getD words 0 0 % 2 ^ 62 + getD words 1 0 % 2 ^ 62 + (getD words 2 0 % 2 ^ 62 + getD words 3 0 % 2 ^ 62)) % 1021
+slotOf words = (getD words 0 0 / 2 + getD words 1 0 / 16 + (getD words 2 0 / 256 + getD words 3 0 / 4096)) % 761
 
--- the slot of each key but the first has a number other than 0, of this key or another
+-- x is the number of the last of the first n keys that is in the slot s, or 0 if there is none; the first key, number 0, does not count
+pub record LastIn (keys : List (List ℕ)) (s n x : ℕ) : Type 0 where
+  pub there : 0 < x → (x < n) × (slotOf (getD keys x []) ≡ s)
+  pub last : (i : ℕ) → 0 < i → i < n → slotOf (getD keys i []) ≡ s → i ≤ x
+
+-- a slot has the last key that is in it, and place 768 + i the last one before key i that is in the slot of key i
 pub record Slotted (count : ℕ) (keys : List (List ℕ)) (slots : List ℕ) : Type 0 where
   pub long : length slots ≡ 1024
-  pub met : (i : ℕ) → 0 < i → i < count → 0 < getD slots (slotOf (getD keys i [])) 0
-
--- where the answer is yes, i is below the bound and passes; where it is no, and i is below the bound, it does not
-pub record MetThere (count : ℕ) (f : ℕ → Bool) (i : ℕ) (r : Bool) : Type 0 where
-  pub there : r ≡ true → (i < count) × (f i ≡ true)
-  pub not-there : r ≡ false → i < count → f i ≡ false
+  pub heads : (s : ℕ) → s < 768 → LastIn keys s count (getD slots s 0)
+  pub links : (i : ℕ) → 0 < i → i < count → LastIn keys (slotOf (getD keys i [])) i (getD slots (768 + i) 0)

@@ -1,10 +1,10 @@
-// The keys met, and their slots: a hash table that has the numbers of the keys. A key is a set of at most 256 profiles, in four words.
+// The keys met, and their slots: a hash table with the numbers of the keys, chained. A key is a set of at most 256 profiles, in four words.
 ghost use mathlib.Core.Path.{_≡_};
 ghost use Prim.Native.Nat.{_<_};
 ghost use lib.ListN.{replicate};
 ghost use Rattle.sequences.specs.Tabulate.{leastBelow};
 ghost use Rattle.profile_sets.specs.Arrays.{keyOf, WordsFit};
-ghost use Rattle.key_slots.specs.Arrays.{keysIn, KeysFit, metAt, slotOf, Slotted, MetThere};
+ghost use Rattle.key_slots.specs.Arrays.{keysIn, KeysFit, metAt, slotOf, Slotted};
 ghost use Rattle.key_slots.specs.Answers.{Enters};
 use profile_sets::same_key;
 use wire::wide;
@@ -15,29 +15,15 @@ pub enum Entered {
     Full,
 }
 
-// The number of the first key that is the same, or how many keys there are.
-fn locate(keys: &[[u64; 4]; 256], count: usize, key: [u64; 4]) -> usize
-    requires { ⌜ KeysFit count (now keys) × WordsFit key ⌝ }
-    ensures { λ r. ⌜ r ≡ leastBelow count (metAt (now (keys .entry)) (keyOf key)) ⌝ }
-{
-    let mut i: usize = 0;
-    while i < count {
-        let met = keys[i];
-        if same_key(met, key) {
-            return i;
-        }
-        i += 1;
-    }
-    count
-}
-
-// The slot of a key. A slot has the number of a key that belongs there, or 0: then no key belongs there, unless the first one does.
+// The slot of a key. A slot has the number of the last key in it, and place 768 + i that of the last one before key i in the slot of key i. 0 ends
+// each chain: it is the number of the first key, which is in no slot and is tested after all others.
 fn slot_of(key: [u64; 4]) -> usize
-    ensures { λ r. ⌜ (r ≡ slotOf key) × (r < 1024) ⌝ }
+    requires { ⌜ WordsFit key ⌝ }
+    ensures { λ r. ⌜ (r ≡ slotOf key) × (r < 768) ⌝ }
 {
-    let low = key[0] % 4611686018427387904 + key[1] % 4611686018427387904;
-    let high = key[2] % 4611686018427387904 + key[3] % 4611686018427387904;
-    ((low + high) % 1021) as usize
+    let low = key[0] / 2 + key[1] / 16;
+    let high = key[2] / 256 + key[3] / 4096;
+    ((low + high) % 761) as usize
 }
 
 // The slots where there is the first key only.
@@ -47,19 +33,16 @@ pub fn first_slots() -> [u8; 1024]
     [0; 1024]
 }
 
-// Whether a number that a slot has is that of the key.
+// Whether key number i is the same.
 fn same_at(keys: &[[u64; 4]; 256], count: usize, i: usize, key: [u64; 4]) -> bool
-    requires { ⌜ KeysFit count (now keys) × WordsFit key ⌝ }
-    ensures { λ r. ⌜ MetThere count (metAt (now (keys .entry)) (keyOf key)) i r ⌝ }
+    requires { ⌜ KeysFit count (now keys) × WordsFit key × (i < count) ⌝ }
+    ensures { λ r. ⌜ r ≡ metAt (now (keys .entry)) (keyOf key) i ⌝ }
 {
-    if count <= i {
-        return false;
-    }
     let met = keys[i];
     same_key(met, key)
 }
 
-// The same as `locate`: by the key's slot, or else by all keys.
+// The number of the key that is the same, or how many keys there are: by the keys of its slot, from the last one down, and the first key.
 fn find(
     keys: &[[u64; 4]; 256],
     slots: &[u8; 1024],
@@ -68,17 +51,20 @@ fn find(
     key: [u64; 4],
 ) -> usize
     requires { ⌜ KeysFit count (now keys) × WordsFit key × Slotted count (now keys) (now slots) ⌝ }
-    requires { ⌜ (slot ≡ slotOf key) × (slot < 1024) ⌝ }
+    requires { ⌜ (slot ≡ slotOf key) × (slot < 768) ⌝ }
     ensures { λ r. ⌜ r ≡ leastBelow count (metAt (now (keys .entry)) (keyOf key)) ⌝ }
 {
-    let i = wide(slots[slot]);
-    if same_at(keys, count, i, key) {
-        return i;
+    let mut i = wide(slots[slot]);
+    while 0 < i {
+        if same_at(keys, count, i, key) {
+            return i;
+        }
+        i = wide(slots[768 + i]);
     }
-    if i == 0 {
-        return count;
+    if same_at(keys, count, 0, key) {
+        return 0;
     }
-    locate(keys, count, key)
+    count
 }
 
 // The number of a key, which is added at the end if it is new.
@@ -98,6 +84,8 @@ pub fn enter(
     }
     if count < 256 {
         keys[count] = key;
+        let last = slots[slot];
+        slots[768 + count] = last;
         slots[slot] = count as u8;
         return Entered::At(count, count + 1);
     }

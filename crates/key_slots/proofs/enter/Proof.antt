@@ -27,21 +27,31 @@ mul-key c = search needs
 element-set-from-key : tie.Need-element-set-from-key
 element-set-from-key c = search needs
 
-cast-slots : tie.Need-cast-slots
-cast-slots c = search needs
+element-copy-out-last : tie.Need-element-copy-out-last
+element-copy-out-last c = search needs
+
+add-slots : tie.Need-add-slots
+add-slots c = search needs
 
 element-write-slots : tie.Need-element-write-slots
 element-write-slots c = search needs
 
-add-t10 : tie.Need-add-t10
-add-t10 c = search needs
+cast-slots : tie.Need-cast-slots
+cast-slots c = search needs
+
+element-write-slots-2 : tie.Need-element-write-slots-2
+element-write-slots-2 c = search needs
+
+add-t11 : tie.Need-add-t11
+add-t11 c = search needs
 
 returns-2 : tie.Need-returns-2
 returns-2 c =
-    let c₀ = c .before .before .before .before .before .before in
-    let find = c .before .before .find in
-    let slot-of = c .before .before .before .before .before .slot-of in
-    λ s. (entered-new s (c₀ .args .count) (now (c₀ .args .keys)) (c₀ .args .key) (find .result) (c₀ .pre .0) (c₀ .pre .2) (find .ensures ∙ sym (locate-is s (c₀ .args .count) (now (c₀ .args .keys)) (keyOf (c₀ .args .key)))) (c .before .if1 .left) (c .if2 .taken) (c₀ .pre .1) (slot-of .result) (slot-of .ensures .0), omega arith)
+    let else = c .before .before in
+    let find = else .before .find in
+    let slot-of = else .before .before .before .before .slot-of in
+    let c₀ = else .before .before .before .before .before in
+    λ s. (entered-new s (c₀ .args .count) (now (c₀ .args .keys)) (c₀ .args .key) (find .result) (c₀ .pre .0) (c₀ .pre .2) (find .ensures ∙ sym (locate-is s (c₀ .args .count) (now (c₀ .args .keys)) (keyOf (c₀ .args .key)))) (else .if1 .left) (c .before .if2 .taken) (c₀ .pre .1) (slot-of .result) (slot-of .ensures .0) (slot-of .ensures .1), omega arith)
 
 returns-3 : tie.Need-returns-3
 returns-3 c =
@@ -58,8 +68,11 @@ enter-spec =
     returns
     mul-key
     element-set-from-key
-    cast-slots
+    element-copy-out-last
+    add-slots
     element-write-slots
-    add-t10
+    cast-slots
+    element-write-slots-2
+    add-t11
     returns-2
     returns-3)

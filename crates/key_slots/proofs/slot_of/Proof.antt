@@ -12,7 +12,7 @@ array-read-low-2 : tie.Need-array-read-low-2
 array-read-low-2 c = search needs
 
 add-low : tie.Need-add-low
-add-low c = search needs
+add-low c = omega (arith, c .pre .small 0 (omega arith), c .pre .small 1 (omega arith))
 
 array-read-high : tie.Need-array-read-high
 array-read-high c = search needs
@@ -21,10 +21,10 @@ array-read-high-2 : tie.Need-array-read-high-2
 array-read-high-2 c = search needs
 
 add-high : tie.Need-add-high
-add-high c = search needs
+add-high c = omega (arith, c .pre .small 2 (omega arith), c .pre .small 3 (omega arith))
 
 add-result : tie.Need-add-result
-add-result c = search needs
+add-result c = omega (arith, c .pre .small 0 (omega arith), c .pre .small 1 (omega arith), c .pre .small 2 (omega arith), c .pre .small 3 (omega arith))
 
 returns : tie.Need-returns
 returns c = (slot-is (c .args .t1), omega arith)
