@@ -1,7 +1,7 @@
 // Events: how many there are, which of them can happen, which signals are on, and how many of a mask's.
 ghost use mathlib.Core.Path.{_≡_};
 ghost use mathlib.Core.Bool.{_&&_};
-ghost use Prim.Native.Nat.{_^_, _≤_};
+ghost use Prim.Native.Nat.{_^_, _≤_, _<_};
 ghost use lib.Dec.{leb, eqb};
 ghost use Rattle.meaning.specs.Bytes.{bit};
 ghost use Rattle.meaning.specs.Traces.{fullMask};
@@ -37,12 +37,20 @@ pub fn full_mask(signals: u8) -> u16
     }
 }
 
+// Whether an event below 16 can happen, by the mask.
+pub fn mask_has(mask: u16, event: usize) -> bool
+    requires { ⌜ event < 16 ⌝ }
+    ensures { λ r. ⌜ r ≡ eqb (bit event mask) 1 ⌝ }
+{
+    (mask >> event) % 2 == 1
+}
+
 // Whether an event can happen, by the mask. A mask has sixteen; any other cannot.
 pub fn can_happen(mask: u16, event: usize) -> bool
     ensures { λ r. ⌜ r ≡ eqb (bit event mask) 1 ⌝ }
 {
     if event < 16 {
-        return (mask >> event) % 2 == 1;
+        return mask_has(mask, event);
     }
     false
 }

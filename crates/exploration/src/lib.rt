@@ -9,7 +9,7 @@ ghost use Rattle.ltl.specs.Keys.{startKey};
 ghost use Rattle.profile_sets.specs.Arrays.{setIn, tablesBy, tablesIn, Tabled, Steppable, keyOf, WordsFit};
 ghost use Rattle.key_slots.specs.Arrays.{keysIn, KeysFit, Slotted};
 ghost use Rattle.exploration.specs.Answers.{expandKey, exploreKeys, classBy, Visits, GrownAs, WalkedAs, Explores};
-use events::can_happen;
+use events::mask_has;
 use events::power;
 use events::width;
 use key_slots::Entered;
@@ -45,7 +45,7 @@ fn visit(
     requires { ⌜ KeysFit count (now keys) × Slotted count (now keys) (now slots) ⌝ }
     ensures { λ r. ⌜ Visits (tablesBy n (now (profiles .entry)) (keyOf (now (full .entry)))) mask (setIn (now (held .entry))) e (keysIn count (now (keys .entry))) (now (keys .exit)) (now (slots .exit)) r ⌝ }
 {
-    if can_happen(mask, e) {
+    if mask_has(mask, e) {
         let key = step_key(profiles, full, n, held, e);
         return enter(keys, slots, count, key);
     }
