@@ -1,4 +1,4 @@
--- Rows in which the events that cannot happen lead to state 0: their rounds over all events are those of the rows over the events that can happen.
+-- Rows in which the events that cannot happen lead to state 0: their groups over all events are those of the rows over the events that can happen.
 use mathlib.Core.Path.{_≡_, refl, sym, ap, ap₂, _∙_, subst}
 use mathlib.Core.Bool.{Bool, true, false, cond}
 use mathlib.Core.List.{List, [], _∷_}
@@ -12,7 +12,7 @@ use Rattle.sequences.specs.Tabulate.{leastBelow}
 use Rattle.sequences.proofs.Loops.{Filled, filled-length}
 use Rattle.sequences.proofs.Pointwise.{tabulate-same, all-same, least-same}
 use Rattle.meaning.specs.Traces.{Alphabet}
-use Rattle.moore.specs.Grouping.{entry, together, sameStep, nextGroups, sameBelow, rounds}
+use Rattle.moore.specs.Grouping.{entry, together, sameStep, firstGroups, nextGroups, sameBelow, rounds, grouping}
 use Rattle.group_slots.specs.Groups.{unmasked, RowsBelow}
 use Rattle.refinement.specs.Rows.{Column, Cleared}
 use Rattle.refinement.proofs.Laws.{filled-take, taken-at}
@@ -53,7 +53,7 @@ cleared-more {Σ} {e} {n} {rows} {rows′} {rows″} h q = record {
 pub cleared-to : (m : ℕ) {Σ : Alphabet} {e n : ℕ} {rows rows′ : List (List ℕ)} → Cleared Σ e n rows rows′ → e ≡ m → Cleared Σ m n rows rows′
 cleared-to m {Σ} {n = n} {rows} {rows′} h q = subst (λ (k : ℕ). Cleared Σ k n rows rows′) q h
 
--- ---- the rounds
+-- ---- the groups
 module _ {Σ : Alphabet} {n : ℕ} {rows rows′ : List (List ℕ)} (h : Cleared Σ (Σ .width) n rows rows′) where
   pub cleared-below : RowsBelow n Σ n rows → RowsBelow n (unmasked (Σ .width)) n rows′
   cleared-below b = record { row = λ s l. record { to = λ e m. subst (λ (x : ℕ). x < n) (sym (h .below s e l (m .0))) (go s e l (m .0) (Σ .possible e) refl) } }
@@ -88,3 +88,7 @@ module _ {Σ : Alphabet} {n : ℕ} {rows rows′ : List (List ℕ)} (h : Cleared
       let next = nextGroups Σ n rows group in
       ap (λ (x : List ℕ). cond (sameBelow n x group) group (rounds k (unmasked (Σ .width)) n rows′ x)) (next-cleared group)
       ∙ ap (λ (x : List ℕ). cond (sameBelow n next group) group x) (rounds-cleared k next)
+
+  pub grouping-cleared : (classes : List ℕ) → grouping (unmasked (Σ .width)) n rows′ classes ≡ grouping Σ n rows classes
+  unfolding grouping
+  grouping-cleared classes = rounds-cleared n (firstGroups n classes)
