@@ -1,4 +1,5 @@
 pub mod Laws
 pub mod Front
+pub mod Clearing
 pub mod Reductions
 pub mod Arrays

@@ -14,12 +14,14 @@ use Rattle.moore.specs.Quotient.{leader, size, number, closed, verdictByte, ver
 use Rattle.moore.proofs.Counting.{count-le}
 use Rattle.moore.proofs.Grouping.{grouping-grouped, grouping-stable}
 use Rattle.moore.proofs.Quotient.{leader-in, number-in, number-start}
-use Rattle.group_slots.specs.Groups.{RowsBelow, Least}
+use Rattle.group_slots.specs.Groups.{unmasked, RowsBelow, Least}
+use Rattle.refinement.specs.Rows.{Cleared}
 use Rattle.refinement.proofs.Laws.{taken-at}
 use Rattle.refinement.proofs.Front.{front-at}
 use Rattle.grouping.specs.Machines.{Leaders, verdictAt, rowAt}
 use Rattle.grouping.specs.Reduction.{padded, Reduction}
 use Rattle.grouping.proofs.Front.{map-tabulate, size-front, leader-front, number-front, closed-front}
+use Rattle.grouping.proofs.Clearing.{verdict-cleared, row-cleared}
 
 -- the counts as the code has them
 pub machine-at : (P mask : ℕ) {n : ℕ} {rows : List (List ℕ)} {classes : List ℕ} (w m : ℕ) → w ≡ 2 ^ P → m ≡ n → Machine (masked (2 ^ P) mask) n rows classes → Machine (masked w mask) m rows classes
@@ -64,29 +66,34 @@ module _ {Σ : Alphabet} {n : ℕ} {rows : List (List ℕ)} {classes : List ℕ}
     unfolding size
     leaders-fewer = subst (λ (k : ℕ). k ≤ n) (sym (L .count)) (count-le n (leads group))
 
-    verdicts-are : tabulate r (λ q. verdictAt Σ rows classes group (getD least q 0)) ≡ verdicts Σ n rows classes front
+    verdicts-are : {rows′ : List (List ℕ)} → Cleared Σ (Σ .width) n rows rows′ → tabulate r (λ q. verdictAt Σ rows′ classes group (getD least q 0)) ≡ verdicts Σ n rows classes front
     unfolding verdicts verdictAt leader front
-    verdicts-are =
-        tabulate-same r (λ q. verdictAt Σ rows classes group (getD least q 0)) byte (λ q l.
-        ap (λ (b : Bool). verdictByte (getD classes (getD least q 0) 0) b) (sym (closed-front n group Σ rows (getD least q 0) (least-in q l) (rows-in M .row (getD least q 0) (least-in q l))))
+    verdicts-are {rows′} C =
+        tabulate-same r (λ q. verdictAt Σ rows′ classes group (getD least q 0)) byte (λ q l.
+        verdict-cleared C (getD least q 0) (least-in q l) classes group
+        ∙ ap (λ (b : Bool). verdictByte (getD classes (getD least q 0) 0) b) (sym (closed-front n group Σ rows (getD least q 0) (least-in q l) (rows-in M .row (getD least q 0) (least-in q l))))
         ∙ ap (λ (s : ℕ). verdictByte (getD classes s 0) (closed Σ rows front s)) (least-is q l))
         ∙ ap (λ (k : ℕ). tabulate k byte) count-is
       where
         byte : ℕ → ℕ
         byte q = verdictByte (getD classes (leader n front q) 0) (closed Σ rows front (leader n front q))
 
-    module _ (numbers : List ℕ) (N : take n numbers ≡ tabulate n (number group)) where
+    module _ {rows′ : List (List ℕ)} (C : Cleared Σ (Σ .width) n rows rows′) (numbers : List ℕ) (N : take n numbers ≡ tabulate n (number group)) where
       number-at : (i : ℕ) → i < n → getD numbers i 0 ≡ getD (tabulate n (number front)) i 0
       unfolding front
       number-at i l =
           let h = group-least .least i l in
           taken-at n numbers (number group) N i 0 l ∙ sym (number-front n group i l (omega arith)) ∙ sym (getD-tab n (number (take n group)) i 0 l)
 
-      rows-are : tabulate r (λ q. rowAt Σ rows numbers (getD least q 0)) ≡ map padded (quotientRows Σ n rows front)
+      number-zero : getD numbers 0 0 ≡ 0
+      number-zero = number-at 0 (M .some) ∙ getD-tab n (number front) 0 0 (M .some) ∙ number-start M G S
+
+      rows-are : tabulate r (λ q. rowAt (unmasked (Σ .width)) rows′ numbers (getD least q 0)) ≡ map padded (quotientRows Σ n rows front)
       unfolding quotientRows rowAt leader front
       rows-are =
-          tabulate-same r (λ q. rowAt Σ rows numbers (getD least q 0)) (λ q. padded (row q)) (λ q l.
-          ap padded (tabulate-same (Σ .width) (λ e. cond (Σ .possible e) (getD numbers (entry rows (getD least q 0) e) 0) 0) (to q) (λ e m. go q e l m (Σ .possible e) refl)))
+          tabulate-same r (λ q. rowAt (unmasked (Σ .width)) rows′ numbers (getD least q 0)) (λ q. padded (row q)) (λ q l.
+          row-cleared C (getD least q 0) (least-in q l) numbers number-zero
+          ∙ ap padded (tabulate-same (Σ .width) (λ e. cond (Σ .possible e) (getD numbers (entry rows (getD least q 0) e) 0) 0) (to q) (λ e m. go q e l m (Σ .possible e) refl)))
           ∙ ap (λ (k : ℕ). tabulate k (λ q. padded (row q))) count-is
           ∙ sym (map-tabulate padded (size n front) row)
         where
@@ -101,8 +108,8 @@ module _ {Σ : Alphabet} {n : ℕ} {rows : List (List ℕ)} {classes : List ℕ}
           go q e l m false p = refl
 
       pub reduction : (Σ′ : Alphabet) (m : ℕ) (bytes bytes′ : List ℕ) (to to′ : List (List ℕ)) → Σ ≡ Σ′ → n ≡ m
-          → bytes′ ≡ tabulate r (λ q. verdictAt Σ rows classes group (getD least q 0)) ++ drop r bytes
-          → to′ ≡ tabulate r (λ q. rowAt Σ rows numbers (getD least q 0)) ++ drop r to → Reduction Σ′ m rows classes bytes to r bytes′ to′
+          → bytes′ ≡ tabulate r (λ q. verdictAt Σ rows′ classes group (getD least q 0)) ++ drop r bytes
+          → to′ ≡ tabulate r (λ q. rowAt (unmasked (Σ .width)) rows′ numbers (getD least q 0)) ++ drop r to → Reduction Σ′ m rows classes bytes to r bytes′ to′
       unfolding front
       reduction Σ′ m bytes bytes′ to to′ p q b t =
           subst (λ (k : ℕ). Reduction Σ′ k rows classes bytes to r bytes′ to′) q
@@ -110,6 +117,6 @@ module _ {Σ : Alphabet} {n : ℕ} {rows : List (List ℕ)} {classes : List ℕ}
             count = count-is ∙ ap (size n) is;
             some = leaders-some;
             fewer = leaders-fewer;
-            verdicts-are = b ∙ ap (λ (l : List ℕ). l ++ drop r bytes) (verdicts-are ∙ ap (verdicts Σ n rows classes) is);
+            verdicts-are = b ∙ ap (λ (l : List ℕ). l ++ drop r bytes) (verdicts-are C ∙ ap (verdicts Σ n rows classes) is);
             rows-are = t ∙ ap (λ (l : List (List ℕ)). l ++ drop r to) (rows-are ∙ ap (λ (g : List ℕ). map padded (quotientRows Σ n rows g)) is);
           }))

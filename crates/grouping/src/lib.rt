@@ -11,13 +11,14 @@ ghost use Rattle.meaning.specs.Traces.{masked};
 ghost use Rattle.moore.specs.Counting.{countBelow};
 ghost use Rattle.moore.specs.Grouping.{Machine, entry, together, leads};
 ghost use Rattle.moore.specs.Quotient.{number, closed};
-ghost use Rattle.group_slots.specs.Groups.{Least};
+ghost use Rattle.group_slots.specs.Groups.{unmasked, Least};
 ghost use Rattle.grouping.specs.Machines.{Leaders, verdictAt, rowAt};
 ghost use Rattle.grouping.specs.Reduction.{Reduction};
 use events::can_happen;
 use events::width;
 use group_slots::joined;
 use group_slots::successor;
+use refinement::clear_impossible;
 use refinement::groups;
 use wire::wide;
 use wire::wide16;
@@ -152,33 +153,16 @@ fn put_verdicts(
     }
 }
 
-// The number of the group that an event leads to from a state; 0 if it cannot happen.
-fn number_at(rows: &[[u8; 16]; 256], numbers: &[u8; 256], mask: u16, s: usize, e: usize) -> u8
-    requires { ⌜ (s < 256) × (e < 16) ⌝ }
-    ensures { λ r. ⌜ r ≡ cond (eqb (bit e mask) 1) (getD (now (numbers .entry)) (entry (now (rows .entry)) s e) 0) 0 ⌝ }
-{
-    if can_happen(mask, e) {
-        let next = successor(rows, s, e);
-        return numbers[next];
-    }
-    0
-}
-
-// The row of a group, by its least state: the numbers of the groups that its successors are in, and 0 where an event cannot happen.
-fn row_of(
-    rows: &[[u8; 16]; 256],
-    numbers: &[u8; 256],
-    events: usize,
-    mask: u16,
-    s: usize,
-) -> [u8; 16]
+// The row of a group, by its least state: the numbers of the groups that its successors are in.
+fn row_of(rows: &[[u8; 16]; 256], numbers: &[u8; 256], events: usize, s: usize) -> [u8; 16]
     requires { ⌜ (events ≤ 16) × (s < 256) ⌝ }
-    ensures { λ r. ⌜ r ≡ rowAt (masked events mask) (now (rows .entry)) (now (numbers .entry)) s ⌝ }
+    ensures { λ r. ⌜ r ≡ rowAt (unmasked events) (now (rows .entry)) (now (numbers .entry)) s ⌝ }
 {
     let mut row = [0u8; 16];
     let mut e: usize = 0;
     while e < events {
-        row[e] = number_at(rows, numbers, mask, s, e);
+        let next = successor(rows, s, e);
+        row[e] = numbers[next];
         e += 1;
     }
     row
@@ -189,24 +173,24 @@ fn put_rows(
     rows: &[[u8; 16]; 256],
     numbers: &[u8; 256],
     events: usize,
-    mask: u16,
     least: &[u8; 256],
     count: usize,
     to: &mut [[u8; 16]; 256],
 )
     requires { ⌜ (events ≤ 16) × (count ≤ 256) × (length {A = List ℕ} (now to) ≡ 256) ⌝ }
-    ensures { λ _. ⌜ now (to .exit) ≡ tabulate count (λ q. rowAt (masked events mask) (now (rows .entry)) (now (numbers .entry)) (getD (now (least .entry)) q 0)) ++ drop count (now (to .entry)) ⌝ }
+    ensures { λ _. ⌜ now (to .exit) ≡ tabulate count (λ q. rowAt (unmasked events) (now (rows .entry)) (now (numbers .entry)) (getD (now (least .entry)) q 0)) ++ drop count (now (to .entry)) ⌝ }
 {
     let mut q: usize = 0;
     while q < count {
         let s = wide(least[q]);
-        to[q] = row_of(rows, numbers, events, mask, s);
+        to[q] = row_of(rows, numbers, events, s);
         q += 1;
     }
 }
 
 // Makes of a machine the smallest one that shows the same: how many states it has, and the verdict byte and the row of successors of each, from
-// the front of the arrays. Classes are 0 (neither), 1 (satisfied) or 2 (violated).
+// the front of the arrays. Classes are 0 (neither), 1 (satisfied) or 2 (violated). Events that cannot happen are led to state 0 first: there they tell
+// no states apart, and in the rows they have 0, the number of its group.
 pub fn reduce(
     signals: u8,
     mask: u16,
@@ -223,12 +207,14 @@ pub fn reduce(
 {
     let events = width(signals);
     let n = wide16(states);
-    let group = groups(rows, classes, n, events, mask);
+    let mut possible = rows;
+    clear_impossible(&mut possible, n, events, mask);
+    let group = groups(&possible, classes, n, events);
     let number = numbers(&group, n);
     let mut least = [0u8; 256];
     let count = list_leaders(&group, n, &mut least);
     put_verdicts(
-        &rows,
+        &possible,
         &group,
         classes,
         events,
@@ -237,6 +223,6 @@ pub fn reduce(
         count,
         verdicts,
     );
-    put_rows(&rows, &number, events, mask, &least, count, to);
+    put_rows(&possible, &number, events, &least, count, to);
     count as u16
 }

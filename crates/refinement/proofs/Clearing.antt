@@ -81,7 +81,7 @@ module _ {Σ : Alphabet} {n : ℕ} {rows rows′ : List (List ℕ)} (h : Cleared
     next-cleared = tabulate-same n (λ i. leastBelow i (λ j. sameStep (unmasked (Σ .width)) rows′ group j i)) (λ i. leastBelow i (λ j. sameStep Σ rows group j i))
         (λ i l. least-same i (λ j. sameStep (unmasked (Σ .width)) rows′ group j i) (λ j. sameStep Σ rows group j i) (λ j m. step-cleared j i (omega arith) l))
 
-  pub rounds-cleared : (k : ℕ) (group : List ℕ) → rounds k (unmasked (Σ .width)) n rows′ group ≡ rounds k Σ n rows group
+  rounds-cleared : (k : ℕ) (group : List ℕ) → rounds k (unmasked (Σ .width)) n rows′ group ≡ rounds k Σ n rows group
   unfolding rounds
   rounds-cleared zero group = refl
   rounds-cleared (suc k) group =

@@ -1,5 +1,5 @@
 // Rounds that split the groups of a machine's states until none splits: those left together are those that no word tells apart. A group is named by
-// its least state. A word has events that can happen only.
+// its least state. The rounds take every event as one that can happen; those that cannot are led to one state first.
 ghost use mathlib.Core.Path.{_≡_};
 ghost use mathlib.Core.List.{List};
 ghost use Prim.Native.Nat.{ℕ, _≤_, _<_};
@@ -122,9 +122,9 @@ fn clear_event(rows: &mut [[u8; 16]; 256], states: usize, mask: u16, event: usiz
     }
 }
 
-// Leads each event that cannot happen to state 0: where all states go on to one, none are told apart. So the rounds need not ask the mask at each
-// event of each state.
-fn clear_impossible(rows: &mut [[u8; 16]; 256], states: usize, events: usize, mask: u16)
+// Leads each event that cannot happen to state 0: where all states go on to one, none are told apart. So the groups of these rows over all events
+// are those of the machine over the events that can happen, and the rounds need not ask the mask at each event of each state.
+pub fn clear_impossible(rows: &mut [[u8; 16]; 256], states: usize, events: usize, mask: u16)
     requires { ⌜ (events ≤ 16) × (states ≤ 256) × (length {A = List ℕ} (now rows) ≡ 256) ⌝ }
     ensures { λ _. ⌜ Cleared (masked events mask) events states (now (rows .entry)) (now (rows .exit)) ⌝ }
 {
@@ -135,20 +135,17 @@ fn clear_impossible(rows: &mut [[u8; 16]; 256], states: usize, events: usize, ma
     }
 }
 
-// For each state the least of its group.
+// For each state the least of its group, where every event can happen.
 pub fn groups(
-    rows: [[u8; 16]; 256],
+    rows: &[[u8; 16]; 256],
     classes: &[u8; 256],
     states: usize,
     events: usize,
-    mask: u16,
 ) -> [u8; 256]
     requires { ⌜ (events ≤ 16) × (states ≤ 256) ⌝ }
-    requires { ⌜ RowsBelow states (masked events mask) states rows ⌝ }
-    ensures { λ r. ⌜ take states r ≡ grouping (masked events mask) states rows (now (classes .entry)) ⌝ }
+    requires { ⌜ RowsBelow states (unmasked events) states (now rows) ⌝ }
+    ensures { λ r. ⌜ take states r ≡ grouping (unmasked events) states (now (rows .entry)) (now (classes .entry)) ⌝ }
 {
     let first = first_groups(classes, states);
-    let mut possible = rows;
-    clear_impossible(&mut possible, states, events, mask);
-    refined(&possible, first, states, events)
+    refined(rows, first, states, events)
 }
