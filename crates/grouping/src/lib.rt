@@ -14,7 +14,7 @@ ghost use Rattle.moore.specs.Quotient.{number, closed};
 ghost use Rattle.group_slots.specs.Groups.{unmasked, Least};
 ghost use Rattle.grouping.specs.Machines.{Leaders, verdictAt, rowAt};
 ghost use Rattle.grouping.specs.Reduction.{Reduction};
-use events::can_happen;
+use events::mask_has;
 use events::width;
 use group_slots::joined;
 use group_slots::successor;
@@ -91,7 +91,7 @@ fn stays(rows: &[[u8; 16]; 256], group: &[u8; 256], mask: u16, s: usize, e: usiz
     if joined(group, to, s) {
         return true;
     }
-    !can_happen(mask, e)
+    !mask_has(mask, e)
 }
 
 // Whether every event that can happen leads from a state back to its own group.

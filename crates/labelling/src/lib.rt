@@ -9,7 +9,7 @@ ghost use Rattle.ltl.specs.Keys.{tablesOf};
 ghost use Rattle.valuation.specs.Valued.{Valuable};
 ghost use Rattle.labelling.specs.Marks.{hits, Marked, AllMarked};
 ghost use Rattle.ltl.specs.Arrays.{TablesIn};
-use events::can_happen;
+use events::mask_has;
 use events::power;
 use events::width;
 use meaning::Node;
@@ -55,7 +55,7 @@ fn mark_all(
     *whole = [false; 256];
     let mut e: usize = 0;
     while e < events {
-        if can_happen(mask, e) {
+        if mask_has(mask, e) {
             mark_event(whole, profiles, real, labels, e);
         }
         e += 1;

@@ -11,7 +11,7 @@ ghost use Rattle.ltl.specs.Keys.{look};
 ghost use Rattle.valuation.specs.Entries.{Entries};
 ghost use Rattle.relations.specs.Relations.{entry, onlyIf, labelAt, Reaches};
 ghost use Rattle.realizability.specs.Core.{leadsBy, bothWays, componentBy, Within, withinComponent, Gathered, AllGathered, coreIn, coreBy, toCoreBy, realizableBy, Sizes};
-use events::can_happen;
+use events::mask_has;
 use node_words::holds;
 use relations::close;
 use relations::edge_rows;
@@ -125,7 +125,7 @@ fn gather(
     *sets = [0; 128];
     let mut e: usize = 0;
     while e < events {
-        if can_happen(mask, e) {
+        if mask_has(mask, e) {
             gather_event(components, profiles, fairs, labels, e, sets);
         }
         e += 1;

@@ -11,7 +11,7 @@ ghost use Rattle.meaning.specs.Traces.{masked};
 ghost use Rattle.moore.specs.Grouping.{together, firstGroups, nextGroups, sameBelow, rounds, grouping};
 ghost use Rattle.group_slots.specs.Groups.{unmasked, RowsBelow, Least};
 ghost use Rattle.refinement.specs.Rows.{Column, Cleared};
-use events::can_happen;
+use events::mask_has;
 use group_slots::least_by_slot;
 use group_slots::slot_of;
 use wire::wide;
@@ -112,7 +112,7 @@ fn clear_event(rows: &mut [[u8; 16]; 256], states: usize, mask: u16, event: usiz
     requires { ⌜ (states ≤ 256) × (event < 16) × (length {A = List ℕ} (now rows) ≡ 256) ⌝ }
     ensures { λ _. ⌜ Column (eqb (bit event mask) 1) states event (now (rows .entry)) (now (rows .exit)) ⌝ }
 {
-    if can_happen(mask, event) {
+    if mask_has(mask, event) {
         return;
     }
     let mut s: usize = 0;

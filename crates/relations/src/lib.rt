@@ -6,7 +6,7 @@ ghost use lib.ListN.{length};
 ghost use lib.Dec.{eqb};
 ghost use Rattle.meaning.specs.Traces.{masked};
 ghost use Rattle.relations.specs.Relations.{entry, Matrix, EmptyRow, MarkedAt, Added, onlyIf, RowPassed, labelAt, edge, through, closed};
-use events::can_happen;
+use events::mask_has;
 use wire::wide;
 
 // The label within a profile: the remainder, mostly without a division.
@@ -86,7 +86,7 @@ pub fn edge_rows(
     *rows = [0; 256];
     let mut e: usize = 0;
     while e < events {
-        if can_happen(mask, e) {
+        if mask_has(mask, e) {
             mark_event(rows, profiles, labels, e);
         }
         e += 1;

@@ -10,7 +10,7 @@ ghost use Rattle.meaning.specs.Bytes.{bit};
 ghost use Rattle.meaning.specs.Traces.{masked};
 ghost use Rattle.meaning.specs.TableFiles.{rowLength, noSuccessor};
 ghost use Rattle.table_bytes.specs.Written.{headerBytes, successorBytes, rowBytes, rowsBytes, writtenOf, tableAfter};
-use events::can_happen;
+use events::mask_has;
 use events::width;
 use meaning::Built;
 use meaning::Refusal;
@@ -32,9 +32,10 @@ fn put_header(out: &mut [u8], signals: u8, states: u16)
 
 // A successor as it is written: 65,535 for an event that cannot happen.
 fn written_successor(mask: u16, event: usize, to: u8) -> u16
+    requires { ⌜ event < 16 ⌝ }
     ensures { λ r. ⌜ r ≡ cond (eqb (bit event mask) 1) to noSuccessor ⌝ }
 {
-    if can_happen(mask, event) {
+    if mask_has(mask, event) {
         return to as u16;
     }
     65535

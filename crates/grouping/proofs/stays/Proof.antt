@@ -21,16 +21,16 @@ returns c =
     let back = together (now (a .group)) (entry (now (a .rows)) (a .s) (a .e)) (a .s) in
     back-is (eqb (bit (a .e) (a .mask)) 1) back (rw (← c .before .before .successor .ensures .0) (sym (c .before .joined .ensures) ∙ c .if1 .taken))
 
-can-happen-requires : tie.Need-can-happen-requires
-can-happen-requires c κs = search needs
+mask-has-requires : tie.Need-mask-has-requires
+mask-has-requires c κs = search needs
 
 returns-2 : tie.Need-returns-2
 returns-2 c =
     let a = c .before .before .before .before .args in
     let back = together (now (a .group)) (entry (now (a .rows)) (a .s) (a .e)) (a .s) in
-    away-is (eqb (bit (a .e) (a .mask)) 1) back (c .can-happen .result)
-    (rw (← c .before .before .before .successor .ensures .0) (sym (c .before .before .joined .ensures) ∙ c .before .if1 .left)) (c .can-happen .ensures)
+    away-is (eqb (bit (a .e) (a .mask)) 1) back (c .mask-has .result)
+    (rw (← c .before .before .before .successor .ensures .0) (sym (c .before .before .joined .ensures) ∙ c .before .if1 .left)) (c .mask-has .ensures)
 
 pub stays-spec : {M : Type 1} → statement M
 stays-spec =
-    tie.close (tie.spec successor-requires joined-requires returns can-happen-requires returns-2)
+    tie.close (tie.spec successor-requires joined-requires returns mask-has-requires returns-2)

@@ -19,8 +19,8 @@ abbrev μ-loop : tie.MeasureT-loop
 loop-holds : tie.Need-loop-holds Inv-loop μ-loop
 loop-holds c = (omega arith, all-none (c .before .args .mask))
 
-can-happen-requires : tie.Need-can-happen-requires Inv-loop μ-loop
-can-happen-requires c κs = search needs
+mask-has-requires : tie.Need-mask-has-requires Inv-loop μ-loop
+mask-has-requires c κs = search needs
 
 mark-event-requires : tie.Need-mark-event-requires Inv-loop μ-loop
 mark-event-requires c κs =
@@ -40,7 +40,7 @@ loop-again c =
     let mask = at-loop .before .before .args .mask in
     let e = at-loop .loop .e in
     let marks = at-loop .loop .inv .1 in
-    let possible = sym (c .before .can-happen .ensures) in
+    let possible = sym (c .before .mask-has .ensures) in
     (omega arith, ⊎-elim (λ way. all-more mask e marks (possible ∙ way .0 .taken) (way .2 .ensures) (way .3)) (λ way. all-skip mask e marks (possible ∙ way .0 .left) (way .1)) (c .if1 .came))
 
 returns : tie.Need-returns Inv-loop μ-loop
@@ -51,4 +51,4 @@ returns c =
 pub mark-all-spec : {M : Type 1} → statement M
 mark-all-spec =
     tie.close
-    (tie.spec Inv-loop μ-loop loop-holds can-happen-requires mark-event-requires add-e loop-less loop-again returns)
+    (tie.spec Inv-loop μ-loop loop-holds mask-has-requires mark-event-requires add-e loop-less loop-again returns)

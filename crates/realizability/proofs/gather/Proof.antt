@@ -21,8 +21,8 @@ abbrev μ-loop : tie.MeasureT-loop
 loop-holds : tie.Need-loop-holds Inv-loop μ-loop
 loop-holds c = (omega arith, all-none (c .before .args .mask) (c .before .pre .0 .few))
 
-can-happen-requires : tie.Need-can-happen-requires Inv-loop μ-loop
-can-happen-requires c κs = search needs
+mask-has-requires : tie.Need-mask-has-requires Inv-loop μ-loop
+mask-has-requires c κs = search needs
 
 gather-event-requires : tie.Need-gather-event-requires Inv-loop μ-loop
 gather-event-requires c κs =
@@ -44,7 +44,7 @@ loop-again c =
     let mask = at-loop .before .before .args .mask in
     let e = at-loop .loop .e in
     let sets = at-loop .loop .inv .1 in
-    let possible = sym (c .before .can-happen .ensures) in
+    let possible = sym (c .before .mask-has .ensures) in
     (omega arith, ⊎-elim (λ way. all-more mask e sets (possible ∙ way .0 .taken) (way .2 .ensures) (way .3)) (λ way. all-skip mask e sets (possible ∙ way .0 .left) (way .1)) (c .if1 .came))
 
 returns : tie.Need-returns Inv-loop μ-loop
@@ -55,4 +55,4 @@ returns c =
 pub gather-spec : {M : Type 1} → statement M
 gather-spec =
     tie.close
-    (tie.spec Inv-loop μ-loop loop-holds can-happen-requires gather-event-requires add-e loop-less loop-again returns)
+    (tie.spec Inv-loop μ-loop loop-holds mask-has-requires gather-event-requires add-e loop-less loop-again returns)

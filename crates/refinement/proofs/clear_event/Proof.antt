@@ -18,13 +18,13 @@ Inv-loop rows₀ states mask event s₀ rows s = (s ≤ states) × Filled s (λ 
 abbrev μ-loop : tie.MeasureT-loop
 μ-loop rows₀ states mask event s₀ rows s = states - s
 
-can-happen-requires : tie.Need-can-happen-requires Inv-loop μ-loop
-can-happen-requires c κs = search needs
+mask-has-requires : tie.Need-mask-has-requires Inv-loop μ-loop
+mask-has-requires c κs = search needs
 
 returns : tie.Need-returns Inv-loop μ-loop
 returns c =
     let a = c .before .before .args in
-    column-kept _ (a .states) (a .event) (now (a .rows)) (sym (c .before .can-happen .ensures) ∙ c .if1 .taken)
+    column-kept _ (a .states) (a .event) (now (a .rows)) (sym (c .before .mask-has .ensures) ∙ c .if1 .taken)
 
 loop-holds : tie.Need-loop-holds Inv-loop μ-loop
 loop-holds c = (omega arith, filled-none)
@@ -54,7 +54,7 @@ returns-2 : tie.Need-returns-2 Inv-loop μ-loop
 returns-2 c =
     let start = c .before .before .before .before in
     let a = start .args in
-    let cannot = sym (c .before .before .before .can-happen .ensures) ∙ c .before .before .if1 .left in
+    let cannot = sym (c .before .before .before .mask-has .ensures) ∙ c .before .before .if1 .left in
     column-cleared _ (a .states) (a .event) (now (a .rows)) (c .before .loop .rows) cannot (c .before .loop .inv .1) (omega arith)
 
 pub clear-event-spec : {M : Type 1} → statement M
@@ -63,7 +63,7 @@ clear-event-spec =
     (tie.spec
     Inv-loop
     μ-loop
-    can-happen-requires
+    mask-has-requires
     returns
     loop-holds
     mul-rows

@@ -17,8 +17,8 @@ abbrev μ-loop : tie.MeasureT-loop
 loop-holds : tie.Need-loop-holds Inv-loop μ-loop
 loop-holds c = (omega arith, edges-none (c .before .pre .0 .2))
 
-can-happen-requires : tie.Need-can-happen-requires Inv-loop μ-loop
-can-happen-requires c κs = search needs
+mask-has-requires : tie.Need-mask-has-requires Inv-loop μ-loop
+mask-has-requires c κs = search needs
 
 mark-event-requires : tie.Need-mark-event-requires Inv-loop μ-loop
 mark-event-requires c κs =
@@ -34,7 +34,7 @@ loop-less c = search needs
 loop-again : tie.Need-loop-again Inv-loop μ-loop
 loop-again c =
     let edges = c .before .before .before .loop .inv .1 in
-    let possible = sym (c .before .can-happen .ensures) in
+    let possible = sym (c .before .mask-has .ensures) in
     (omega arith, ⊎-elim (λ way. edges-more edges (possible ∙ way .0 .taken) (way .2 .ensures) (way .3)) (λ way. edges-skip edges (possible ∙ way .0 .left) (way .1)) (c .if1 .came))
 
 returns : tie.Need-returns Inv-loop μ-loop
@@ -43,4 +43,4 @@ returns c = (c .before .loop .inv .1 .long, edges-to (c .before .loop .inv .1) (
 pub edge-rows-spec : {M : Type 1} → statement M
 edge-rows-spec =
     tie.close
-    (tie.spec Inv-loop μ-loop loop-holds can-happen-requires mark-event-requires add-e loop-less loop-again returns)
+    (tie.spec Inv-loop μ-loop loop-holds mask-has-requires mark-event-requires add-e loop-less loop-again returns)
