@@ -34,9 +34,9 @@ module _ {word from : ℕ} {old : List Bool} where
   pub spread-to : {n : ℕ} {new : List Bool} (m : ℕ) → SpreadFrom n word from old new → n ≡ m → SpreadFrom m word from old new
   spread-to {n} {new} m h e = subst (λ (k : ℕ). SpreadFrom k word from old new) e h
 
--- a word more of a set
-pub marked-word : {f : ℕ → Bool} {old new : List Bool} (p word m : ℕ) → Marked p f old → SpreadFrom 64 word p old new → ((i : ℕ) → i < 64 → f (p + i) ≡ on word i) → p + 64 ≡ m → Marked m f new
-marked-word {f} {old} {new} p word m h s each e = record { long = s .long; at = λ q l. go q l (decLt q p) }
+-- n bits more of a set
+pub marked-word : {f : ℕ → Bool} {old new : List Bool} (n p word m : ℕ) → Marked p f old → SpreadFrom n word p old new → ((i : ℕ) → i < n → f (p + i) ≡ on word i) → p + n ≡ m → Marked m f new
+marked-word {f} {old} {new} n p word m h s each e = record { long = s .long; at = λ q l. go q l (decLt q p) }
   where
     go : (q : ℕ) → q < m → Dec (q < p) → getD new q false ≡ f q
     go q l (yes a) = s .before q a ∙ h .at q a

@@ -79,14 +79,14 @@ pub fn start_profiles(whole: &[bool; 256], n: usize) -> [bool; 256]
     out
 }
 
-// The bits of a word as bools, from an index on.
-fn spread_word(out: &mut [bool; 256], word: u64, from: usize)
-    requires { ⌜ (from + 64 ≤ 256) × (length (now out) ≡ 256) ⌝ }
-    ensures { λ _. ⌜ SpreadFrom 64 word from (now (out .entry)) (now (out .exit)) ⌝ }
+// The first bits of a word, `count` of them, as bools, from an index on.
+fn spread_word(out: &mut [bool; 256], word: u64, from: usize, count: usize)
+    requires { ⌜ (count ≤ 64) × (from + count ≤ 256) × (length (now out) ≡ 256) ⌝ }
+    ensures { λ _. ⌜ SpreadFrom count word from (now (out .entry)) (now (out .exit)) ⌝ }
 {
     let mut rest = word;
     let mut i: usize = 0;
-    while i < 64 {
+    while i < count {
         out[from + i] = rest % 2 == 1;
         rest = rest / 2;
         i += 1;
@@ -99,9 +99,13 @@ pub fn spread(key: &[u64; 4], m: usize) -> [bool; 256]
     ensures { λ r. ⌜ Marked m (on (keyOf (now (key .entry)))) r ⌝ }
 {
     let mut out = [false; 256];
+    if m < 64 {
+        spread_word(&mut out, key[0], 0, m);
+        return out;
+    }
     let mut j: usize = 0;
     while 64 * j < m {
-        spread_word(&mut out, key[j], 64 * j);
+        spread_word(&mut out, key[j], 64 * j, 64);
         j += 1;
     }
     out

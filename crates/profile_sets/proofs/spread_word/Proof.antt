@@ -11,13 +11,13 @@ use Rattle.profile_sets.proofs.spread_word.Statement.{statement}
 use Rattle.profile_sets.proofs.spread_word.Tie as tie
 
 abbrev Inv-loop : tie.InvT-loop
-Inv-loop out₀ word from rest₀ i₀ out rest i = (i ≤ 64) × (rest ≡ word / 2 ^ i) × SpreadFrom i word «from» out₀ out
+Inv-loop out₀ word from count rest₀ i₀ out rest i = (i ≤ count) × (rest ≡ word / 2 ^ i) × SpreadFrom i word «from» out₀ out
 
 abbrev μ-loop : tie.MeasureT-loop
-μ-loop out₀ word from rest₀ i₀ out rest i = 64 - i
+μ-loop out₀ word from count rest₀ i₀ out rest i = count - i
 
 loop-holds : tie.Need-loop-holds Inv-loop μ-loop
-loop-holds c = (omega arith, sym (div-one (c .args .word)), spread-none (c .pre .1))
+loop-holds c = (omega arith, sym (div-one (c .args .word)), spread-none (c .pre .2))
 
 add-out : tie.Need-add-out Inv-loop μ-loop
 add-out c = search needs
@@ -35,7 +35,7 @@ loop-again : tie.Need-loop-again Inv-loop μ-loop
 loop-again c = (omega arith, left-more (c .before .before .args .word) (c .before .loop .i) (c .before .loop .rest) (c .before .loop .inv .1), spread-more _ (c .before .loop .inv .2) (omega arith) (ap (λ (r : ℕ). eqb (r % 2) 1) (c .before .loop .inv .1)))
 
 returns : tie.Need-returns Inv-loop μ-loop
-returns c = spread-to 64 (c .before .loop .inv .2) (omega arith)
+returns c = spread-to (c .before .before .args .count) (c .before .loop .inv .2) (omega arith)
 
 pub spread-word-spec : {M : Type 1} → statement M
 spread-word-spec =
