@@ -1,5 +1,5 @@
 -- Sets of profiles in four words: a word made from its highest bit down, which profiles are in a key, and that equal words are equal keys.
-use mathlib.Core.Path.{_≡_, refl, sym, ap, _∙_}
+use mathlib.Core.Path.{_≡_, refl, sym, ap, _∙_, subst}
 use mathlib.Core.Bool.{Bool, true, false, cond}
 use mathlib.Core.List.{List}
 use Prim.Native.Nat.{ℕ, zero, suc, _+_, _-_, _*_, _/_, _%_, _^_, _≤_, _<_}
@@ -57,8 +57,17 @@ begun-more {top} {f} {i} {word} d h l m e =
     let r : suc n ≡ top - j = omega arith in
     record { is = (omega arith) ∙ sym (set-lowest n (λ k. f (j + k))) ∙ ap (λ (a : ℕ). setBelow a (λ k. f (j + k))) r }
 
-pub begun-small : {top : ℕ} {f : ℕ → Bool} {i word : ℕ} → Begun top f i word → 0 < i → top ≤ 64 → word < 2 ^ 63
-begun-small {top} {f} {i} h l t = let m : 2 ^ (top - i) ≤ 2 ^ 63 = pow-mono {i = top - i} {j = 63} (omega arith) in rw (h .is) (omega (arith, set-lt (top - i) (λ k. f (i + k))))
+-- two at once, the higher one first
+pub begun-two : {top : ℕ} {f : ℕ → Bool} {i word : ℕ} (a b : ℕ) → Begun top f i word → 1 < i → i ≤ top → a ≡ cond (f (i - 1)) 1 0 → b ≡ cond (f (i - 2)) 1 0 → Begun top f (i - 2) (word * 4 + (a * 2 + b))
+begun-two {top} {f} {i} {word} a b h l m p q =
+    let one = begun-more a h (omega arith) m p in
+    let two = begun-more b one (omega arith) (omega arith) (q ∙ ap (λ (k : ℕ). cond (f k) 1 0) (omega arith)) in
+    subst (λ (w : ℕ). Begun top f (i - 2) w) (let r : (word * 2 + a) * 2 + b ≡ word * 4 + (a * 2 + b) = omega arith in r)
+    (subst (λ (k : ℕ). Begun top f k ((word * 2 + a) * 2 + b)) (let r : i - 1 - 1 ≡ i - 2 = omega arith in r) two)
+
+-- where there are k bits to come
+pub begun-small : (k : ℕ) {top : ℕ} {f : ℕ → Bool} {i word : ℕ} → Begun top f i word → k ≤ i → top ≤ 64 → word < 2 ^ (64 - k)
+begun-small k {top} {f} {i} h l t = let m : 2 ^ (top - i) ≤ 2 ^ (64 - k) = pow-mono {i = top - i} {j = 64 - k} (omega arith) in rw (h .is) (omega (arith, m, set-lt (top - i) (λ k. f (i + k))))
 
 pub begun-all : {top : ℕ} {f : ℕ → Bool} {i word : ℕ} → Begun top f i word → i ≡ 0 → word ≡ setBelow top f
 begun-all {top} {f} {i} h e =

@@ -1,12 +1,12 @@
 // Sets of profiles in four words, the keys of remaining properties: packing, comparing, and the step at an event.
 ghost use mathlib.Core.Path.{_≡_};
-ghost use mathlib.Core.Bool.{cond};
+ghost use mathlib.Core.Bool.{false, cond};
 ghost use Prim.Native.Nat.{_+_, _≤_, _<_};
-ghost use lib.ListN.{length};
+ghost use lib.ListN.{length, getD};
 ghost use lib.Dec.{eqb};
 ghost use Rattle.ltl.specs.Sets.{on};
 ghost use Rattle.ltl.specs.Residuals.{ruleTrue};
-ghost use Rattle.ltl.specs.Keys.{stepKey};
+ghost use Rattle.ltl.specs.Keys.{look, stepKey};
 ghost use Rattle.profile_sets.specs.Arrays.{setIn, wordIn, Marked, SpreadFrom, hitsFrom, Cut, tablesBy, Steppable, keyOf, WordsFit};
 use wire::wide;
 
@@ -111,17 +111,31 @@ pub fn spread(key: &[u64; 4], m: usize) -> [bool; 256]
     out
 }
 
-// Which of the labels `from`, `from + 1`, .., `count` of them, the event takes to a profile that is held: label `from + i` is bit i.
+// Whether the event takes a label to a profile that is held.
+fn hit(profiles: &[[u8; 128]; 16], held: &[bool; 256], e: usize, label: usize) -> u64
+    requires { ⌜ (e < 16) × (label < 128) ⌝ }
+    ensures { λ r. ⌜ (r ≡ cond (getD (now (held .entry)) (look (now (profiles .entry)) e label) false) 1 0) × (r ≤ 1) ⌝ }
+{
+    let q = wide(profiles[e][label]);
+    digit(held[q])
+}
+
+// Which of the labels `from`, `from + 1`, .., `count` of them, the event takes to a profile that is held: label `from + i` is bit i. Two at a time, so
+// that the word waits for itself half as often.
 fn hits(profiles: &[[u8; 128]; 16], held: &[bool; 256], e: usize, from: usize, count: usize) -> u64
     requires { ⌜ (e < 16) × (count ≤ 64) × (from + count ≤ 128) ⌝ }
     ensures { λ r. ⌜ r ≡ hitsFrom (now (profiles .entry)) (now (held .entry)) e from count ⌝ }
 {
     let mut word: u64 = 0;
     let mut i: usize = count;
-    while 0 < i {
-        i -= 1;
-        let q = wide(profiles[e][from + i]);
-        word = word * 2 + digit(held[q]);
+    while 1 < i {
+        i -= 2;
+        let high = hit(profiles, held, e, from + i + 1);
+        let low = hit(profiles, held, e, from + i);
+        word = word * 4 + (high * 2 + low);
+    }
+    if i == 1 {
+        return word * 2 + hit(profiles, held, e, from);
     }
     word
 }

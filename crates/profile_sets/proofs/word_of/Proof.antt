@@ -22,7 +22,7 @@ sub-i : tie.Need-sub-i Inv-loop μ-loop
 sub-i c = search needs
 
 mul-word : tie.Need-mul-word Inv-loop μ-loop
-mul-word c = let m = begun-small (c .before .loop .inv .1) (c .loop-test .taken) (omega arith) in omega arith
+mul-word c = let m = begun-small 1 (c .before .loop .inv .1) (c .loop-test .taken) (omega arith) in omega arith
 
 mul-digit : tie.Need-mul-digit Inv-loop μ-loop
 mul-digit c = search needs
@@ -37,7 +37,7 @@ digit-requires : tie.Need-digit-requires Inv-loop μ-loop
 digit-requires c κs = search needs
 
 add-word : tie.Need-add-word Inv-loop μ-loop
-add-word c = let m = begun-small (c .before .before .before .loop .inv .1) (c .before .before .loop-test .taken) (omega arith) in omega (arith, c .digit .ensures .1)
+add-word c = let m = begun-small 1 (c .before .before .before .loop .inv .1) (c .before .before .loop-test .taken) (omega arith) in omega (arith, c .digit .ensures .1)
 
 loop-less : tie.Need-loop-less Inv-loop μ-loop
 loop-less c = search needs
