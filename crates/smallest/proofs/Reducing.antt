@@ -1,7 +1,7 @@
 -- The table of the smallest monitor of a machine of at most 256 states fits a table file, and is that monitor.
 use mathlib.Core.Path.{refl, sym, subst}
 use mathlib.Core.Bool.{Bool, true, false}
-use mathlib.Core.List.{List, []}
+use mathlib.Core.List.{List}
 use Prim.Native.Nat.{ℕ, zero, suc, _≤_, _<_}
 use native.Mathlib.Omega.{arith}
 use lib.ListN.{getD}

@@ -3,7 +3,7 @@
 --     mask-in, mask-full           the mask of a table's events; where every event can happen
 --     mask-possible                which events it has
 --     no-event, some-event         it is 0 exactly if no event is left
-use mathlib.Core.Path.{_≡_, refl, sym, ap, _∙_, subst}
+use mathlib.Core.Path.{_≡_, sym, ap, _∙_, subst}
 use mathlib.Core.List.{List}
 use mathlib.Core.Bool.{Bool, true, false, cond, not}
 use Prim.Native.Nat.{ℕ, _+_, _-_, _^_, _<_}

@@ -1,6 +1,5 @@
 -- `same_at` meets its contract.
 use native.Mathlib.Omega.{arith}
-use borrow.Author.Needs.{needs}
 use Rattle.key_slots.proofs.same_at.Statement.{statement}
 use Rattle.key_slots.proofs.same_at.Tie as tie
 
