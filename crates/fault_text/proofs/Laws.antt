@@ -21,7 +21,7 @@ use Rattle.text_pieces.specs.declared.Text.the-variants as Text
 use Rattle.text_pieces.proofs.Decimal.{decimal-u16, decimal-u64}
 use Rattle.meaning.specs.Refusals.{codeOf}
 use Rattle.meaning.specs.declared.Refusal.{Refusal}
-use Rattle.meaning.specs.declared.Refusal.the-variants.{Truncated, WrongLength, WrongKind, WrongSignals, WrongCount, WrongOperand, OutOfRange, EighthTemporal, TrailingBytes, ShortOutput, TooManyResiduals, WrongEvent, WrongState, WrongTable, WrongText, TooManyNodes, NoEvent}
+use Rattle.meaning.specs.declared.Refusal.the-variants.{Truncated, WrongLength, WrongKind, WrongSignals, WrongCount, WrongOperand, OutOfRange, EighthTemporal, TrailingBytes, ShortOutput, TooManyResiduals, WrongEvent, WrongState, WrongWatch, WrongTable, WrongText, TooManyNodes, NoEvent, WrongDesk, WrongNumber, QueueFull}
 use Rattle.fault_text.specs.Fault.{shown}
 
 map-append : (f : ℕ → ℕ) (a b : List ℕ) → map f (a ++ b) ≡ map f a ++ map f b
@@ -73,7 +73,7 @@ front-put d vs s j e l q =
 
 -- ---- the refusal's line
 
-code-few : (r : Refusal) → codeOf r .0 ≤ 17
+code-few : (r : Refusal) → codeOf r .0 ≤ 99
 code-few (Truncated p) = omega arith
 code-few (WrongLength p) = omega arith
 code-few (WrongKind p) = omega arith
@@ -87,10 +87,14 @@ code-few ShortOutput = omega arith
 code-few TooManyResiduals = omega arith
 code-few (WrongEvent p) = omega arith
 code-few WrongState = omega arith
+code-few (WrongWatch p) = omega arith
 code-few WrongTable = omega arith
 code-few (WrongText p) = omega arith
 code-few TooManyNodes = omega arith
 code-few (NoEvent p) = omega arith
+code-few WrongDesk = omega arith
+code-few (WrongNumber p) = omega arith
+code-few (QueueFull p) = omega arith
 
 pub line-length : (r : Refusal) → codeOf r .1 < 2 ^ 64 → length (refusalText r) ≤ 64
 unfolding refusalText

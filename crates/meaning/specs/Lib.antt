@@ -10,3 +10,5 @@ pub mod RuleTexts
 pub mod TableFiles
 pub mod Runs
 pub mod Demands
+pub mod Desks
+pub mod Histories

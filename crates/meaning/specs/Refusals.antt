@@ -1,7 +1,7 @@
 -- Document 01's table "Refusing", and the numbers that document 02 adds.
 use Prim.Native.Nat.{ℕ}
 use Rattle.meaning.specs.declared.Refusal.{Refusal}
-use Rattle.meaning.specs.declared.Refusal.the-variants.{Truncated, WrongLength, WrongKind, WrongSignals, WrongCount, WrongOperand, OutOfRange, EighthTemporal, TrailingBytes, ShortOutput, TooManyResiduals, WrongEvent, WrongState, WrongTable, WrongText, TooManyNodes, NoEvent}
+use Rattle.meaning.specs.declared.Refusal.the-variants.{Truncated, WrongLength, WrongKind, WrongSignals, WrongCount, WrongOperand, OutOfRange, EighthTemporal, TrailingBytes, ShortOutput, TooManyResiduals, WrongEvent, WrongState, WrongWatch, WrongTable, WrongText, TooManyNodes, NoEvent, WrongDesk, WrongNumber, QueueFull}
 
 -- "Returned" and "Place", of each case
 abbrev pub codeOf : Refusal → ℕ × ℕ
@@ -18,7 +18,11 @@ codeOf ShortOutput = (10, 0)
 codeOf TooManyResiduals = (11, 0)
 codeOf (WrongEvent p) = (12, p)
 codeOf WrongState = (13, 0)
+codeOf (WrongWatch p) = (13, p)
 codeOf WrongTable = (14, 0)
 codeOf (WrongText p) = (15, p)
 codeOf TooManyNodes = (16, 0)
 codeOf (NoEvent p) = (17, p)
+codeOf WrongDesk = (18, 0)
+codeOf (WrongNumber p) = (19, p)
+codeOf (QueueFull p) = (20, p)

@@ -25,10 +25,14 @@ pub enum Refusal {
     TooManyResiduals,
     WrongEvent(usize),
     WrongState,
+    WrongWatch(usize),
     WrongTable,
     WrongText(usize),
     TooManyNodes,
     NoEvent(usize),
+    WrongDesk,
+    WrongNumber(usize),
+    QueueFull(usize),
 }
 
 impl Refusal {
@@ -49,10 +53,14 @@ impl Refusal {
             Refusal::TooManyResiduals => 11,
             Refusal::WrongEvent(_) => 12,
             Refusal::WrongState => 13,
+            Refusal::WrongWatch(_) => 13,
             Refusal::WrongTable => 14,
             Refusal::WrongText(_) => 15,
             Refusal::TooManyNodes => 16,
             Refusal::NoEvent(_) => 17,
+            Refusal::WrongDesk => 18,
+            Refusal::WrongNumber(_) => 19,
+            Refusal::QueueFull(_) => 20,
         }
     }
 
@@ -73,10 +81,14 @@ impl Refusal {
             Refusal::TooManyResiduals => 0,
             Refusal::WrongEvent(p) => p,
             Refusal::WrongState => 0,
+            Refusal::WrongWatch(p) => p,
             Refusal::WrongTable => 0,
             Refusal::WrongText(p) => p,
             Refusal::TooManyNodes => 0,
             Refusal::NoEvent(p) => p,
+            Refusal::WrongDesk => 0,
+            Refusal::WrongNumber(p) => p,
+            Refusal::QueueFull(p) => p,
         }
     }
 }
@@ -158,4 +170,27 @@ pub enum Shown {
 pub struct StateRow {
     pub shown: Shown,
     pub successors: [u16; 16],
+}
+
+// A watch of a desk: where the monitor of one tunnel stands, and the events that wait for it. Of its 32 slots the first `waiting` count, the oldest
+// event in front; the others are free. It passes to other languages as it is, and whatever its bytes are, it is a watch.
+#[repr(C)]
+pub struct Watch {
+    pub state: u16,
+    pub waiting: u16,
+    pub events: [u8; 32],
+}
+
+// What a desk answers: the work is done; an event of a tunnel was heard, which led to a state with its verdict; no tunnel has an event waiting, and
+// the number that was given; or the refusal.
+pub enum Served {
+    Done,
+    Heard {
+        number: usize,
+        event: u8,
+        state: u16,
+        verdict: Verdict,
+    },
+    NoneWaits(usize),
+    Refused(Refusal),
 }
