@@ -60,7 +60,7 @@ fn each_in(mask: u16, events: &[u8]) -> bool
 }
 
 // The same. Where every event can happen the largest tells, which is found many at a time.
-fn all_in(mask: u16, events: &[u8]) -> bool
+pub fn all_in(mask: u16, events: &[u8]) -> bool
     ensures { λ r. ⌜ r ≡ allIn mask (now (events .entry)) ⌝ }
 {
     if wide(most(events)) < full_below(mask) {
