@@ -99,7 +99,7 @@ module _ (t : List ℕ) where
     pub signals : Q ≡ signalsIn t
     pub states : R ≡ statesIn t
 
-  found : (Q R : ℕ) → checkedOf t ≡ Checked.Table Q R → Found Q R
+  pub found : (Q R : ℕ) → checkedOf t ≡ Checked.Table Q R → Found Q R
   found Q R e = go (isTable t) refl e
     where
       go : (b : Bool) → isTable t ≡ b → cond b (Checked.Table (signalsIn t) (statesIn t)) (Checked.Refused WrongTable) ≡ Checked.Table Q R → Found Q R

@@ -1,0 +1,58 @@
+-- A request over bytes and counts: with the counts that checking the bytes found it is the request over the table, and with counts of none it is refused.
+use mathlib.Core.Path.{_≡_, refl, ap, _∙_}
+use mathlib.Core.List.{List, [], _∷_}
+use mathlib.Core.Bool.{Bool, true, false, cond}
+use Prim.Native.Nat.{ℕ}
+use native.Mathlib.Omega.{arith}
+use lib.Dec.{ltb}
+use lib.ListN.{length}
+use Rattle.meaning.specs.TableFiles.{isTable, alphabetIn, signalsIn, statesIn, checkedOf}
+use Rattle.meaning.specs.RuleFiles.{firstOf}
+use Rattle.meaning.specs.Runs.{countsFit, runOf, ranIn}
+use Rattle.meaning.specs.Desks.{Outcome, refused, deskChecks, watchAt, oldest, after, passed, heardBy, postIn, turnIn, postOf, turnOf, turnBy}
+use Rattle.meaning.specs.declared.Refusal.{Refusal}
+use Rattle.meaning.specs.declared.Refusal.the-variants.{WrongTable}
+use Rattle.meaning.specs.declared.Checked.{Checked}
+use Rattle.meaning.specs.declared.Checked.the-variants as Checked
+use Rattle.meaning.specs.declared.Ran.{Ran}
+use Rattle.meaning.specs.declared.Served.the-variants as Served
+use Rattle.meaning.specs.declared.Watch.{Watch}
+use Rattle.table_layout.proofs.Form.{table-counts}
+use Rattle.table_run.proofs.Answers.{found, run-table}
+use Rattle.desk_tasks.specs.declared.Request.{Request}
+use Rattle.desk_tasks.specs.declared.Request.the-variants.{Post, Turn}
+use Rattle.desk_tasks.specs.Surveys.{servedIn, servedOf}
+
+module _ (t : List ℕ) (d : List Watch) where
+  pub served-none : (P S : ℕ) (r : Request) → countsFit t P S ≡ false → servedIn t P S r d ≡ refused d WrongTable
+  unfolding postIn turnIn
+  served-none P S (Post i e) q = rw q
+  served-none P S (Turn l) q = rw q
+
+  none : (x : Refusal) → checkedOf t ≡ Checked.Refused x → isTable t ≡ false
+  none x e = go (isTable t) refl e
+    where
+      go : (b : Bool) → isTable t ≡ b → cond b (Checked.Table (signalsIn t) (statesIn t)) (Checked.Refused WrongTable) ≡ Checked.Refused x → b ≡ false
+      go true p q = let z : _≡_ {A = ℕ} 0 1 = cc in absurd (omega arith)
+      go false p q = refl
+
+  pub served-refused : (r : Request) (x : Refusal) → checkedOf t ≡ Checked.Refused x → servedOf t r d ≡ refused d WrongTable
+  unfolding postOf turnOf
+  served-refused (Post i e) x q = rw (none x q)
+  served-refused (Turn l) x q = rw (none x q)
+
+  -- a turn asks of its steps only what the one that it takes answers
+  turn-same : (Q R l : ℕ) → checkedOf t ≡ Checked.Table Q R
+      → turnBy (λ s e. ranIn t Q R s (e ∷ [])) (alphabetIn t Q) R d l ≡ turnBy (λ s e. runOf t s (e ∷ [])) (alphabetIn t Q) R d l
+  unfolding turnBy
+  turn-same Q R l h =
+      let i : ℕ = after (length d) l (passed d l) in
+      ap (λ (x : Ran). firstOf (refused d) (deskChecks (alphabetIn t Q) R d) (cond (ltb (passed d l) (length d)) (heardBy d i x) (record { answer = Served.NoneWaits l; desk = d })))
+      (run-table t (watchAt d i .state) (oldest (watchAt d i) ∷ []) Q R h)
+
+  pub served-table : (Q R : ℕ) (r : Request) → checkedOf t ≡ Checked.Table Q R → servedIn t Q R r d ≡ servedOf t r d
+  unfolding postIn turnIn postOf turnOf
+  served-table Q R (Post i e) h = let f = found t Q R h in rw (f .signals, f .states, f .table, table-counts t (f .table))
+  served-table Q R (Turn l) h =
+      let f = found t Q R h in
+      ap (λ (o : Outcome). cond (countsFit t Q R) o (refused d WrongTable)) (turn-same Q R l h) ∙ rw (f .signals, f .states, f .table, table-counts t (f .table))

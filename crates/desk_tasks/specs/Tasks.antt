@@ -1,0 +1,125 @@
+-- One pass over a row, and what is done after it: the definitions that the code follows.
+use mathlib.Core.Path.{_≡_}
+use mathlib.Core.List.{List, [], _∷_}
+use mathlib.Core.Bool.{Bool, true, cond, not, _&&_}
+use Prim.Native.Nat.{ℕ, zero, suc}
+use lib.Dec.{ltb, leb, eqb}
+use Rattle.meaning.specs.Bytes.{bit}
+use Rattle.meaning.specs.RuleFiles.{firstOf}
+use Rattle.meaning.specs.Runs.{countsFit, ranIn}
+use Rattle.meaning.specs.Desks.{watchAt, oldest, withEvent, withoutOldest}
+use Rattle.meaning.specs.declared.Refusal.{Refusal}
+use Rattle.meaning.specs.declared.Refusal.the-variants.{WrongEvent, WrongWatch, WrongTable, WrongDesk, WrongNumber, QueueFull}
+use Rattle.meaning.specs.declared.Ran.{Ran}
+use Rattle.meaning.specs.declared.Ran.the-variants as Ran
+use Rattle.meaning.specs.declared.Watch.{Watch}
+use Rattle.meaning.specs.declared.Served.the-variants as Served
+use Rattle.table_layout.specs.Masks.{MaskIn}
+use Rattle.watches.specs.Fitting.{fitsIn}
+use Rattle.desk_tasks.specs.declared.Request.{Request}
+use Rattle.desk_tasks.specs.declared.Request.the-variants.{Post, Turn}
+use Rattle.desk_tasks.specs.declared.Task.{Task}
+use Rattle.desk_tasks.specs.declared.Service.{Service}
+use Rattle.desk_tasks.specs.declared.Check.{Check}
+use Rattle.desk_tasks.specs.declared.Check.the-variants as Check
+
+-- the number after which a turn begins
+abbrev pub lastIn : Request → ℕ
+lastIn (Post i e) = 0
+lastIn (Turn l) = l
+
+-- The task of a request over the bytes t with counts P and S and a row of n watches, before the pass. Where the counts are a table's, its mask is that of
+-- the table's events.
+pub record Begun (t : List ℕ) (P S : ℕ) (r : Request) (n : ℕ) (s : Task) : Type 0 where
+  pub request : s .request ≡ r
+  pub signals : s .signals ≡ P
+  pub states : s .states ≡ S
+  pub table : s .table ≡ countsFit t P S
+  pub mask : countsFit t P S ≡ true → MaskIn t P (s .mask)
+  pub length : s .length ≡ n
+  pub upto : s .upto ≡ cond (countsFit t P S && (leb 1 n && leb n 64)) n 0
+  pub last : s .last ≡ lastIn r
+  pub wrong : s .wrong ≡ n
+  pub waits : s .waits ≡ n
+  pub later : s .later ≡ n
+
+-- after a look at the watch w, which has number i
+abbrev pub lookOf : Task → Watch → ℕ → Task
+lookOf s w i =
+    record {
+      request = s .request;
+      signals = s .signals;
+      states = s .states;
+      table = s .table;
+      mask = s .mask;
+      length = s .length;
+      upto = s .upto;
+      last = s .last;
+      wrong = cond (not (fitsIn (s .mask) (s .states) w)) i (s .wrong);
+      waits = cond (ltb 0 (w .waiting)) i (s .waits);
+      later = cond (ltb 0 (w .waiting) && ltb (s .last) i) i (s .later);
+    }
+
+-- after a pass over the first k watches, the last of them first
+unfoldable pub passOver : List Watch → ℕ → Task → Task
+passOver d zero s = s
+passOver d (suc k) s = passOver d k (lookOf s (watchAt d k) k)
+
+-- the next number, going round, that has an event waiting
+abbrev pub nextOf : Task → ℕ
+nextOf s = cond (ltb (s .later) (s .length)) (s .later) (s .waits)
+
+-- the number that the request is about
+abbrev pub wantedBy : Task → Request → ℕ
+wantedBy s (Post i e) = i
+wantedBy s (Turn l) = nextOf s
+
+abbrev pub wantedOf : Task → ℕ
+wantedOf s = wantedBy s (s .request)
+
+-- 14, 18 and 13
+abbrev pub rowChecks : Task → List (Bool × Refusal)
+rowChecks s =
+    (not (s .table), WrongTable)
+    ∷ (not (leb 1 (s .length) && leb (s .length) 64), WrongDesk)
+    ∷ (ltb (s .wrong) (s .length), WrongWatch (s .wrong))
+    ∷ []
+
+abbrev pub rowChecked : Task → Check
+rowChecked s = firstOf Check.Refused (rowChecks s) Check.Passed
+
+-- nothing is changed
+abbrev pub refusing : Task → Watch → Refusal → Service
+refusing s w x = record { number = s .length; watch = w; answer = Served.Refused x }
+
+-- 19, 12 and 20
+abbrev pub postDecided : Task → Watch → ℕ → ℕ → Service
+postDecided s w i e =
+    firstOf (refusing s w)
+    ((leb (s .length) i, WrongNumber i)
+    ∷ (not (eqb (bit e (s .mask)) 1), WrongEvent i)
+    ∷ (leb 32 (w .waiting), QueueFull i)
+    ∷ [])
+    (record { number = i; watch = withEvent w e; answer = Served.Done })
+
+-- hearing the oldest event of watch w, which has number i, where the run over it ended so
+abbrev pub hearDecided : Task → Watch → ℕ → Ran → Service
+hearDecided s w i (Ran.Ended to v c) = record { number = i; watch = withoutOldest w to; answer = Served.Heard i (oldest w) to v }
+hearDecided s w i (Ran.Refused x) = refusing s w x
+
+abbrev pub turnDecided : List ℕ → Task → Watch → ℕ → Service
+turnDecided t s w l =
+    cond (leb (s .length) (nextOf s))
+    (record { number = s .length; watch = w; answer = Served.NoneWaits l })
+    (hearDecided s w (nextOf s) (ranIn t (s .signals) (s .states) (w .state) (oldest w ∷ [])))
+
+abbrev pub requestDecided : List ℕ → Task → Watch → Request → Service
+requestDecided t s w (Post i e) = postDecided s w i e
+requestDecided t s w (Turn l) = turnDecided t s w l
+
+abbrev pub checkDecided : List ℕ → Task → Watch → Check → Service
+checkDecided t s w Check.Passed = requestDecided t s w (s .request)
+checkDecided t s w (Check.Refused x) = refusing s w x
+
+unfoldable pub decidedOf : List ℕ → Task → Watch → Service
+decidedOf t s w = checkDecided t s w (rowChecked s)
