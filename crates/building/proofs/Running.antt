@@ -8,7 +8,7 @@ use native.Mathlib.Omega.{arith}
 use lib.ListN.{length, take, getD}
 use borrow.Author.Tests.{lt-ltb, le-ltb}
 use Rattle.sequences.proofs.Loops.{least-is}
-use Rattle.meaning.specs.Traces.{Alphabet, Event, isEvent, Word}
+use Rattle.meaning.specs.Traces.{Alphabet, isEvent, Word}
 use Rattle.meaning.specs.Verdicts.{Property, Judged}
 use Rattle.meaning.specs.Monitors.{Monitor, follow, shows}
 use Rattle.meaning.specs.RuleFiles.{alphabetOf, propertyOf}
@@ -74,7 +74,7 @@ none-bad : (Σ : Alphabet) (es : List ℕ) → Word Σ es → firstBad Σ es ≡
 none-bad Σ es a = least-is (length es) (λ i. not (isEvent Σ (getD es i 0))) (length es) (omega arith) (all-good Σ es a) (λ h. absurd (omega arith))
 
 -- words over alphabets with the same events
-word-same : (Σ Σ′ : Alphabet) → ((e : ℕ) → isEvent Σ′ e ≡ isEvent Σ e) → (es : List ℕ) → Word Σ es → Word Σ′ es
+pub word-same : (Σ Σ′ : Alphabet) → ((e : ℕ) → isEvent Σ′ e ≡ isEvent Σ e) → (es : List ℕ) → Word Σ es → Word Σ′ es
 word-same Σ Σ′ q [] a = tt
 word-same Σ Σ′ q (e ∷ es) a = (test-event Σ′ e (q e ∙ event-test Σ e (a .0)), word-same Σ Σ′ q es (a .1))
 
@@ -124,11 +124,9 @@ built-run file table b es a =
 
 -- a step over a table, whose successors are its states
 module _ (t : List ℕ) (form : isTable t ≡ true) where
-  no-step : runOf t 0 [] ≡ endOf (monitorOf t) 0 []
-  no-step = rw (form, lt-ltb 0 (statesIn t) (states-some t (table-header t form)))
-
-  one-step : (s e : ℕ) → s < statesIn t → Event (alphabetIn t (signalsIn t)) e → runOf t s (e ∷ []) ≡ endOf (monitorOf t) s (e ∷ [])
-  one-step s e l h = rw (form, lt-ltb s (statesIn t) l, none-bad (alphabetIn t (signalsIn t)) (e ∷ []) (h, tt))
+  -- a run over events that can happen is not refused
+  pub word-run : (s : ℕ) (es : List ℕ) → s < statesIn t → Word (alphabetIn t (signalsIn t)) es → runOf t s es ≡ endOf (monitorOf t) s es
+  word-run s es l a = rw (form, lt-ltb s (statesIn t) l, none-bad (alphabetIn t (signalsIn t)) es a, le-ltb (length es) (length es) (omega arith))
 
   -- stepping ends where the events lead, with the verdict of that state
   steps-end : (s : ℕ) (d : Decided) (es : List ℕ) → s < statesIn t → Word (alphabetIn t (signalsIn t)) es
@@ -136,7 +134,7 @@ module _ (t : List ℕ) (form : isTable t ≡ true) where
   unfolding stepsFrom
   steps-end s d [] l a = (d, refl)
   steps-end s d (e ∷ es) l a =
-      let q = one-step s e l (a .0) in
+      let q = word-run s (e ∷ []) l (a .0, tt) in
       let h = steps-end (successor t (signalsIn t) s e) (decidedFrom (monitorOf t) 0 s (e ∷ [])) es (table-inside t form s e l (a .0)) (a .1) in
       (h .0, ap (λ (r : Ran). stepsFrom t r es) q ∙ h .1)
 
@@ -148,6 +146,6 @@ built-steps file table b es a =
     let some = states-some table (table-header table form) in
     let word = word-same (alphabetOf (b .rule)) (alphabetIn table (signalsIn table)) (b .demand-3 .events) es a in
     let end = steps-end table form 0 (decidedFrom (monitorOf table) 0 0 []) es some word in
-    let q : steps table es ≡ Ended _ (shows (monitorOf table) es) _ = ap (λ (r : Ran). stepsFrom table r es) (no-step table form) ∙ end .1 in
+    let q : steps table es ≡ Ended _ (shows (monitorOf table) es) _ = ap (λ (r : Ran). stepsFrom table r es) (word-run table form 0 [] some tt) ∙ end .1 in
     subst (λ (r : Ran). StepRight (alphabetOf (b .rule)) (propertyOf (b .rule)) es r) (sym q)
     (b .demand-2 .verdicts table (b .built) es a (shows (monitorOf table) es) .0 refl)

@@ -1,0 +1,6 @@
+pub mod Rows
+pub mod Answers
+pub mod Moves
+pub mod Turns
+pub mod Histories
+pub mod Sharp

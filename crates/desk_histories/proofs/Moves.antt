@@ -1,0 +1,151 @@
+-- What actions do to one tunnel of a good desk.
+--     Moved                  what was accepted and what was heard, between two standings of its watch
+--     moved-none, -then      nothing done, and one after the other
+--     good-by, moved-by      one action
+--     good-all, moved-all    a list of them
+--     still-waits            an event that waits is heard, or one still waits
+use mathlib.Core.Path.{_≡_, refl, sym, ap, _∙_, subst}
+use mathlib.Core.Logic.{_⊎_, inl, inr}
+use mathlib.Core.List.{List, [], _∷_, _++_, append-nil, append-assoc}
+use mathlib.Core.Bool.{true, cond}
+use Prim.Native.Nat.{ℕ, _≤_, _<_}
+use native.Mathlib.Decide.{ℕ-discrete}
+use native.Mathlib.Omega.{arith}
+use borrow.Author.Tests.{eq-eqb, ne-eqb}
+use lib.Dec.{eqb}
+use lib.ListN.{length, set, length-append}
+use lib.Seq.{length-take-le, getD-set-same, getD-set-other}
+use Rattle.meaning.specs.Traces.{Word}
+use Rattle.meaning.specs.Monitors.{Monitor, follow}
+use Rattle.meaning.specs.TableFiles.{isTable, monitorOf}
+use Rattle.meaning.specs.Desks.{Outcome, queue, freshWatch, watchAt, withEvent, oldest, withoutOldest}
+use Rattle.meaning.specs.Histories.{Action, Post, Turn, Standing, asked, onward, reached, takes, hears, accepted, heard}
+use Rattle.meaning.specs.declared.Watch.{Watch}
+use Rattle.table_layout.proofs.Form.{table-inside}
+use Rattle.moore.proofs.Words.{word-append, follow-append}
+use Rattle.desk_histories.proofs.Rows.{Fits, fits-more, fits-less, queue-more, queue-less, oldest-event, good-set}
+use Rattle.rounds.proofs.Rounds.{after-in}
+use Rattle.desk_histories.proofs.Answers.{Σ, S, Fine, Added, Denied, Hearing, Silent, next, posted, turned}
+
+module _ (t : List ℕ) where
+  abbrev m : Monitor
+  m = monitorOf t
+
+  -- from w to w′ the events ins were accepted, and outs heard
+  pub record Moved (w w′ : Watch) (ins outs : List ℕ) : Type 0 where
+    pub kept : queue w ++ ins ≡ outs ++ queue w′
+    pub state : w′ .state ≡ follow m (w .state) outs
+    pub word : Word (Σ t) outs
+
+  pub moved-none : (w : Watch) → Moved w w [] []
+  moved-none w = record { kept = append-nil (queue w); state = refl; word = tt }
+
+  pub moved-then : {w w′ w″ : Watch} {ins outs ins′ outs′ : List ℕ} → Moved w w′ ins outs → Moved w′ w″ ins′ outs′ → Moved w w″ (ins ++ ins′) (outs ++ outs′)
+  moved-then {w} {w′} {w″} {ins} {outs} {ins′} {outs′} a b = record {
+    kept =
+        sym (append-assoc (queue w) ins ins′)
+        ∙ ap (λ (l : List ℕ). l ++ ins′) (a .kept)
+        ∙ append-assoc outs (queue w′) ins′
+        ∙ ap (λ (l : List ℕ). outs ++ l) (b .kept)
+        ∙ sym (append-assoc outs outs′ (queue w″));
+    state = b .state ∙ ap (λ (s : ℕ). follow m s outs′) (a .state) ∙ sym (follow-append m (w .state) outs outs′);
+    word = word-append (Σ t) outs outs′ (a .word) (b .word);
+  }
+
+  -- ---- what waits
+
+  queue-length : (w : Watch) → Fits (Σ t) (S t) w → length (queue w) ≡ w .waiting
+  queue-length w f = length-take-le (w .waiting) (w .events) (omega (arith, f .few, f .slots))
+
+  pub still-waits : (w w′ : Watch) (ins outs : List ℕ) → Fits (Σ t) (S t) w → Fits (Σ t) (S t) w′ → Moved w w′ ins outs → 1 ≤ w .waiting
+      → (1 ≤ length outs) ⊎ (1 ≤ w′ .waiting)
+  still-waits w w′ ins [] f f′ a h = inr (omega (arith, queue-length w f, queue-length w′ f′, length-append (queue w) ins, ap length (a .kept)))
+  still-waits w w′ ins (x ∷ outs) f f′ a h = inl (omega arith)
+
+  module _ (form : isTable t ≡ true) (n : ℕ) (some : 1 ≤ n) (few : n ≤ 64) where
+    -- ---- one action
+
+    module _ (d : List Watch) (g : Fine t n d) where
+      good-more : (j e : ℕ) → Added t n d j e → Fine t n (set d j (withEvent (watchAt d j) e))
+      good-more j e h = good-set (Σ t) (S t) n d g j (withEvent (watchAt d j) e) (h .inside) (fits-more (Σ t) (S t) (watchAt d j) (g .fits j (h .inside)) e (h .room) (h .event))
+
+      pub heard-in : (l : ℕ) (h : Hearing t n d l) → h .number < n
+      heard-in l h = subst (λ (k : ℕ). k < n) (sym (h .there)) (after-in n some l (h .passes))
+
+      good-less : (l : ℕ) (h : Hearing t n d l) → Fine t n (set d (h .number) (withoutOldest (watchAt d (h .number)) (next t (watchAt d (h .number)))))
+      good-less l h =
+          let f = g .fits (h .number) (heard-in l h) in
+          good-set (Σ t) (S t) n d g (h .number) _ (heard-in l h)
+          (fits-less (Σ t) (S t) (watchAt d (h .number)) f (h .waits) (next t (watchAt d (h .number)))
+          (table-inside t form _ _ (f .inside) (oldest-event (Σ t) (S t) (watchAt d (h .number)) f (h .waits) 0)))
+
+    pub good-by : (c : Standing) → Fine t n (c .desk) → (a : Action) → Fine t n (asked t c a .desk)
+    good-by c g (Post j e) = go (posted t form n some few (c .desk) g j e)
+      where
+        go : Added t n (c .desk) j e ⊎ Denied t n (c .desk) j e → Fine t n (asked t c (Post j e) .desk)
+        go (inl h) = rw (h .is) (good-more (c .desk) g j e h)
+        go (inr h) = rw (h .is) g
+    good-by c g Turn = go (turned t form n some few (c .desk) g (c .last))
+      where
+        go : Hearing t n (c .desk) (c .last) ⊎ Silent t n (c .desk) (c .last) → Fine t n (asked t c Turn .desk)
+        go (inl h) = rw (h .is) (good-less (c .desk) g (c .last) h)
+        go (inr h) = rw (h .is) g
+
+    -- ---- one action, for tunnel i
+
+    module _ (i : ℕ) (inside : i < n) where
+      module _ (d : List Watch) (g : Fine t n d) where
+        abbrev more : ℕ → ℕ → Watch
+        more j e = withEvent (watchAt d j) e
+
+        abbrev less : ℕ → Watch
+        less j = withoutOldest (watchAt d j) (next t (watchAt d j))
+
+        moved-more : (j e : ℕ) → Added t n d j e → Moved (watchAt d i) (watchAt (set d j (more j e)) i) (cond (eqb i j) (e ∷ []) []) []
+        moved-more j e h = go (ℕ-discrete i j)
+          where
+            here : Moved (watchAt d j) (more j e) (e ∷ []) []
+            here = record { kept = sym (queue-more (Σ t) (S t) (watchAt d j) (g .fits j (h .inside)) e (h .room)); state = refl; word = tt }
+
+            go : Dec (i ≡ j) → Moved (watchAt d i) (watchAt (set d j (more j e)) i) (cond (eqb i j) (e ∷ []) []) []
+            go (yes q) = rw (eq-eqb i j q, q, getD-set-same d j (more j e) freshWatch (omega (arith, h .inside, g .size))) here
+            go (no q) = rw (ne-eqb i j q, getD-set-other d j i (more j e) freshWatch q) (moved-none (watchAt d i))
+
+        moved-less : (j : ℕ) → j < n → 1 ≤ watchAt d j .waiting → Moved (watchAt d i) (watchAt (set d j (less j)) i) [] (cond (eqb i j) (oldest (watchAt d j) ∷ []) [])
+        moved-less j l h = go (ℕ-discrete i j)
+          where
+            here : Moved (watchAt d j) (less j) [] (oldest (watchAt d j) ∷ [])
+            here = record {
+              kept = append-nil (queue (watchAt d j)) ∙ queue-less (Σ t) (S t) (watchAt d j) (g .fits j l) h (next t (watchAt d j));
+              state = refl;
+              word = (oldest-event (Σ t) (S t) (watchAt d j) (g .fits j l) h 0, tt);
+            }
+
+            go : Dec (i ≡ j) → Moved (watchAt d i) (watchAt (set d j (less j)) i) [] (cond (eqb i j) (oldest (watchAt d j) ∷ []) [])
+            go (yes q) = rw (eq-eqb i j q, q, getD-set-same d j (less j) freshWatch (omega (arith, g .size))) here
+            go (no q) = rw (ne-eqb i j q, getD-set-other d j i (less j) freshWatch q) (moved-none (watchAt d i))
+
+      abbrev By : Standing → Action → Outcome → Type 0
+      By c a o = Moved (watchAt (c .desk) i) (watchAt (o .desk) i) (takes i a (o .answer)) (hears i (o .answer))
+
+      pub moved-by : (c : Standing) → Fine t n (c .desk) → (a : Action) → By c a (asked t c a)
+      moved-by c g (Post j e) = go (posted t form n some few (c .desk) g j e)
+        where
+          go : Added t n (c .desk) j e ⊎ Denied t n (c .desk) j e → By c (Post j e) (asked t c (Post j e))
+          go (inl h) = subst (By c (Post j e)) (sym (h .is)) (moved-more (c .desk) g j e h)
+          go (inr h) = subst (By c (Post j e)) (sym (h .is)) (moved-none (watchAt (c .desk) i))
+      moved-by c g Turn = go (turned t form n some few (c .desk) g (c .last))
+        where
+          go : Hearing t n (c .desk) (c .last) ⊎ Silent t n (c .desk) (c .last) → By c Turn (asked t c Turn)
+          go (inl h) = subst (By c Turn) (sym (h .is)) (moved-less (c .desk) g (h .number) (heard-in (c .desk) g (c .last) h) (h .waits))
+          go (inr h) = subst (By c Turn) (sym (h .is)) (moved-none (watchAt (c .desk) i))
+
+      -- ---- lists of actions
+
+      pub moved-all : (c : Standing) → Fine t n (c .desk) → (h : List Action) → Moved (watchAt (c .desk) i) (watchAt (reached t c h .desk) i) (accepted t c i h) (heard t c i h)
+      moved-all c g [] = moved-none (watchAt (c .desk) i)
+      moved-all c g (a ∷ rest) = moved-then (moved-by c g a) (moved-all (onward t c a) (good-by c g a) rest)
+
+    pub good-all : (c : Standing) → Fine t n (c .desk) → (h : List Action) → Fine t n (reached t c h .desk)
+    good-all c g [] = g
+    good-all c g (a ∷ rest) = good-all (onward t c a) (good-by c g a) rest

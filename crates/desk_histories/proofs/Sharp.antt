@@ -1,0 +1,40 @@
+-- A worked example: no bound below the number of watches would do. Of n watches, each with an event waiting, the one heard last is not heard within n - 1 turns.
+use mathlib.Core.Path.{_≡_, refl, ap}
+use mathlib.Core.List.{List, [], _∷_, map}
+use mathlib.Core.Bool.{true}
+use Prim.Native.Nat.{ℕ, _≤_}
+use native.Mathlib.Omega.{arith}
+use lib.ListN.{length, replicate}
+use Rattle.sequences.specs.Tabulate.{upTo}
+use Rattle.meaning.specs.TableFiles.{isTable}
+use Rattle.meaning.specs.Runs.{decidedFrom}
+use Rattle.meaning.specs.Desks.{watchAt, postBy, postOf, turnBy, turnOf}
+use Rattle.meaning.specs.Histories.{Action, Post, Turn, Standing, begun, reached, heard, turns}
+
+-- one state over one signal, to which both events lead
+abbrev pub table : List ℕ
+table = 5 ∷ 0 ∷ 0 ∷ 2 ∷ 1 ∷ 1 ∷ 0 ∷ 7 ∷ 0 ∷ 1 ∷ 2 ∷ 0 ∷ 0 ∷ 0 ∷ 0 ∷ 0 ∷ []
+
+-- a desk of n watches, where event 1 was posted to each and the first counts as heard last
+abbrev pub posted : ℕ → Standing
+posted n = reached table (begun n 0) (map (λ i. Post i 1) (upTo n))
+
+-- and within k turns the first is not heard
+pub record Unheard (n k : ℕ) : Type 0 where
+  pub form : isTable table ≡ true
+  pub waits : watchAt (posted n .desk) 0 .waiting ≡ 1
+  pub many : turns (replicate k Turn) ≡ k
+  pub none : heard table (posted n) 0 (replicate k Turn) ≡ []
+
+pub three : Unheard 3 2
+unfolding isTable decidedFrom postBy postOf turnBy turnOf
+three = record { form = refl; waits = refl; many = refl; none = refl }
+
+pub sixty-four : Unheard 64 63
+unfolding isTable decidedFrom postBy postOf turnBy turnOf
+sixty-four = record { form = refl; waits = refl; many = refl; none = refl }
+
+-- so what `in-time` says of n turns is false of k
+pub no-sooner : (n k : ℕ) → Unheard n k
+    → ¬ ((g : List Action) → 1 ≤ watchAt (posted n .desk) 0 .waiting → k ≤ turns g → 1 ≤ length (heard table (posted n) 0 g))
+no-sooner n k u f = omega (arith, ap length (u .none), f (replicate k Turn) (omega (arith, u .waits)) (omega (arith, u .many)))

@@ -1,0 +1,1 @@
+// The laws of a desk over whole histories: theorems, no code.
