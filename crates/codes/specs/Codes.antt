@@ -16,7 +16,12 @@ use Rattle.meaning.specs.declared.Decided.{Decided}
 use Rattle.meaning.specs.declared.Decided.the-variants.{After, Never}
 use Rattle.meaning.specs.declared.Ran.{Ran}
 use Rattle.meaning.specs.declared.Ran.the-variants as Ran
+use Rattle.meaning.specs.declared.Served.{Served}
+use Rattle.meaning.specs.declared.Served.the-variants as Served
+use Rattle.meaning.specs.declared.Watch.{Watch}
 use Rattle.meaning.specs.Runs.{ranIn}
+use Rattle.meaning.specs.Desks.{Outcome, postIn, turnIn}
+use Rattle.codes.specs.declared.Counts.{Counts}
 use Rattle.text_pieces.specs.declared.Text.{Text}
 use Rattle.text_pieces.specs.declared.Text.the-variants as Text
 
@@ -65,3 +70,25 @@ stepOf t c s e = ranIn t (c / 65536) (c % 65536) s (e ∷ [])
 abbrev pub textCode : Text → ℕ
 textCode (Text.Written n) = n
 textCode (Text.Refused r) = refusalCode r
+
+-- the number of a tunnel; one of 256 or more, which no desk has, is shown as 255
+abbrev pub numberCode : ℕ → ℕ
+numberCode i = cond (ltb i 256) i 255
+
+-- what a desk answers: 0 where the work is done or none waits; where an event was heard 2^40, with the tunnel's number, the event, the verdict and the state below it
+abbrev pub servedCode : Served → ℕ
+servedCode Served.Done = 0
+servedCode (Served.Heard i e s v) = 2 ^ 40 + numberCode i * 2 ^ 32 + e * 2 ^ 24 + verdictNumber v * 65536 + s
+servedCode (Served.NoneWaits l) = 0
+servedCode (Served.Refused r) = refusalCode r
+
+-- the counts in a number; 0 and 0, which no table has, where it has more signals than four
+abbrev pub countsIn : ℕ → Counts
+countsIn c = cond (ltb 4 (c / 65536)) (record { signals = 0; states = 0 }) (record { signals = c / 65536; states = c % 65536 })
+
+-- a post and a turn over the table whose counts are c
+abbrev pub postAt : List ℕ → ℕ → List Watch → ℕ → ℕ → Outcome
+postAt t c d i e = postIn t (c / 65536) (c % 65536) d i e
+
+abbrev pub turnAt : List ℕ → ℕ → List Watch → ℕ → Outcome
+turnAt t c d l = turnIn t (c / 65536) (c % 65536) d l

@@ -2,12 +2,14 @@
 ghost use mathlib.Core.Path.{_≡_};
 ghost use Prim.Native.Nat.{_<_, _^_};
 ghost use Rattle.meaning.specs.TableFiles.{verdictNumber};
-ghost use Rattle.codes.specs.Codes.{placeCode, refusalCode, writtenCode, builtCode, countsCode, ranCode, countCode, countAfter, textCode};
+ghost use Rattle.meaning.specs.declared.Served.the-variants.{Heard};
+ghost use Rattle.codes.specs.Codes.{placeCode, refusalCode, writtenCode, builtCode, countsCode, ranCode, countCode, countAfter, textCode, numberCode, servedCode, countsIn};
 use meaning::Built;
 use meaning::Checked;
 use meaning::Decided;
 use meaning::Ran;
 use meaning::Refusal;
+use meaning::Served;
 use meaning::Verdict;
 use meaning::Written;
 use text_pieces::Text;
@@ -108,5 +110,63 @@ pub fn text_code(text: Text) -> u64
     match text {
         Text::Written(n) => n as u64,
         Text::Refused(why) => refusal_code(why),
+    }
+}
+
+fn number_code(number: usize) -> u64
+    ensures { λ r. ⌜ (r ≡ numberCode number) × (r < 256) ⌝ }
+{
+    if number < 256 {
+        return number as u64;
+    }
+    255
+}
+
+fn heard_code(number: usize, event: u8, state: u16, verdict: Verdict) -> u64
+    ensures { λ r. ⌜ r ≡ servedCode (Heard number event state verdict) ⌝ }
+{
+    let tunnel = number_code(number) * 4294967296;
+    let events = event as u64 * 16777216;
+    let shown = verdict_number(verdict) * 65536;
+    1099511627776 + tunnel + events + shown + state as u64
+}
+
+pub fn served_code(served: Served) -> u64
+    ensures { λ r. ⌜ r ≡ servedCode served ⌝ }
+{
+    match served {
+        Served::Done => 0,
+        Served::Heard {
+            number,
+            event,
+            state,
+            verdict,
+        } => heard_code(number, event, state, verdict),
+        Served::NoneWaits(_) => 0,
+        Served::Refused(why) => refusal_code(why),
+    }
+}
+
+// A table's counts, as a check answers them.
+pub struct Counts {
+    pub signals: u8,
+    pub states: u16,
+}
+
+// The counts in a number; 0 and 0, which no table has, where it is none that a check answers.
+pub fn counts_in(counts: u64) -> Counts
+    ensures { λ r. ⌜ r ≡ countsIn counts ⌝ }
+{
+    let signals = counts / 65536;
+    let states = counts % 65536;
+    if 4 < signals {
+        return Counts {
+            signals: 0,
+            states: 0,
+        };
+    }
+    Counts {
+        signals: signals as u8,
+        states: states as u16,
     }
 }
