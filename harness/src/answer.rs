@@ -1,5 +1,7 @@
 //! Answers of the oracle in the forms in which the library and its wrapper give theirs.
 
+use oracle::counted;
+use oracle::desk::{Heard, Served, Tunnel};
 use oracle::refusal::Refusal;
 use oracle::table::{Monitor, RunResult, Verdict};
 
@@ -7,19 +9,31 @@ use crate::tefuji;
 
 /// Where a run's count says "none".
 const NONE: u64 = u64::MAX;
+/// The highest place that an answer shows.
+const LAST_PLACE: u64 = (1 << 56) - 1;
+/// What a turn answers beside what it heard.
+const HEARD: u64 = 1 << 40;
 
 /// One number: what was asked for, or the refusal's number in the top byte and its place below.
 pub fn code(answer: Result<u64, Refusal>) -> u64 {
     match answer {
         Ok(number) => number,
-        Err(refusal) => u64::from(refusal.number) << 56 | refusal.place as u64,
+        Err(refusal) => u64::from(refusal.number) << 56 | place(refusal),
     }
+}
+
+fn place(refusal: Refusal) -> u64 {
+    (refusal.place as u64).min(LAST_PLACE)
 }
 
 /// What `tefuji_check` answers.
 pub fn checked(opened: &Result<Monitor, Refusal>) -> u64 {
-    let counts = |monitor: &Monitor| u64::from(monitor.signals) << 16 | monitor.states.len() as u64;
     code(opened.as_ref().map(counts).map_err(|&refusal| refusal))
+}
+
+/// The counts of a good table.
+pub fn counts(monitor: &Monitor) -> u64 {
+    counted::counts(monitor.signals, monitor.states.len())
 }
 
 /// What `tefuji_run` and `tefuji_step` answer.
@@ -35,18 +49,41 @@ pub fn counted(result: Result<RunResult, Refusal>, before: u64) -> u64 {
     }
 }
 
+/// What `tefuji_fresh`, `tefuji_post` and `tefuji_turn` answer; the first two hear nothing.
+pub fn served(answer: Served) -> u64 {
+    let heard = |Heard { number, event, state, verdict }| {
+        let (number, event) = ((number as u64) << 32, u64::from(event) << 24);
+        HEARD | number | event | u64::from(verdict.to_byte()) << 16 | u64::from(state)
+    };
+    code(answer.map(|answer| answer.map_or(0, heard)))
+}
+
+pub fn heard(Heard { number, event, state, verdict }: Heard) -> tefuji::Heard {
+    tefuji::Heard { number, event, reached: reached_state(state, verdict) }
+}
+
+pub fn watch(Tunnel { state, waiting, slots }: &Tunnel) -> tefuji::Watch {
+    let slots: Vec<u8> = slots.iter().copied().collect();
+    let events = slots.try_into().expect("a tunnel has as many slots as a watch");
+    tefuji::Watch { state: *state, waiting: *waiting, events }
+}
+
 pub fn refusal(refusal: Refusal) -> tefuji::Refusal {
-    tefuji::Refusal { number: refusal.number, place: refusal.place as u64 }
+    tefuji::Refusal { number: refusal.number, place: place(refusal) }
 }
 
 pub fn reached(end: RunResult) -> tefuji::Reached {
-    let verdict = match end.verdict {
+    reached_state(end.end_state, end.verdict)
+}
+
+fn reached_state(state: u16, verdict: Verdict) -> tefuji::Reached {
+    let verdict = match verdict {
         Verdict::Undecided => tefuji::Verdict::Undecided,
         Verdict::Satisfied => tefuji::Verdict::Satisfied,
         Verdict::Violated => tefuji::Verdict::Violated,
         Verdict::Moot => tefuji::Verdict::Moot,
     };
-    tefuji::Reached { state: end.end_state, verdict }
+    tefuji::Reached { state, verdict }
 }
 
 pub fn ended(end: RunResult) -> tefuji::Ended {

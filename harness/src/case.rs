@@ -2,6 +2,8 @@
 
 use std::fmt;
 
+use oracle::desk::Tunnel;
+
 pub struct Case {
     /// The generator's name for it, counted in the summary.
     pub origin: &'static str,
@@ -10,12 +12,83 @@ pub struct Case {
 
 /// A byte list is printed in hexadecimal.
 pub enum Input {
-    Write { text: Vec<u8>, signals: u8, rooms: Vec<Room>, paint: u8 },
-    Build { rule: Vec<u8>, rooms: Vec<Room>, paint: u8 },
-    Check { table: Vec<u8> },
-    Run { table: Vec<u8>, state: u16, events: Vec<u8>, cell: u64 },
-    Step { table: Vec<u8>, steps: Vec<Step>, strays: Vec<(u64, Step)> },
-    Text { table: Vec<u8>, length: usize, paint: u8 },
+    Write {
+        text: Vec<u8>,
+        signals: u8,
+        rooms: Vec<Room>,
+        paint: u8,
+    },
+    Build {
+        rule: Vec<u8>,
+        rooms: Vec<Room>,
+        paint: u8,
+    },
+    Check {
+        table: Vec<u8>,
+    },
+    Run {
+        table: Vec<u8>,
+        state: u16,
+        events: Vec<u8>,
+        cell: u64,
+    },
+    Step {
+        table: Vec<u8>,
+        steps: Vec<Step>,
+        strays: Vec<(u64, Step)>,
+    },
+    Text {
+        table: Vec<u8>,
+        length: usize,
+        paint: u8,
+    },
+    /// Calls over one desk, each over what the one before left.
+    Desk {
+        table: Vec<u8>,
+        desk: Vec<Tunnel>,
+        calls: Vec<Call>,
+    },
+    /// A desk that is made fresh first; the table is good, and the first turn takes `last`.
+    History {
+        table: Vec<u8>,
+        desk: Vec<Tunnel>,
+        last: usize,
+        moves: Vec<Move>,
+    },
+}
+
+/// A call over a desk. The counts need not be the table's.
+#[derive(Clone, Copy, Debug)]
+pub enum Call {
+    Fresh,
+    Post { counts: u64, number: usize, event: u8 },
+    Turn { counts: u64, last: usize },
+}
+
+impl Call {
+    /// What is called.
+    pub fn kind(self) -> &'static str {
+        match self {
+            Call::Fresh => "fresh",
+            Call::Post { .. } => "post",
+            Call::Turn { .. } => "turn",
+        }
+    }
+}
+
+/// What happens next at a desk.
+#[derive(Clone, Copy, Debug)]
+pub enum Move {
+    Post {
+        number: usize,
+        event: u8,
+    },
+    /// The tunnel that was heard last posts.
+    Again {
+        event: u8,
+    },
+    /// Takes the number that the turn before returned.
+    Turn,
 }
 
 /// One event read in one state.
@@ -59,6 +132,8 @@ impl Input {
             Input::Run { .. } => "run",
             Input::Step { .. } => "step",
             Input::Text { .. } => "text",
+            Input::Desk { .. } => "desk",
+            Input::History { .. } => "history",
         }
     }
 }
@@ -86,7 +161,28 @@ impl fmt::Display for Case {
             Input::Text { table, length, paint } => {
                 write!(out, "table {}\noutput of {length} bytes, painted {paint}", Hex(table))
             }
+            Input::Desk { table, desk, calls } => {
+                write!(out, "table {}\n{}calls {calls:?}", Hex(table), Row(desk))
+            }
+            Input::History { table, desk, last, moves } => {
+                write!(out, "table {}\n{}", Hex(table), Row(desk))?;
+                write!(out, "fresh, last heard {last}, then {moves:?}")
+            }
         }
+    }
+}
+
+/// The watches of a desk, each on its line.
+pub struct Row<'a>(pub &'a [Tunnel]);
+
+impl fmt::Display for Row<'_> {
+    fn fmt(&self, out: &mut fmt::Formatter<'_>) -> fmt::Result {
+        writeln!(out, "{} watches", self.0.len())?;
+        for (number, Tunnel { state, waiting, slots }) in self.0.iter().enumerate() {
+            let slots: Vec<u8> = slots.iter().copied().collect();
+            writeln!(out, "{number}: state {state}, {waiting} waiting, slots {}", Hex(&slots))?;
+        }
+        Ok(())
     }
 }
 

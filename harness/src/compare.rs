@@ -4,6 +4,8 @@
 //! read or written outside. Afterwards what was only read is compared with what it was.
 
 mod build;
+mod desk;
+mod history;
 mod run;
 mod step;
 mod text;
@@ -48,6 +50,10 @@ pub fn case(case: &Case, tally: &mut Tally) -> Compared {
         }
         Input::Step { table, steps, strays } => step::compare(table, steps, strays, tally),
         Input::Text { table, length, paint } => text::compare(table, *length, *paint, tally),
+        Input::Desk { table, desk, calls } => desk::compare(table, desk, calls, tally),
+        Input::History { table, desk, last, moves } => {
+            history::compare(table, desk, *last, moves, tally)
+        }
     }
 }
 
@@ -97,6 +103,7 @@ fn same_code(what: &'static str, library: u64, oracle: u64) -> Compared {
     }
     let shown = |code: u64| match refused_by(code) {
         Some(number) => format!("refused {number} at {}", code << 8 >> 8),
+        None if code >> 40 == 1 => format!("heard {code:#x}"),
         None => format!("{} * 65536 + {}", code >> 16, code & 65535),
     };
     Err(Difference { what, library: shown(library), oracle: shown(oracle) })

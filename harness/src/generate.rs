@@ -1,5 +1,6 @@
 //! The generator of cases. A case depends on the seed and its number only.
 
+mod desks;
 mod edge;
 mod events;
 mod planned;
@@ -21,6 +22,9 @@ pub struct Made {
     pub origin: &'static str,
     pub bytes: Vec<u8>,
 }
+
+/// The sum of the weights in `case`.
+const CASE_WEIGHTS: usize = 134;
 
 impl Made {
     fn new(origin: &'static str, bytes: Vec<u8>) -> Self {
@@ -44,13 +48,15 @@ impl Generator {
         if number < edge::CASES {
             return edge::case(rng, number);
         }
-        match rng.below(112) {
+        match rng.below(CASE_WEIGHTS) {
             0..=34 => self.build(rng),
             35..=49 => self.check(rng),
             50..=74 => self.run(rng),
             75..=89 => self.step(rng),
             90..=99 => self.text(rng),
-            _ => self.write(rng),
+            100..=111 => self.write(rng),
+            112..=129 => desks::case(&self.tables, rng),
+            _ => desks::history(&self.tables, rng),
         }
     }
 

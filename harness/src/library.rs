@@ -1,7 +1,8 @@
-//! Three functions of the library with all that they answer. The safe wrapper shows less: it takes
-//! the parts out of an answer, and it keeps the cell of a run's count to itself.
+//! Functions of the library with all that they answer. The safe wrapper shows less: it takes the
+//! parts out of an answer, keeps the cell of a run's count to itself, and has only right counts.
 
 use crate::tefuji::library as declared;
+use crate::tefuji::Watch;
 
 pub fn check(table: &[u8]) -> u64 {
     // The slice is lent for the call.
@@ -17,4 +18,21 @@ pub fn run(table: &[u8], state: u16, events: &[u8], count: &mut u64) -> u64 {
 pub fn step(table: &[u8], counts: u64, state: u16, event: u8) -> u64 {
     // The slice is lent for the call, and the library takes any counts.
     unsafe { declared::tefuji_step(table.as_ptr(), table.len(), counts, state, event) }
+}
+
+pub fn fresh(desk: &mut [Watch]) -> u64 {
+    // The slice is lent for the call.
+    unsafe { declared::tefuji_fresh(desk.as_mut_ptr(), desk.len()) }
+}
+
+pub fn post(desk: &mut [Watch], table: &[u8], counts: u64, number: usize, event: u8) -> u64 {
+    let (row, watches, length) = (desk.as_mut_ptr(), desk.len(), table.len());
+    // Both are lent for the call, a `&mut` overlaps nothing, and the library takes any counts.
+    unsafe { declared::tefuji_post(row, watches, table.as_ptr(), length, counts, number, event) }
+}
+
+pub fn turn(desk: &mut [Watch], table: &[u8], counts: u64, last: usize) -> u64 {
+    let (row, watches, length) = (desk.as_mut_ptr(), desk.len(), table.len());
+    // Both are lent for the call, a `&mut` overlaps nothing, and the library takes any counts.
+    unsafe { declared::tefuji_turn(row, watches, table.as_ptr(), length, counts, last) }
 }

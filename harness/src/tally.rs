@@ -1,5 +1,8 @@
 //! What the cases met: how many of each kind and origin, how many answers and refusals.
 
+mod desks;
+pub mod seen;
+
 use std::collections::BTreeMap;
 use std::fmt;
 
@@ -7,8 +10,12 @@ use oracle::mask;
 use oracle::refusal::Refusal;
 use oracle::table::{Monitor, RunResult};
 
+use desks::Desks;
+
 const KINDS: [&str; 6] = ["write", "build", "check", "run", "step", "text"];
-const REFUSALS: std::ops::RangeInclusive<u8> = 1..=17;
+/// What is called in the cases of desks and histories.
+const DESK_KINDS: [&str; 3] = ["fresh", "post", "turn"];
+const REFUSALS: std::ops::RangeInclusive<u8> = 1..=20;
 /// The refusals of write, which have others' numbers and places of its own.
 const WRITE_REFUSALS: [u8; 6] = [15, 4, 16, 7, 8, 10];
 
@@ -52,6 +59,7 @@ pub struct Tally {
     /// By what was done: tables with impossible events, without a refusal.
     masked: BTreeMap<&'static str, u64>,
     brought_by_masks: BTreeMap<&'static str, u64>,
+    pub desks: Desks,
 }
 
 impl Tally {
@@ -126,7 +134,8 @@ impl Tally {
 
     /// What has to be met, most of it once, and was not.
     pub fn missing(&self) -> Vec<String> {
-        let kinds = KINDS.iter().filter(|kind| !self.accepted.contains_key(*kind));
+        let kinds = KINDS.iter().chain(&DESK_KINDS);
+        let kinds = kinds.filter(|kind| !self.accepted.contains_key(*kind));
         let numbers = REFUSALS.filter(|number| !self.refused.contains_key(number));
         let kinds = kinds.map(|kind| format!("an answer of {kind} other than a refusal"));
         let numbers = numbers.map(|number| format!("refusal {number}"));
@@ -137,18 +146,16 @@ impl Tally {
         let few = (self.full_tables < FULL_TABLES)
             .then(|| format!("{FULL_TABLES} tables with {FULL} states"));
         let all = kinds.chain(numbers).chain(written).chain(strays).chain(few);
-        all.chain(self.missing_of_masks()).collect()
+        all.chain(self.missing_of_masks()).chain(self.desks.missing()).collect()
     }
 
     /// The same of impossible events, each at least so often.
     fn missing_of_masks(&self) -> Vec<String> {
-        let is_seldom = |counts: &BTreeMap<&'static str, u64>, words: &&&'static str| {
-            *counts.get(**words).unwrap_or(&0) < SOME_MASKED
-        };
-        let kinds = MASKED_KINDS.iter().filter(|kind| is_seldom(&self.masked, kind));
+        let kinds = MASKED_KINDS.iter().filter(|kind| is_seldom(&self.masked, kind, SOME_MASKED));
         let kinds = kinds.map(|kind| format!("{SOME_MASKED} times {kind} with impossible events"));
+        let refusals = BROUGHT_BY_MASKS.iter();
         let refusals =
-            BROUGHT_BY_MASKS.iter().filter(|words| is_seldom(&self.brought_by_masks, words));
+            refusals.filter(|words| is_seldom(&self.brought_by_masks, words, SOME_MASKED));
         let refusals = refusals.map(|words| format!("{SOME_MASKED} times refusal {words}"));
         let full = (self.full_masked_tables < SOME_MASKED)
             .then(|| format!("{SOME_MASKED} tables with {FULL} states and impossible events"));
@@ -160,15 +167,21 @@ impl Tally {
         let cases: u64 = origins().map(|(_, count)| count).sum();
         let listed: Vec<String> =
             origins().map(|((_, origin), count)| format!("{origin} {count}")).collect();
-        let accepted = self.accepted.get(kind).unwrap_or(&0);
-        write!(out, "{kind} {cases} ({}), accepted {accepted}; ", listed.join(", "))
+        write!(out, "{kind} {cases} ({})", listed.join(", "))?;
+        match self.accepted.get(kind) {
+            Some(accepted) => write!(out, ", accepted {accepted}; "),
+            None => write!(out, "; "),
+        }
     }
 }
 
 impl fmt::Display for Tally {
     fn fmt(&self, out: &mut fmt::Formatter<'_>) -> fmt::Result {
-        for kind in KINDS {
+        for kind in KINDS.iter().chain(&["desk", "history"]) {
             self.write_kind(out, kind)?;
+        }
+        for kind in DESK_KINDS {
+            write!(out, "{kind} accepted {}; ", self.accepted.get(kind).unwrap_or(&0))?;
         }
         write!(out, "refused {}; ", listed(&self.refused))?;
         write!(out, "of these by write {}; ", listed(&self.refused_by_write))?;
@@ -176,8 +189,14 @@ impl fmt::Display for Tally {
         write!(out, "accepted with impossible events: {}; ", named(&self.masked))?;
         write!(out, "tables with {FULL} states: {}, ", self.full_tables)?;
         write!(out, "{} of them with impossible events; ", self.full_masked_tables)?;
-        write!(out, "steps with other counts: {}", named(&self.stray_steps))
+        write!(out, "steps with other counts: {}; ", named(&self.stray_steps))?;
+        write!(out, "desks: {}", self.desks)
     }
+}
+
+/// Met fewer times than it has to be.
+fn is_seldom(counts: &BTreeMap<&'static str, u64>, words: &str, least: u64) -> bool {
+    *counts.get(words).unwrap_or(&0) < least
 }
 
 fn has_impossible_events(monitor: &Monitor) -> bool {

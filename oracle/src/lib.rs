@@ -1,9 +1,13 @@
 //! A second reading of document 01 and of the requests for rule texts, for counts between
-//! two bounds and for events that cannot happen, written apart from the watcher: readers, a
-//! search for traces, a builder of tables, and the maker of the test vectors.
+//! two bounds, for events that cannot happen and for a desk of many tunnels, written apart from
+//! the watcher: readers, a search for traces, a builder of tables, a desk and the laws of its
+//! histories, and the maker of the test vectors.
 
 pub mod builder;
 pub mod certify;
+pub mod counted;
+pub mod desk;
+pub mod history;
 pub mod lasso;
 pub mod mask;
 pub mod prints;

@@ -1,9 +1,10 @@
 //! Inputs of the program that prints tables, each with what it must print.
 //!
 //! The program takes the first 4,096 bytes of its input as a rule file, builds
-//! the table with room for every table, and prints it. So of the seventeen refusals
-//! six cannot happen: 10, since the room is enough; 12 and 13, since nothing is
-//! run; 14, since only a built table is opened; 15 and 16, since no text is read.
+//! the table with room for every table, and prints it. So of the twenty refusals nine
+//! cannot happen: 10, since the room is enough; 12 and 13, since nothing is run; 14,
+//! since only a built table is opened; 15 and 16, since no text is read; 18 to 20,
+//! since there is no desk.
 
 use std::collections::BTreeSet;
 use std::fmt::Write;

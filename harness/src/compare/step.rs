@@ -1,7 +1,8 @@
 //! Single steps: with the counts that checking the same table answered, and with any others.
 
+use oracle::counted::{Counted, Halt};
 use oracle::refusal::Refusal;
-use oracle::table::{row_length, Monitor, RunResult, Verdict, HEADER_LENGTH, NO_SUCCESSOR};
+use oracle::table::{Monitor, RunResult};
 
 use super::{lent, refused_by, same, same_bytes, same_code, Compared};
 use crate::answer;
@@ -78,40 +79,17 @@ fn stray_step(
     counts: u64,
     Step { state, event }: Step,
 ) -> (&'static str, Result<RunResult, Refusal>) {
-    let no_table = Err(Refusal::new(14, 0));
-    let Some((signals, states)) = fitting(table, counts) else {
-        return ("no table's counts or length", no_table);
+    let Some(counted) = Counted::new(table, counts) else {
+        return ("no table's counts or length", Err(Refusal::new(14, 0)));
     };
-    if state >= states {
-        return ("no state or event", Err(Refusal::new(13, 0)));
-    }
-    if event >= 1 << signals {
-        return ("no state or event", Err(Refusal::new(12, 0)));
-    }
-    let row = |state: u16| &table[HEADER_LENGTH + usize::from(state) * row_length(signals)..];
-    let place = 5 + 2 * usize::from(event);
-    let successor = |state: u16| u16::from_le_bytes([row(state)[place], row(state)[place + 1]]);
-    if successor(0) == NO_SUCCESSOR {
-        return ("an impossible event", Err(Refusal::new(12, 0)));
-    }
-    let end_state = successor(state);
-    if end_state == NO_SUCCESSOR {
-        return ("a missing successor", no_table);
-    }
-    if end_state >= states {
-        return ("a successor past the states", no_table);
-    }
-    let verdicts = [state, end_state].map(|state| Verdict::from_byte(row(state)[4]));
-    let [Some(_), Some(verdict)] = verdicts else {
-        return ("a verdict byte above 3", no_table);
+    let stepped = counted.step(state, event);
+    let came = match stepped {
+        Err(Halt::NoState | Halt::NoEvent) => "no state or event",
+        Err(Halt::ImpossibleEvent) => "an impossible event",
+        Err(Halt::MissingSuccessor) => "a missing successor",
+        Err(Halt::SuccessorPastTheStates) => "a successor past the states",
+        Err(Halt::NoVerdict) => "a verdict byte above 3",
+        Ok(_) => "answered",
     };
-    ("answered", Ok(RunResult { end_state, verdict, count: None }))
-}
-
-/// The signals and states of the counts, where they are a table's and the bytes have its length.
-fn fitting(table: &[u8], counts: u64) -> Option<(u8, u16)> {
-    let signals = u8::try_from(counts >> 16).ok().filter(|signals| (1..=4).contains(signals))?;
-    let states = Some(counts as u16).filter(|states| (1..=256).contains(states))?;
-    let length = HEADER_LENGTH + usize::from(states) * row_length(signals);
-    (table.len() == length).then_some((signals, states))
+    (came, stepped.map_err(Halt::refusal))
 }

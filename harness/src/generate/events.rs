@@ -41,7 +41,7 @@ pub fn state(rng: &mut Rng, table: &[u8]) -> u16 {
 }
 
 /// The bytes that can be handed to a table as events, as its first row says.
-struct Events {
+pub struct Events {
     signals: u8,
     possible: Vec<u8>,
     impossible: Vec<u8>,
@@ -49,7 +49,10 @@ struct Events {
 
 impl Events {
     fn of(rng: &mut Rng, table: &[u8]) -> Self {
-        let signals = signals(rng, table);
+        Self::over(signals(rng, table), table)
+    }
+
+    pub fn over(signals: u8, table: &[u8]) -> Self {
         let is_possible = |event: &u8| {
             let place = HEADER_LENGTH + 5 + 2 * usize::from(*event);
             table.get(place..place + 2) != Some(&NO_SUCCESSOR.to_le_bytes())
@@ -59,7 +62,7 @@ impl Events {
     }
 
     /// One that can happen, or any where none can.
-    fn good(&self, rng: &mut Rng) -> u8 {
+    pub fn good(&self, rng: &mut Rng) -> u8 {
         match self.possible.is_empty() {
             true => rng.byte_below(1 << self.signals),
             false => *rng.pick(&self.possible),
@@ -67,7 +70,7 @@ impl Events {
     }
 
     /// A byte that is no event, or an event that cannot happen.
-    fn bad(&self, rng: &mut Rng) -> u8 {
+    pub fn bad(&self, rng: &mut Rng) -> u8 {
         if !self.impossible.is_empty() && rng.chance(60) {
             return *rng.pick(&self.impossible);
         }
@@ -130,13 +133,12 @@ fn fitting(table: &[u8], signals: u8) -> Option<u64> {
     fits.then_some(u64::from(signals) * 65536 + states as u64)
 }
 
-/// A step with counts that need not be the table's.
-pub fn stray(rng: &mut Rng, table: &[u8]) -> (u64, Step) {
+/// Counts that need not be the table's.
+pub fn stray_counts(rng: &mut Rng, table: &[u8]) -> u64 {
     let any = number(rng);
-    let refusal = rng.below(18) as u64 * (1 << 56) + rng.below(300) as u64;
-    let mut step = step(rng, table);
+    let refusal = rng.below(21) as u64 * (1 << 56) + rng.below(300) as u64;
     let fit: Vec<u64> = (1..=4).filter_map(|signals| fitting(table, signals)).collect();
-    let counts = match rng.below(12) {
+    match rng.below(13) {
         0 => any,
         1 => refusal,
         2 => 4 * 65536 + 65535,
@@ -145,9 +147,17 @@ pub fn stray(rng: &mut Rng, table: &[u8]) -> (u64, Step) {
         5 => rng.between(0, 5) as u64 * 65536 + rng.below(65536) as u64,
         6 => rng.between(0, 5) as u64 * 65536 + rng.below(300) as u64,
         7 if !fit.is_empty() => rng.pick(&fit).wrapping_add(rng.below(3) as u64).wrapping_sub(1),
+        // The table's, if only its low bytes were read.
+        8 if !fit.is_empty() => *rng.pick(&fit) | 1 << rng.between(24, 63),
         _ if !fit.is_empty() => *rng.pick(&fit),
         _ => u64::from(signals(rng, table)) * 65536 + u64::from(states(table)),
-    };
+    }
+}
+
+/// A step with counts that need not be the table's.
+pub fn stray(rng: &mut Rng, table: &[u8]) -> (u64, Step) {
+    let counts = stray_counts(rng, table);
+    let mut step = step(rng, table);
     if rng.chance(60) {
         step.state = rng.below(((counts % 65536) as usize).max(1)) as u16;
     }

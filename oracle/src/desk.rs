@@ -1,0 +1,165 @@
+//! A desk, document 02's C-15: a lent row of watches, one per tunnel, all over one table.
+//!
+//! A tunnel's slots are a queue that is always as long as a watch has slots: what is heard leaves
+//! in front and a 0 enters behind. Whose turn it is comes of the row turned round until it begins
+//! behind the tunnel that was heard last.
+
+use std::collections::VecDeque;
+
+use crate::counted::{Counted, Halt};
+use crate::mask;
+use crate::refusal::Refusal;
+use crate::table::Verdict;
+
+/// The most tunnels of a desk.
+pub const ROW_LIMIT: usize = 64;
+/// The most events that wait for one tunnel, and the slots of a watch.
+pub const QUEUE_LIMIT: usize = 32;
+
+/// One watch as it is lent. Its numbers may be any.
+#[derive(Clone, Debug, PartialEq, Eq)]
+pub struct Tunnel {
+    pub state: u16,
+    /// How many of the slots count.
+    pub waiting: u16,
+    pub slots: VecDeque<u8>,
+}
+
+/// Why a watch is none of a desk over a table.
+#[derive(Clone, Copy, Debug, PartialEq, Eq)]
+pub enum Fault {
+    StateTooLarge,
+    OverTheLimit,
+    /// A waiting byte is not below 2^P.
+    NoEvent,
+    ImpossibleEvent,
+}
+
+/// What a turn heard.
+#[derive(Clone, Copy, Debug, PartialEq, Eq)]
+pub struct Heard {
+    pub number: usize,
+    pub event: u8,
+    pub state: u16,
+    pub verdict: Verdict,
+}
+
+/// What a call over a desk answers; only a turn hears something, if an event waits.
+pub type Served = Result<Option<Heard>, Refusal>;
+
+impl Tunnel {
+    /// State 0, and nothing waits.
+    pub fn fresh() -> Self {
+        Tunnel { state: 0, waiting: 0, slots: VecDeque::from([0; QUEUE_LIMIT]) }
+    }
+
+    /// The events that wait, oldest first. Of more than the slots, those in the slots.
+    pub fn queue(&self) -> impl Iterator<Item = u8> + '_ {
+        self.slots.iter().take(self.waiting.into()).copied()
+    }
+
+    /// The bytes past the queue, which are free.
+    pub fn free(&self) -> impl Iterator<Item = u8> + '_ {
+        self.slots.iter().skip(self.waiting.into()).copied()
+    }
+
+    /// All that makes the watch wrong, each once.
+    pub fn faults(&self, table: &Counted) -> Vec<Fault> {
+        let is_event = |event: u8| event < 1 << table.signals;
+        let is_impossible = |event: u8| is_event(event) && !mask::has(table.possible, event);
+        let all = [
+            (self.state >= table.states, Fault::StateTooLarge),
+            (usize::from(self.waiting) > QUEUE_LIMIT, Fault::OverTheLimit),
+            (!self.queue().all(is_event), Fault::NoEvent),
+            (self.queue().any(is_impossible), Fault::ImpossibleEvent),
+        ];
+        all.into_iter().filter(|(is_so, _)| *is_so).map(|(_, fault)| fault).collect()
+    }
+
+    fn push(&mut self, event: u8) {
+        self.slots[usize::from(self.waiting)] = event;
+        self.waiting += 1;
+    }
+
+    fn pop(&mut self) {
+        self.slots.pop_front();
+        self.slots.push_back(0);
+        self.waiting -= 1;
+    }
+}
+
+/// 18 for a row that is empty or above the limit.
+fn judge_row(desk: &[Tunnel]) -> Result<(), Refusal> {
+    match desk.len() {
+        1..=ROW_LIMIT => Ok(()),
+        _ => Err(Refusal::new(18, 0)),
+    }
+}
+
+/// 14 for counts that do not fit the bytes, then 18, then 13 at the first wrong watch.
+fn judge<'a>(desk: &[Tunnel], bytes: &'a [u8], counts: u64) -> Result<Counted<'a>, Refusal> {
+    let table = Counted::new(bytes, counts).ok_or(Refusal::new(14, 0))?;
+    judge_row(desk)?;
+    match desk.iter().position(|tunnel| !tunnel.faults(&table).is_empty()) {
+        Some(number) => Err(Refusal::new(13, number)),
+        None => Ok(table),
+    }
+}
+
+/// Every watch in state 0 with nothing waiting.
+pub fn fresh(desk: &mut [Tunnel]) -> Result<(), Refusal> {
+    judge_row(desk)?;
+    desk.fill(Tunnel::fresh());
+    Ok(())
+}
+
+/// Adds an event to a tunnel. Order 14, 18, 13, 19, 12, 20.
+pub fn post(
+    desk: &mut [Tunnel],
+    (bytes, counts): (&[u8], u64),
+    number: usize,
+    event: u8,
+) -> Result<(), Refusal> {
+    let table = judge(desk, bytes, counts)?;
+    let refused = |by: u8| Err(Refusal::new(by, number));
+    match desk.get_mut(number) {
+        None => refused(19),
+        Some(_) if !mask::has(table.possible, event) => refused(12),
+        Some(tunnel) if usize::from(tunnel.waiting) == QUEUE_LIMIT => refused(20),
+        Some(tunnel) => {
+            tunnel.push(event);
+            Ok(())
+        }
+    }
+}
+
+/// The numbers of a row in the order in which a turn looks at them: the one behind the last
+/// heard first, and that one itself at the end. A number outside the row is the last one's.
+pub fn order(row: usize, last: usize) -> VecDeque<usize> {
+    let mut numbers: VecDeque<usize> = (0..row).collect();
+    if numbers.contains(&last) {
+        while numbers.back() != Some(&last) {
+            numbers.rotate_left(1);
+        }
+    }
+    numbers
+}
+
+/// Hears the oldest event of the next tunnel that has one waiting, if any has. Order 14, 18, 13;
+/// then 14 for what is read of the table.
+pub fn turn(desk: &mut [Tunnel], (bytes, counts): (&[u8], u64), last: usize) -> Served {
+    let table = judge(desk, bytes, counts)?;
+    let next = order(desk.len(), last).into_iter().find(|&number| desk[number].waiting > 0);
+    let Some(number) = next else {
+        return Ok(None);
+    };
+    let tunnel = &mut desk[number];
+    let event = tunnel.slots[0];
+    let end = table.step(tunnel.state, event).map_err(Halt::refusal)?;
+    tunnel.pop();
+    tunnel.state = end.end_state;
+    Ok(Some(Heard { number, event, state: end.end_state, verdict: end.verdict }))
+}
+
+#[cfg(test)]
+mod tests;
