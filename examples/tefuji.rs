@@ -3,8 +3,12 @@
 //! second implementation.
 #![allow(dead_code)]
 
+use std::fmt;
+
 /// The functions as the library has them. The rest of this file is all that a program needs.
 pub mod library {
+    use super::Watch;
+
     extern "C" {
         pub fn tefuji_write(
             text: *const u8,
@@ -41,6 +45,24 @@ pub mod library {
             text: *mut u8,
             text_length: usize,
         ) -> u64;
+        pub fn tefuji_fresh(desk: *mut Watch, watches: usize) -> u64;
+        pub fn tefuji_post(
+            desk: *mut Watch,
+            watches: usize,
+            table: *const u8,
+            table_length: usize,
+            counts: u64,
+            number: usize,
+            event: u8,
+        ) -> u64;
+        pub fn tefuji_turn(
+            desk: *mut Watch,
+            watches: usize,
+            table: *const u8,
+            table_length: usize,
+            counts: u64,
+            last: usize,
+        ) -> u64;
     }
 }
 
@@ -53,12 +75,26 @@ pub const TABLE_MAX: usize = 9479;
 /// The bytes that `text` needs.
 pub const TEXT_ROOM: usize = 32768;
 
-/// A refusal: its number, 1 to 17, and its place. What was lent keeps every byte.
+/// The most watches of a desk.
+pub const DESK_MAX: usize = 64;
+
+/// The most events that wait for one tunnel.
+pub const QUEUE_MAX: usize = 32;
+
+/// A refusal: its number, 1 to 20, and its place. What was lent keeps every byte.
 #[derive(Clone, Copy, Debug, PartialEq, Eq)]
 pub struct Refusal {
     pub number: u8,
     pub place: u64,
 }
+
+impl fmt::Display for Refusal {
+    fn fmt(&self, out: &mut fmt::Formatter<'_>) -> fmt::Result {
+        write!(out, "refused {} at {}", self.number, self.place)
+    }
+}
+
+impl std::error::Error for Refusal {}
 
 #[derive(Clone, Copy, Debug, PartialEq, Eq)]
 pub enum Verdict {
@@ -66,6 +102,17 @@ pub enum Verdict {
     Satisfied,
     Violated,
     Moot,
+}
+
+impl fmt::Display for Verdict {
+    fn fmt(&self, out: &mut fmt::Formatter<'_>) -> fmt::Result {
+        out.write_str(match self {
+            Verdict::Undecided => "undecided",
+            Verdict::Satisfied => "satisfied",
+            Verdict::Violated => "violated",
+            Verdict::Moot => "moot",
+        })
+    }
 }
 
 /// Where an event or a list of events leads.
@@ -82,6 +129,32 @@ pub struct Ended {
     pub count: Option<u64>,
 }
 
+/// The watch of one tunnel: the state in which the table stands for it, how many events wait, and their slots, the oldest first. The first `waiting`
+/// slots count; the others are free. A desk is a row of watches, and a tunnel's number the index of its watch. Any values are a watch.
+#[repr(C)]
+#[derive(Clone, Copy, Debug, PartialEq, Eq)]
+pub struct Watch {
+    pub state: u16,
+    pub waiting: u16,
+    pub events: [u8; QUEUE_MAX],
+}
+
+/// The watch of include/tefuji.h has as many bytes, none of them between or behind its members.
+const _: () = assert!(size_of::<Watch>() == 4 + QUEUE_MAX && align_of::<Watch>() == 2);
+
+impl Watch {
+    /// In state 0 with nothing waiting, as every watch of a fresh desk.
+    pub const FRESH: Watch = Watch { state: 0, waiting: 0, events: [0; QUEUE_MAX] };
+}
+
+/// What a turn heard: the tunnel's number, which the next turn takes, its event, and where that led.
+#[derive(Clone, Copy, Debug, PartialEq, Eq)]
+pub struct Heard {
+    pub number: usize,
+    pub event: u8,
+    pub reached: Reached,
+}
+
 fn answered(answer: u64) -> Result<u64, Refusal> {
     match (answer >> 56) as u8 {
         0 => Ok(answer),
@@ -90,13 +163,20 @@ fn answered(answer: u64) -> Result<u64, Refusal> {
 }
 
 fn reached(answer: u64) -> Reached {
-    let verdict = match answer >> 16 {
+    let verdict = match (answer >> 16) as u8 {
         0 => Verdict::Undecided,
         1 => Verdict::Satisfied,
         2 => Verdict::Violated,
         _ => Verdict::Moot,
     };
     Reached { state: answer as u16, verdict }
+}
+
+/// Nothing where a turn's answer says that none waits.
+fn heard(answer: u64) -> Option<Heard> {
+    let number = usize::from((answer >> 32) as u8);
+    let heard = Heard { number, event: (answer >> 24) as u8, reached: reached(answer) };
+    (answer >> 40 == 1).then_some(heard)
 }
 
 /// Reads a rule text over so many signals, writes its rule file into the front of `rule`, and returns the file's length.
@@ -143,6 +223,13 @@ pub fn text(table: &[u8], text: &mut [u8]) -> Result<usize, Refusal> {
     answered(answer).map(|length| length as usize)
 }
 
+/// Makes a fresh desk of a row of watches, whatever stood there. A row that is empty or above `DESK_MAX` is refused by 18.
+pub fn fresh(desk: &mut [Watch]) -> Result<(), Refusal> {
+    // The slice is lent for the call.
+    let answer = unsafe { library::tefuji_fresh(desk.as_mut_ptr(), desk.len()) };
+    answered(answer).map(|_| ())
+}
+
 /// A table opened once and stepped many times. Only `open` makes one, so the counts are always those of the bytes.
 #[derive(Clone, Copy, Debug)]
 pub struct Opened<'a> {
@@ -171,5 +258,39 @@ impl<'a> Opened<'a> {
             library::tefuji_step(self.bytes.as_ptr(), self.bytes.len(), self.counts, state, event)
         };
         answered(answer).map(reached)
+    }
+
+    /// Adds an event to those that wait for the tunnel with this number.
+    pub fn post(self, desk: &mut [Watch], number: usize, event: u8) -> Result<(), Refusal> {
+        // Both slices are lent for the call, and a `&mut` overlaps nothing.
+        let answer = unsafe {
+            library::tefuji_post(
+                desk.as_mut_ptr(),
+                desk.len(),
+                self.bytes.as_ptr(),
+                self.bytes.len(),
+                self.counts,
+                number,
+                event,
+            )
+        };
+        answered(answer).map(|_| ())
+    }
+
+    /// Hears the oldest event of the next tunnel after `last` that has one waiting, going round; none where none waits, and `last` then stays what it
+    /// was. A number outside the row counts as the last tunnel.
+    pub fn turn(self, desk: &mut [Watch], last: usize) -> Result<Option<Heard>, Refusal> {
+        // Both slices are lent for the call, and a `&mut` overlaps nothing.
+        let answer = unsafe {
+            library::tefuji_turn(
+                desk.as_mut_ptr(),
+                desk.len(),
+                self.bytes.as_ptr(),
+                self.bytes.len(),
+                self.counts,
+                last,
+            )
+        };
+        answered(answer).map(heard)
     }
 }

@@ -5,7 +5,7 @@
 mod tefuji;
 
 use std::process::ExitCode;
-use tefuji::{Opened, Refusal, Verdict};
+use tefuji::{Opened, Refusal};
 
 const USAGE: &str = "usage: watch RULE EVENT..\n\nPrints the rule's table, then the state and the verdict after each event.";
 
@@ -28,8 +28,8 @@ fn main() -> ExitCode {
     };
     match watch(&rule, &events) {
         Ok(()) => ExitCode::SUCCESS,
-        Err(Refusal { number, place }) => {
-            println!("refused {number} at {place}");
+        Err(refusal) => {
+            println!("{refusal}");
             ExitCode::FAILURE
         }
     }
@@ -47,7 +47,7 @@ fn watch(rule: &[u8], events: &[u8]) -> Result<(), Refusal> {
     let mut state = 0;
     for &event in events {
         let reached = opened.step(state, event)?;
-        println!("event {event}: state {} {}", reached.state, word(reached.verdict));
+        println!("event {event}: state {} {}", reached.state, reached.verdict);
         state = reached.state;
     }
     let ended = tefuji::run(table, 0, events)?;
@@ -56,13 +56,4 @@ fn watch(rule: &[u8], events: &[u8]) -> Result<(), Refusal> {
         None => println!("never decided"),
     }
     Ok(())
-}
-
-fn word(verdict: Verdict) -> &'static str {
-    match verdict {
-        Verdict::Undecided => "undecided",
-        Verdict::Satisfied => "satisfied",
-        Verdict::Violated => "violated",
-        Verdict::Moot => "moot",
-    }
 }

@@ -1,0 +1,42 @@
+//! Watches several tunnels by one rule: `tunnels RULE NUMBER:EVENT..`. All events are posted, then turns are taken until none waits.
+//!
+//! Build: rt staticlib tefuji && rustc --edition 2021 -O -L target/staticlib -l static=tefuji examples/tunnels.rs -o tunnels
+//! Run:   ./tunnels examples/second_dose.rule 7:1 7:1 3:1 3:2 3:1
+mod tefuji;
+
+use std::error::Error;
+use tefuji::{Opened, Watch, DESK_MAX, TABLE_MAX};
+
+fn main() -> Result<(), Box<dyn Error>> {
+    let arguments: Vec<String> = std::env::args().skip(1).collect();
+    let Some((path, posts)) = arguments.split_first() else {
+        return Err("usage: tunnels RULE NUMBER:EVENT..".into());
+    };
+    let rule = std::fs::read(path)?;
+    let mut table = vec![0; TABLE_MAX];
+    let length = tefuji::build(&rule, &mut table)?;
+    serve(Opened::open(&table[..length])?, posts)
+}
+
+fn serve(opened: Opened, posts: &[String]) -> Result<(), Box<dyn Error>> {
+    let mut desk = [Watch::FRESH; DESK_MAX];
+    for post in posts {
+        let (number, event) = post.split_once(':').ok_or("a post is NUMBER:EVENT")?;
+        let (number, event) = (number.parse()?, event.parse()?);
+        // A refused event is said and left out; the desk is as it was.
+        if let Err(refusal) = opened.post(&mut desk, number, event) {
+            println!("{post}: {refusal}");
+        }
+    }
+    let mut last = DESK_MAX - 1; // the first turn begins with tunnel 0
+    while let Some(heard) = opened.turn(&mut desk, last)? {
+        let reached = heard.reached;
+        println!(
+            "{}:{} leads to state {} {}",
+            heard.number, heard.event, reached.state, reached.verdict
+        );
+        last = heard.number;
+    }
+    println!("none waits");
+    Ok(())
+}
