@@ -1,8 +1,10 @@
-//! What writing, building, opening and running cost in the proved library, beside plain Rust that does the same job. `bench/run` builds and runs it.
+//! What writing, building, opening, running and serving a desk cost in the proved library, beside plain Rust that does the same job. `bench/run` builds and runs it.
 mod building;
 mod clock;
+mod plain_desk;
 mod plain_writer;
 mod running;
+mod serving;
 mod stack;
 #[path = "../../examples/tefuji.rs"]
 mod tefuji;
@@ -16,5 +18,6 @@ fn main() {
     writing::report(&work);
     building::report(&work);
     running::report(&work);
+    serving::report(&work);
     stack::report();
 }

@@ -8,7 +8,8 @@ use oracle::vectors::mask_samples::NOT_ALONE;
 use oracle::vectors::rule_samples::{one_too_many, shared_nexts};
 
 use crate::building;
-use crate::tefuji::{self, Opened};
+use crate::serving;
+use crate::tefuji::{self, Opened, Watch, DESK_MAX, QUEUE_MAX};
 use crate::writing;
 
 /// How far down the stack is painted.
@@ -64,6 +65,11 @@ fn measure() {
     measure_making();
     measure_using("", &shared_nexts(5).to_bytes());
     measure_using(", 15 of 16 events", &one_too_many().with_mask(NOT_ALONE).to_bytes());
+    let mut desk = [Watch::FRESH; DESK_MAX];
+    print("fresh", OTHERS, || _ = black_box(tefuji::fresh(&mut desk)));
+    for (name, table) in serving::tables() {
+        measure_serving(name, &table);
+    }
 }
 
 fn measure_making() {
@@ -100,6 +106,21 @@ fn measure_using(which: &str, rule: &[u8]) {
     }
     print(&format!("step{which}"), OTHERS, || _ = black_box(opened.step(0, 0)));
     print(&format!("text{which}"), OTHERS, || _ = black_box(tefuji::text(table, &mut text)));
+}
+
+/// Posts and turns at a full row, with nothing waiting and with all slots but one or all taken.
+fn measure_serving(which: &str, table: &[u8]) {
+    let opened = Opened::open(table).expect("a table");
+    for waiting in [0, QUEUE_MAX - 1] {
+        let mut desk = serving::desk(table, waiting);
+        let name = format!("post, {waiting} waiting for each, {which}");
+        print(&name, OTHERS, || _ = black_box(opened.post(&mut desk, DESK_MAX - 1, 0)));
+    }
+    for waiting in [0, QUEUE_MAX] {
+        let mut desk = serving::desk(table, waiting);
+        let name = format!("turn, {waiting} waiting for each, {which}");
+        print(&name, OTHERS, || _ = black_box(opened.turn(&mut desk, 0)));
+    }
 }
 
 /// On a thread of its own, with room to paint.

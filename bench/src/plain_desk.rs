@@ -1,0 +1,104 @@
+//! A desk in plain Rust: the same checks as tefuji_post and tefuji_turn, written down as they are said.
+
+use crate::tefuji::{Watch, DESK_MAX, QUEUE_MAX};
+
+/// A refusal's number and place.
+pub type Refused = (u8, usize);
+
+/// What a turn heard: number, event, successor and its verdict.
+pub type Heard = (usize, u8, u16, u8);
+
+/// A table's bytes with counts in hand.
+struct Table<'a> {
+    bytes: &'a [u8],
+    events: usize,
+    states: usize,
+}
+
+impl<'a> Table<'a> {
+    fn new(bytes: &'a [u8], counts: u64) -> Result<Self, Refused> {
+        let (signals, states) = (counts >> 16, (counts & 65535) as usize);
+        if !(1..=4).contains(&signals) || !(1..=256).contains(&states) {
+            return Err((14, 0));
+        }
+        let events = 1 << signals;
+        match bytes.len() == 7 + states * (5 + 2 * events) {
+            true => Ok(Table { bytes, events, states }),
+            false => Err((14, 0)),
+        }
+    }
+
+    fn row(&self, state: usize) -> &[u8] {
+        &self.bytes[7 + state * (5 + 2 * self.events)..]
+    }
+
+    fn successor(&self, state: usize, event: u8) -> usize {
+        let place = 5 + 2 * usize::from(event);
+        u16::from_le_bytes([self.row(state)[place], self.row(state)[place + 1]]).into()
+    }
+
+    fn is_event(&self, event: u8) -> bool {
+        usize::from(event) < self.events && self.successor(0, event) != 65535
+    }
+
+    fn fits(&self, watch: &Watch) -> bool {
+        let waiting = usize::from(watch.waiting);
+        usize::from(watch.state) < self.states
+            && waiting <= QUEUE_MAX
+            && watch.events[..waiting].iter().all(|&event| self.is_event(event))
+    }
+}
+
+fn judge<'a>(desk: &[Watch], bytes: &'a [u8], counts: u64) -> Result<Table<'a>, Refused> {
+    let table = Table::new(bytes, counts)?;
+    if desk.is_empty() || desk.len() > DESK_MAX {
+        return Err((18, 0));
+    }
+    match desk.iter().position(|watch| !table.fits(watch)) {
+        Some(number) => Err((13, number)),
+        None => Ok(table),
+    }
+}
+
+pub fn post(
+    desk: &mut [Watch],
+    bytes: &[u8],
+    counts: u64,
+    number: usize,
+    event: u8,
+) -> Result<(), Refused> {
+    let table = judge(desk, bytes, counts)?;
+    let watch = desk.get_mut(number).ok_or((19, number))?;
+    if !table.is_event(event) {
+        return Err((12, number));
+    }
+    let slot = watch.events.get_mut(usize::from(watch.waiting)).ok_or((20, number))?;
+    *slot = event;
+    watch.waiting += 1;
+    Ok(())
+}
+
+pub fn turn(
+    desk: &mut [Watch],
+    bytes: &[u8],
+    counts: u64,
+    last: usize,
+) -> Result<Option<Heard>, Refused> {
+    let table = judge(desk, bytes, counts)?;
+    let last = last.min(desk.len() - 1);
+    let mut order = (last + 1..desk.len()).chain(0..=last);
+    let Some(number) = order.find(|&number| desk[number].waiting > 0) else {
+        return Ok(None);
+    };
+    let watch = &mut desk[number];
+    let (state, event) = (usize::from(watch.state), watch.events[0]);
+    let successor = table.successor(state, event);
+    if successor >= table.states || table.row(state)[4] > 3 || table.row(successor)[4] > 3 {
+        return Err((14, 0));
+    }
+    watch.state = successor as u16;
+    watch.waiting -= 1;
+    watch.events.copy_within(1.., 0);
+    watch.events[QUEUE_MAX - 1] = 0;
+    Ok(Some((number, event, successor as u16, table.row(successor)[4])))
+}
