@@ -1,6 +1,6 @@
--- An opened table tells what checking its bytes finds, and runs, steps and shows its rows as its bytes do; a refused opening does nothing else than refuse.
+-- An opened table tells what checking its bytes finds, and runs, steps, shows its rows and serves a desk as its bytes do; a refused opening does nothing else than refuse.
 -- Stepping through a list of events follows the table's monitor.
-use mathlib.Core.Path.{_≡_, refl, ap, _∙_}
+use mathlib.Core.Path.{_≡_, refl, sym, ap, _∙_}
 use mathlib.Core.List.{List, [], _∷_}
 use mathlib.Core.Bool.{Bool, true, false}
 use Prim.Native.Nat.{ℕ, _<_}
@@ -10,12 +10,18 @@ use Rattle.meaning.specs.Traces.{Alphabet, Event, Word}
 use Rattle.meaning.specs.Monitors.{follow}
 use Rattle.meaning.specs.TableFiles.{isTable, alphabetIn, signalsIn, statesIn, successor, checkedOf, monitorOf}
 use Rattle.meaning.specs.Runs.{runOf, ranIn, rowRead, rowIn}
+use Rattle.meaning.specs.Desks.{postOf, turnOf}
 use Rattle.meaning.specs.declared.Ran.{Ran}
+use Rattle.meaning.specs.declared.Watch.{Watch}
 use Rattle.meaning.specs.declared.Checked.{Checked}
 use Rattle.meaning.specs.declared.Checked.the-variants as Checked
 use Rattle.table_layout.proofs.Form.{event-test, states-some, table-header, table-inside}
 use Rattle.table_run.proofs.Answers.{run-table, run-refused, row-table, row-refused}
-use Rattle.opened.specs.OpenedTables.{countsOf, openedOf, outcomeBy, ranBy, rowBy, steppedBy, stateAfter, steppedAll}
+use Rattle.desk_tasks.specs.Surveys.{servedIn, servedOf}
+use Rattle.desk_tasks.specs.declared.Request.{Request}
+use Rattle.desk_tasks.specs.declared.Request.the-variants.{Post, Turn}
+use Rattle.desk_tasks.proofs.Tables.{served-none, served-refused, served-table}
+use Rattle.opened.specs.OpenedTables.{countsOf, openedOf, outcomeBy, ranBy, rowBy, steppedBy, stateAfter, steppedAll, postedBy, turnedBy}
 
 module _ (x : RefT (List ℕ)) where
   -- "Opening checks the bytes and refuses by 14"
@@ -41,6 +47,20 @@ module _ (x : RefT (List ℕ)) where
       go : (c : Checked) → checkedOf (now x) ≡ c → rowIn (now x) (countsOf c .signals) (countsOf c .states) s ≡ rowRead (now x) s
       go (Checked.Table P S) h = row-table (now x) s P S h
       go (Checked.Refused r) h = row-refused (now x) s r h
+
+  -- "A site runs up to 64 tunnels on one table"
+  opened-serves : (d : List Watch) (r : Request) → servedIn (now x) (openedOf x .signals) (openedOf x .states) r d ≡ servedOf (now x) r d
+  opened-serves d r = go (checkedOf (now x)) refl
+    where
+      go : (c : Checked) → checkedOf (now x) ≡ c → servedIn (now x) (countsOf c .signals) (countsOf c .states) r d ≡ servedOf (now x) r d
+      go (Checked.Table P S) h = served-table (now x) d P S r h
+      go (Checked.Refused y) h = served-none (now x) d 0 0 r refl ∙ sym (served-refused (now x) d r y h)
+
+  pub opened-posts : (d : List Watch) (i e : ℕ) → postedBy (openedOf x) d i e ≡ postOf (now x) d i e
+  opened-posts d i e = opened-serves d (Post i e)
+
+  pub opened-turns : (d : List Watch) (l : ℕ) → turnedBy (openedOf x) d l ≡ turnOf (now x) d l
+  opened-turns d l = opened-serves d (Turn l)
 
 -- ---- many steps
 

@@ -6,12 +6,14 @@ use lib.Dec.{leb}
 use denote.Ref.{RefT, now}
 use Rattle.meaning.specs.TableFiles.{checkedOf}
 use Rattle.meaning.specs.Runs.{ranIn, rowIn}
+use Rattle.meaning.specs.Desks.{Outcome, postIn, turnIn}
 use Rattle.meaning.specs.declared.Refusal.the-variants.{WrongTable}
 use Rattle.meaning.specs.declared.Checked.{Checked}
 use Rattle.meaning.specs.declared.Checked.the-variants as Checked
 use Rattle.meaning.specs.declared.Ran.{Ran}
 use Rattle.meaning.specs.declared.Ran.the-variants as Ran
 use Rattle.meaning.specs.declared.StateRow.{StateRow}
+use Rattle.meaning.specs.declared.Watch.{Watch}
 use Rattle.opened.specs.declared.Counts.{Counts}
 use Rattle.opened.specs.declared.Opened.{Opened}
 
@@ -52,3 +54,10 @@ stateAfter (Ran.Refused x) s = s
 abbrev pub steppedAll : Opened → ℕ → List ℕ → ℕ
 steppedAll t s [] = s
 steppedAll t s (e ∷ es) = steppedAll t (stateAfter (steppedBy t s e) s) es
+
+-- "A site runs up to 64 tunnels on one table": a post and a turn over an opened table
+abbrev pub postedBy : Opened → List Watch → ℕ → ℕ → Outcome
+postedBy t d i e = postIn (now (t .bytes)) (t .signals) (t .states) d i e
+
+abbrev pub turnedBy : Opened → List Watch → ℕ → Outcome
+turnedBy t d l = turnIn (now (t .bytes)) (t .signals) (t .states) d l

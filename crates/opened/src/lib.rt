@@ -3,11 +3,16 @@ ghost use mathlib.Core.Path.{_≡_};
 ghost use mathlib.Core.List.{_∷_, []};
 ghost use Rattle.meaning.specs.TableFiles.{checkedOf};
 ghost use Rattle.meaning.specs.Runs.{runOf, rowRead};
-ghost use Rattle.opened.specs.OpenedTables.{countsOf, openedOf, outcomeIn, outcomeBy, steppedBy, ranBy, rowBy, stateAfter, steppedAll};
+ghost use Rattle.opened.specs.OpenedTables.{countsOf, openedOf, outcomeIn, outcomeBy, steppedBy, ranBy, rowBy, stateAfter, steppedAll, postedBy, turnedBy};
+use desk::serve;
+use desk_tasks::post_request;
+use desk_tasks::turn_request;
 use meaning::Checked;
 use meaning::Ran;
 use meaning::Refusal;
+use meaning::Served;
 use meaning::StateRow;
+use meaning::Watch;
 
 // ---- over a slice and its counts
 
@@ -115,6 +120,28 @@ pub fn step_all<'a, 'e>(t: Opened<'a>, state: u16, events: &'e [u8]) -> u16
         i += 1;
     }
     s
+}
+
+// ---- a desk
+
+// Posts an event to the watch with a number: 14 where opening refused, then 18, 13, 19, 12 and 20.
+pub fn post<'d, 'a>(desk: &'d mut [Watch], t: Opened<'a>, number: usize, event: u8) -> Served
+    ensures { λ r. ⌜ (r ≡ postedBy (t .entry) (now (desk .entry)) number event .answer) × (now (desk .exit) ≡ postedBy (t .entry) (now (desk .entry)) number event .desk) ⌝ }
+{
+    serve(
+        desk,
+        t.bytes,
+        t.signals,
+        t.states,
+        post_request(number, event),
+    )
+}
+
+// Hears the oldest event of the next watch after the number last heard, going round: 14 where opening refused, then 18 and 13.
+pub fn turn<'d, 'a>(desk: &'d mut [Watch], t: Opened<'a>, last: usize) -> Served
+    ensures { λ r. ⌜ (r ≡ turnedBy (t .entry) (now (desk .entry)) last .answer) × (now (desk .exit) ≡ turnedBy (t .entry) (now (desk .entry)) last .desk) ⌝ }
+{
+    serve(desk, t.bytes, t.signals, t.states, turn_request(last))
 }
 
 // ---- with plain parameters
