@@ -34,7 +34,7 @@ use Rattle.desk_tasks.specs.declared.Request.the-variants.{Post, Turn}
 use Rattle.desk_tasks.specs.declared.Task.{Task}
 use Rattle.desk_tasks.specs.declared.Service.{Service}
 use Rattle.desk_tasks.specs.declared.Check.the-variants as Check
-use Rattle.desk_tasks.specs.Tasks.{Begun, lastIn, passOver, nextOf, wantedBy, wantedOf, rowChecks, refusing, postDecided, hearDecided, turnDecided, requestDecided, checkDecided, decidedOf}
+use Rattle.desk_tasks.specs.Tasks.{Begun, lastIn, passOver, nextOf, wantedBy, wantedOf, rowChecks, refusing, postChecks, addition, postDecided, hearDecided, turnDecided, requestDecided, checkDecided, decidedOf}
 use Rattle.desk_tasks.specs.Surveys.{servedIn, Surveyed}
 use Rattle.desk_tasks.proofs.Passes.{Kept, lowest, lowest-least, pass-kept, pass-wrong, pass-waits, pass-later}
 use Rattle.desk_tasks.proofs.Nexts.{next-is}
@@ -154,9 +154,7 @@ module _ (t : List ℕ) (P S : ℕ) (r : Request) (d : List Watch) (s₀ s : Tas
         (record { answer = Served.Done; desk = set d i (withEvent (watchAt d i) e) })
     post-so i e w q =
         let can : eqb (bit e (s .mask)) 1 ≡ isEvent Σ e = ap (λ (m : ℕ). eqb (bit e m) 1) (kept .mask) ∙ bits .bits e in
-        applied-first d s w long ((leb (s .length) i, WrongNumber i) ∷ (not (eqb (bit e (s .mask)) 1), WrongEvent i) ∷ (leb 32 (w .waiting), QueueFull i) ∷ [])
-        (record { number = i; watch = withEvent w e; answer = Served.Done })
-        ∙ rw (long, can, q)
+        applied-first d s w long (postChecks s w i e) (addition w i e) ∙ rw (long, can, q)
 
     -- a turn that hears number i, and one that hears none
     abbrev hearing : ℕ → Outcome

@@ -93,14 +93,19 @@ abbrev pub refusing : Task → Watch → Refusal → Service
 refusing s w x = record { number = s .length; watch = w; answer = Served.Refused x }
 
 -- 19, 12 and 20
-abbrev pub postDecided : Task → Watch → ℕ → ℕ → Service
-postDecided s w i e =
-    firstOf (refusing s w)
-    ((leb (s .length) i, WrongNumber i)
+abbrev pub postChecks : Task → Watch → ℕ → ℕ → List (Bool × Refusal)
+postChecks s w i e =
+    (leb (s .length) i, WrongNumber i)
     ∷ (not (eqb (bit e (s .mask)) 1), WrongEvent i)
     ∷ (leb 32 (w .waiting), QueueFull i)
-    ∷ [])
-    (record { number = i; watch = withEvent w e; answer = Served.Done })
+    ∷ []
+
+-- the watch w, which has number i, with the event e
+abbrev pub addition : Watch → ℕ → ℕ → Service
+addition w i e = record { number = i; watch = withEvent w e; answer = Served.Done }
+
+abbrev pub postDecided : Task → Watch → ℕ → ℕ → Service
+postDecided s w i e = firstOf (refusing s w) (postChecks s w i e) (addition w i e)
 
 -- hearing the oldest event of watch w, which has number i, where the run over it ended so
 abbrev pub hearDecided : Task → Watch → ℕ → Ran → Service
