@@ -1,19 +1,27 @@
--- A step with counts: those that a check answered, and those that none can.
+-- A step, a post and a turn with counts: those that a check answered, and those that none can.
 use mathlib.Core.Path.{_≡_, refl, sym, subst, _∙_}
 use mathlib.Core.List.{List, [], _∷_}
-use mathlib.Core.Bool.{Bool, true, false}
+use mathlib.Core.Bool.{Bool, true, false, cond}
 use Prim.Native.Nat.{ℕ, _+_, _*_, _/_, _%_, _≤_, _<_}
 use native.Mathlib.Omega.{arith}
 use borrow.Author.Tests.{lt-leb, le-leb, ltb-true}
-use Rattle.meaning.specs.TableFiles.{signalsIn, statesIn, isTable, checkedOf}
-use Rattle.meaning.specs.Runs.{runOf}
+use lib.Dec.{ltb}
+use Rattle.sequences.proofs.Tests.{fails}
+use Rattle.meaning.specs.TableFiles.{signalsIn, statesIn, isTable, countsTests, checkedOf}
+use Rattle.meaning.specs.Runs.{countsFit, runOf}
+use Rattle.meaning.specs.Desks.{Outcome}
+use Rattle.meaning.specs.declared.Refusal.{Refusal}
 use Rattle.meaning.specs.declared.Refusal.the-variants.{WrongTable}
 use Rattle.meaning.specs.declared.Checked.{Checked}
 use Rattle.meaning.specs.declared.Checked.the-variants as Checked
 use Rattle.meaning.specs.declared.Ran.the-variants as Ran
+use Rattle.meaning.specs.declared.Watch.{Watch}
 use Rattle.table_layout.proofs.Form.{table-header, states-few}
-use Rattle.table_run.proofs.Answers.{run-table, run-refused}
-use Rattle.codes.specs.Codes.{refusalCode, countsCode, stepOf}
+use Rattle.table_run.proofs.Answers.{found, run-table, run-refused}
+use Rattle.desk_tasks.specs.Surveys.{servedIn, servedOf}
+use Rattle.desk_tasks.specs.declared.Request.{Request}
+use Rattle.desk_tasks.proofs.Tables.{served-none, served-refused, served-table}
+use Rattle.codes.specs.Codes.{refusalCode, countsCode, countsIn, stepOf}
 
 -- over more than four signals there is no table
 pub step-none : (t : List ℕ) (c s e : ℕ) → 4 < c / 65536 → Ran.Refused WrongTable ≡ stepOf t c s e
@@ -45,3 +53,43 @@ module _ (t : List ℕ) (s e : ℕ) where
       go false h =
           let k : checkedOf t ≡ Checked.Refused WrongTable = rw h in
           subst (λ (c : Checked). stepOf t (countsCode c) s e ≡ runOf t s (e ∷ [])) (sym k) (step-refused k)
+
+-- ---- a desk
+
+module _ (t : List ℕ) (d : List Watch) (r : Request) where
+  abbrev servedAt : ℕ → Outcome
+  servedAt c = servedIn t (c / 65536) (c % 65536) r d
+
+  -- counts of more than four signals fit no table
+  many-none : (c : ℕ) → 4 < c / 65536 → countsFit t (c / 65536) (c % 65536) ≡ false
+  many-none c h = fails (countsTests t (c / 65536) (c % 65536)) 1 (lt-leb (c / 65536) 4 h)
+
+  -- the counts that are taken out of a number serve as the number says
+  pub served-counts : (c : ℕ) → servedIn t (countsIn c .signals) (countsIn c .states) r d ≡ servedAt c
+  served-counts c = go (ltb 4 (c / 65536)) refl
+    where
+      go : (b : Bool) → ltb 4 (c / 65536) ≡ b → servedIn t (countsIn c .signals) (countsIn c .states) r d ≡ servedAt c
+      go true h = rw h (served-none t d 0 0 r refl ∙ sym (served-none t d (c / 65536) (c % 65536) r (many-none c (ltb-true 4 (c / 65536) h))))
+      go false h = rw h
+
+  -- checking refuses by 14 alone
+  large : (x : Refusal) → checkedOf t ≡ Checked.Refused x → 4 < refusalCode x / 65536
+  large x k = go (isTable t) k
+    where
+      go : (b : Bool) → cond b (Checked.Table (signalsIn t) (statesIn t)) (Checked.Refused WrongTable) ≡ Checked.Refused x → 4 < refusalCode x / 65536
+      go true q = let z : _≡_ {A = ℕ} 0 1 = cc in absurd (omega arith)
+      go false q =
+          let e : WrongTable ≡ x = cc in
+          subst (λ (y : Refusal). 4 < refusalCode y / 65536) e refused-large
+
+  served-at : (c : Checked) → checkedOf t ≡ c → servedAt (countsCode c) ≡ servedOf t r d
+  served-at (Checked.Table P S) k =
+      let few : S ≤ 256 = omega (arith, found t P S k .states, states-few t (table-header t (found t P S k .table))) in
+      let a : (P * 65536 + S) / 65536 ≡ P = omega (arith, few) in
+      let b : (P * 65536 + S) % 65536 ≡ S = omega (arith, few) in
+      rw (a, b) (served-table t d P S r k)
+  served-at (Checked.Refused x) k = served-none t d (refusalCode x / 65536) (refusalCode x % 65536) r (many-none (refusalCode x) (large x k)) ∙ sym (served-refused t d r x k)
+
+  -- with the counts that checking the bytes answers, whatever the bytes, a post and a turn are those over the table
+  pub served-checked : servedAt (countsCode (checkedOf t)) ≡ servedOf t r d
+  served-checked = served-at (checkedOf t) refl

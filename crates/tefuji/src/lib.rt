@@ -5,17 +5,25 @@ ghost use Rattle.meaning.specs.RuleFiles.{judge};
 ghost use Rattle.meaning.specs.TableFiles.{checkedOf};
 ghost use Rattle.meaning.specs.Runs.{runOf};
 ghost use Rattle.building.specs.Build.{answerOf, outputAfter, Right};
-ghost use Rattle.codes.specs.Codes.{builtCode, countsCode, ranCode, countAfter, stepOf, textCode};
+ghost use Rattle.meaning.specs.Desks.{freshOf};
+ghost use Rattle.codes.specs.Codes.{builtCode, countsCode, ranCode, countAfter, stepOf, textCode, servedCode, postAt, turnAt};
 ghost use Rattle.table_text.specs.Text.{textAnswer, textAfter};
 ghost use Rattle.tefuji.specs.Writing.{Written};
 use codes::built_code;
 use codes::count_after;
 use codes::counts_code;
+use codes::counts_in;
 use codes::ran_code;
 use codes::refusal_code;
+use codes::served_code;
 use codes::text_code;
 use codes::written_code;
+use desk::fresh;
+use desk::serve;
+use desk_tasks::post_request;
+use desk_tasks::turn_request;
 use meaning::Refusal;
+use meaning::Watch;
 
 // Writes the rule file of a text into the front of a buffer. Answers the file's length.
 #[no_mangle]
@@ -74,4 +82,49 @@ pub extern "C" fn tefuji_text(table: &[u8], text: &mut [u8]) -> u64
     ensures { λ _. ⌜ now (text .exit) ≡ textAfter (now (table .entry)) (now (text .entry)) ⌝ }
 {
     text_code(table_text::table_text(table, text))
+}
+
+// ---- a desk of watches
+
+// Makes a fresh desk of the row. Answers 0.
+#[no_mangle]
+pub extern "C" fn tefuji_fresh(desk: &mut [Watch]) -> u64
+    ensures { λ r. ⌜ (r ≡ servedCode (freshOf (now (desk .entry)) .answer)) × (now (desk .exit) ≡ freshOf (now (desk .entry)) .desk) ⌝ }
+{
+    served_code(fresh(desk))
+}
+
+// Posts an event to the watch with a number, over a table that was checked, whose counts the check answered. Answers 0.
+#[no_mangle]
+pub extern "C" fn tefuji_post<'d, 't>(
+    desk: &'d mut [Watch],
+    table: &'t [u8],
+    counts: u64,
+    number: usize,
+    event: u8,
+) -> u64
+    ensures { λ r. ⌜ (r ≡ servedCode (postAt (now (table .entry)) counts (now (desk .entry)) number event .answer)) × (now (desk .exit) ≡ postAt (now (table .entry)) counts (now (desk .entry)) number event .desk) ⌝ }
+{
+    let c = counts_in(counts);
+    served_code(serve(
+        desk,
+        table,
+        c.signals,
+        c.states,
+        post_request(number, event),
+    ))
+}
+
+// Hears the oldest event of the next watch after the number last heard. Answers what was heard, or 0 where no event waits.
+#[no_mangle]
+pub extern "C" fn tefuji_turn<'d, 't>(
+    desk: &'d mut [Watch],
+    table: &'t [u8],
+    counts: u64,
+    last: usize,
+) -> u64
+    ensures { λ r. ⌜ (r ≡ servedCode (turnAt (now (table .entry)) counts (now (desk .entry)) last .answer)) × (now (desk .exit) ≡ turnAt (now (table .entry)) counts (now (desk .entry)) last .desk) ⌝ }
+{
+    let c = counts_in(counts);
+    served_code(serve(desk, table, c.signals, c.states, turn_request(last)))
 }
