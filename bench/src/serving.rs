@@ -99,7 +99,7 @@ pub fn report(work: &Work) {
                 |desk: &mut [Watch]| plain_desk::post(desk, table, counts, SERVED, 0).expect(GOOD);
             print_row(work, name, desk(table, waiting), ours, plain);
         }
-        for waiting in [0, 1, QUEUE_MAX] {
+        for waiting in [0, 1, 3, QUEUE_MAX] {
             let name = format!("turn, {waiting} waiting for each, {name}");
             let ours = |desk: &mut [Watch]| opened.turn(desk, LAST).expect(GOOD).map(parts);
             let plain =

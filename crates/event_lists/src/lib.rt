@@ -47,7 +47,7 @@ fn full_below(mask: u16) -> usize
 }
 
 // Whether the mask has all the events. It does not stop at one that is missing: most lists have none, and so it is faster.
-fn each_in(mask: u16, events: &[u8]) -> bool
+pub fn each_in(mask: u16, events: &[u8]) -> bool
     ensures { λ r. ⌜ r ≡ allIn mask (now (events .entry)) ⌝ }
 {
     let mut all = true;

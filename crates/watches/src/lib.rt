@@ -4,10 +4,24 @@ ghost use mathlib.Core.Bool.{_&&_};
 ghost use Prim.Native.Nat.{_-_, _<_};
 ghost use lib.Dec.{leb};
 ghost use Rattle.meaning.specs.Desks.{freshWatch, oldest, withEvent, withoutOldest};
+ghost use Rattle.event_lists.specs.Masks.{allIn};
 ghost use Rattle.watches.specs.Fitting.{fitsIn, shifted};
 use event_lists::all_in;
+use event_lists::each_in;
+use events::can_happen;
 use meaning::Watch;
+use wire::wide;
 use wire::wide16;
+
+// Whether the mask has all the events. A few are looked at one by one, which is faster for these.
+fn queue_fits(mask: u16, events: &[u8]) -> bool
+    ensures { λ r. ⌜ r ≡ allIn mask (now (events .entry)) ⌝ }
+{
+    if events.len() < 4 {
+        return each_in(mask, events);
+    }
+    all_in(mask, events)
+}
 
 // Whether the state is one of a table's, at most 32 events wait, and each of them can happen, by the table's mask.
 pub fn fits(w: Watch, mask: u16, states: u16) -> bool
@@ -21,9 +35,15 @@ pub fn fits(w: Watch, mask: u16, states: u16) -> bool
     if 32 < waiting {
         return false;
     }
+    if waiting < 1 {
+        return true;
+    }
     let events = w.events;
+    if waiting < 2 {
+        return can_happen(mask, wide(events[0]));
+    }
     let end = wide16(waiting);
-    all_in(mask, &events[0..end])
+    queue_fits(mask, &events[0..end])
 }
 
 // Whether a row has 1 to 64 watches.
