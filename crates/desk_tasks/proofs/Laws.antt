@@ -1,28 +1,31 @@
 -- Laws of the decisions.
 --     never       no test is both
 --     barred      whether an event can happen, as the code asks it
---     decided-refused, decided-request, turn-none, turn-ended, turn-refused      what is decided, by cases
+--     decided-refused, decided-request, turn-none, turn-some      what is decided, by cases
+--     byTests, few-first                   hearing as three tests
+--     hear-many, hear-outside, hear-barred, hear-off, hear-ended           what hearing comes to, by cases
 use mathlib.Core.Path.{_≡_, sym, ap, _∙_}
-use mathlib.Core.Bool.{Bool, true, false, not}
+use mathlib.Core.Bool.{Bool, true, false, cond, not, _&&_}
 use mathlib.Core.List.{List, [], _∷_}
 use Prim.Native.Nat.{ℕ, _≤_, _<_}
 use native.Mathlib.Omega.{arith}
-use borrow.Author.Tests.{le-leb, lt-leb}
-use lib.Dec.{eqb}
+use borrow.Author.Tests.{le-leb, lt-leb, lt-ltb, le-ltb}
+use lib.Dec.{ltb, eqb}
 use Rattle.meaning.specs.Bytes.{bit}
-use Rattle.meaning.specs.Runs.{ranIn}
+use Rattle.meaning.specs.RuleFiles.{firstOf}
+use Rattle.meaning.specs.TableFiles.{successor, verdictByte, verdictOf}
+use Rattle.meaning.specs.Runs.{inTable}
 use Rattle.meaning.specs.Desks.{oldest, withoutOldest}
 use Rattle.meaning.specs.declared.Refusal.{Refusal}
+use Rattle.meaning.specs.declared.Refusal.the-variants.{WrongEvent, WrongState, WrongTable}
 use Rattle.meaning.specs.declared.Verdict.{Verdict}
-use Rattle.meaning.specs.declared.Decided.{Decided}
-use Rattle.meaning.specs.declared.Ran.{Ran}
-use Rattle.meaning.specs.declared.Ran.the-variants as Ran
 use Rattle.meaning.specs.declared.Watch.{Watch}
 use Rattle.meaning.specs.declared.Served.the-variants as Served
 use Rattle.desk_tasks.specs.declared.Request.{Request}
 use Rattle.desk_tasks.specs.declared.Task.{Task}
+use Rattle.desk_tasks.specs.declared.Service.{Service}
 use Rattle.desk_tasks.specs.declared.Check.the-variants as Check
-use Rattle.desk_tasks.specs.Tasks.{nextOf, rowChecked, refusing, hearDecided, turnDecided, requestDecided, checkDecided, decidedOf}
+use Rattle.desk_tasks.specs.Tasks.{nextOf, rowChecked, refusing, hearing, heardFrom, turnDecided, requestDecided, checkDecided, decidedOf}
 
 pub never : {A : Type 0} → false ≡ true → A
 never q = let z : _≡_ {A = ℕ} 0 1 = cc in absurd (omega arith)
@@ -41,20 +44,62 @@ module _ (t : List ℕ) (s : Task) (w : Watch) where
   unfolding decidedOf
   decided-request e q = ap (requestDecided t s w) (sym q) ∙ ap (checkDecided t s w) (sym e)
 
-  -- hearing, where a watch waits, and the run over its oldest event was so
-  turn-heard : (l : ℕ) {r : Ran} → nextOf s < s .length → ranIn t (s .signals) (s .states) (w .state) (oldest w ∷ []) ≡ r → hearDecided s w (nextOf s) r ≡ turnDecided t s w l
-  turn-heard l b e = rw (lt-leb (s .length) (nextOf s) b) (ap (hearDecided s w (nextOf s)) (sym e))
-
   pub turn-none : (l : ℕ) {n : ℕ} → n ≡ nextOf s → s .length ≤ n → record { number = s .length; watch = w; answer = Served.NoneWaits l } ≡ turnDecided t s w l
   turn-none l p b = let q : s .length ≤ nextOf s = omega arith in rw (le-leb (s .length) (nextOf s) q)
 
-  module _ (l : ℕ) {n e : ℕ} {r : Ran} (p : n ≡ nextOf s) (b : n < s .length) (q : e ≡ oldest w) (k : r ≡ ranIn t (s .signals) (s .states) (w .state) (e ∷ [])) where
-    ran-so : {x : Ran} → r ≡ x → ranIn t (s .signals) (s .states) (w .state) (oldest w ∷ []) ≡ x
-    ran-so h = ap (λ (y : ℕ). ranIn t (s .signals) (s .states) (w .state) (y ∷ [])) (sym q) ∙ sym k ∙ h
+  pub turn-some : (l : ℕ) {n : ℕ} → n ≡ nextOf s → n < s .length → heardFrom t s w n ≡ turnDecided t s w l
+  turn-some l p b = let q : nextOf s < s .length = omega arith in rw (lt-leb (s .length) (nextOf s) q) (ap (heardFrom t s w) p)
 
-    pub turn-ended : {to : ℕ} {v : Verdict} {c : Decided} {u : Watch} → r ≡ Ran.Ended to v c → u ≡ withoutOldest w to
-        → record { number = n; watch = u; answer = Served.Heard n e to v } ≡ turnDecided t s w l
-    turn-ended h z = rw (z, q, p) (turn-heard l (omega arith) (ran-so h))
+-- ---- hearing
 
-    pub turn-refused : {x : Refusal} → r ≡ Ran.Refused x → refusing s w x ≡ turnDecided t s w l
-    turn-refused h = turn-heard l (omega arith) (ran-so h)
+-- 13, 12 and 14, where these tests hold
+abbrev pub byTests : Task → Watch → Service → Bool → Bool → Bool → Service
+byTests s w y outside barred off = firstOf (refusing s w) ((outside, WrongState) ∷ (barred, WrongEvent 0) ∷ (off, WrongTable) ∷ []) y
+
+module _ (t : List ℕ) (s : Task) (w : Watch) (i : ℕ) where
+  -- where the event leads, whether the way there is the table's, and what is then heard
+  abbrev pub leads : ℕ
+  leads = successor t (s .signals) (w .state) (oldest w)
+
+  abbrev pub wayHere : Bool
+  wayHere = inTable t (s .signals) (s .states) (w .state) && inTable t (s .signals) (s .states) leads
+
+  abbrev pub heardHere : Service
+  heardHere = hearing w i leads (verdictOf (verdictByte t (s .signals) leads))
+
+  pub few-first : s .signals ≤ 4 → heardFrom t s w i ≡ byTests s w heardHere (not (ltb (w .state) (s .states))) (not (eqb (bit (oldest w) (s .mask)) 1)) (not wayHere)
+  few-first few =
+      ap (λ (b : Bool). cond b (refusing s w WrongTable) (byTests s w heardHere (not (ltb (w .state) (s .states))) (not (eqb (bit (oldest w) (s .mask)) 1)) (not wayHere)))
+      (ap not (le-leb (s .signals) 4 few))
+
+  pub hear-many : 4 < s .signals → refusing s w WrongTable ≡ heardFrom t s w i
+  hear-many h = rw (lt-leb (s .signals) 4 h)
+
+  module _ (few : s .signals ≤ 4) where
+    pub hear-outside : s .states ≤ w .state → refusing s w WrongState ≡ heardFrom t s w i
+    hear-outside h = rw (le-leb (s .signals) 4 few, le-ltb (w .state) (s .states) h)
+
+    module _ (inside : w .state < s .states) {e x : ℕ} {r : Bool} (old : e ≡ oldest w) (wide : x ≡ e) (can : r ≡ eqb (bit x (s .mask)) 1) where
+      pub hear-barred : not r ≡ true → refusing s w (WrongEvent 0) ≡ heardFrom t s w i
+      hear-barred q = rw (le-leb (s .signals) 4 few, lt-ltb (w .state) (s .states) inside, barred (s .mask) (oldest w) (wide ∙ old) can q)
+
+      module _ (q : not r ≡ false) {to : ℕ} {f : Bool} (go : to ≡ successor t (s .signals) (w .state) e) (way : f ≡ (inTable t (s .signals) (s .states) (w .state) && inTable t (s .signals) (s .states) to)) where
+        there : to ≡ successor t (s .signals) (w .state) (oldest w)
+        there = go ∙ ap (successor t (s .signals) (w .state)) old
+
+        way-so : {b : Bool} → not f ≡ b → not wayHere ≡ b
+        way-so h = ap (λ (y : ℕ). not (inTable t (s .signals) (s .states) (w .state) && inTable t (s .signals) (s .states) y)) (sym there) ∙ ap not (sym way) ∙ h
+
+        passed-to : (b : Bool) → not f ≡ b → heardFrom t s w i ≡ cond b (refusing s w WrongTable) heardHere
+        passed-to b h =
+            few-first few
+            ∙ ap (λ (x : Bool). byTests s w heardHere x (not (eqb (bit (oldest w) (s .mask)) 1)) (not wayHere)) (ap not (lt-ltb (w .state) (s .states) inside))
+            ∙ ap (λ (x : Bool). byTests s w heardHere false x (not wayHere)) (barred (s .mask) (oldest w) (wide ∙ old) can q)
+            ∙ ap (λ (x : Bool). byTests s w heardHere false false x) (way-so h)
+
+        pub hear-off : not f ≡ true → refusing s w WrongTable ≡ heardFrom t s w i
+        hear-off h = sym (passed-to true h)
+
+        pub hear-ended : not f ≡ false → {v : Verdict} {u : Watch} → v ≡ verdictOf (verdictByte t (s .signals) to) → u ≡ withoutOldest w to
+            → record { number = i; watch = u; answer = Served.Heard i e to v } ≡ heardFrom t s w i
+        hear-ended h p z = rw (z, p, old, there) (sym (passed-to false h))

@@ -16,26 +16,28 @@ use Rattle.sequences.specs.Tabulate.{every, allBelow, leastBelow}
 use Rattle.sequences.proofs.Pointwise.{least-same}
 use Rattle.meaning.specs.Bytes.{bit}
 use Rattle.meaning.specs.Traces.{Alphabet, isEvent}
-use Rattle.meaning.specs.TableFiles.{alphabetIn}
+use Rattle.meaning.specs.TableFiles.{alphabetIn, monitorIn}
 use Rattle.meaning.specs.RuleFiles.{firstOf}
-use Rattle.meaning.specs.Runs.{countsFit, ranIn}
+use Rattle.meaning.specs.Runs.{endOf, countsFit, onTable, tested, ranIn}
 use Rattle.meaning.specs.Desks.{Outcome, refused, rowFits, watchFits, queue, firstWrong, deskChecks, watchAt, oldest, withEvent, after, passed, heardBy, postBy, turnBy, postIn, turnIn}
 use Rattle.meaning.specs.declared.Refusal.{Refusal}
-use Rattle.meaning.specs.declared.Refusal.the-variants.{WrongEvent, WrongWatch, WrongTable, WrongDesk, WrongNumber, QueueFull}
+use Rattle.meaning.specs.declared.Refusal.the-variants.{WrongEvent, WrongState, WrongWatch, WrongTable, WrongDesk, WrongNumber, QueueFull}
 use Rattle.meaning.specs.declared.Ran.{Ran}
 use Rattle.meaning.specs.declared.Ran.the-variants as Ran
 use Rattle.meaning.specs.declared.Watch.{Watch}
 use Rattle.meaning.specs.declared.Served.the-variants as Served
 use Rattle.event_lists.specs.Masks.{allIn}
 use Rattle.table_layout.specs.Masks.{MaskIn}
+use Rattle.table_layout.proofs.Form.{counts-few}
 use Rattle.watches.specs.Fitting.{fitsIn}
 use Rattle.desk_tasks.specs.declared.Request.{Request}
 use Rattle.desk_tasks.specs.declared.Request.the-variants.{Post, Turn}
 use Rattle.desk_tasks.specs.declared.Task.{Task}
 use Rattle.desk_tasks.specs.declared.Service.{Service}
 use Rattle.desk_tasks.specs.declared.Check.the-variants as Check
-use Rattle.desk_tasks.specs.Tasks.{Begun, lastIn, passOver, nextOf, wantedBy, wantedOf, rowChecks, refusing, postChecks, addition, postDecided, hearDecided, turnDecided, requestDecided, checkDecided, decidedOf}
+use Rattle.desk_tasks.specs.Tasks.{Begun, lastIn, passOver, nextOf, wantedBy, wantedOf, rowChecks, refusing, postChecks, addition, postDecided, hearDecided, heardFrom, turnDecided, requestDecided, checkDecided, decidedOf}
 use Rattle.desk_tasks.specs.Surveys.{servedIn, Surveyed}
+use Rattle.desk_tasks.proofs.Laws.{byTests, wayHere, heardHere, few-first}
 use Rattle.desk_tasks.proofs.Passes.{Kept, lowest, lowest-least, pass-kept, pass-wrong, pass-waits, pass-later}
 use Rattle.desk_tasks.proofs.Nexts.{next-is}
 
@@ -96,6 +98,45 @@ module _ (t : List ℕ) (P m : ℕ) (bits : MaskIn t P m) where
 
   fits-so : (S : ℕ) (w : Watch) → fitsIn m S w ≡ watchFits (alphabetIn t P) S w
   fits-so S w = ap (λ (b : Bool). every (ltb (w .state) S ∷ leb (w .waiting) 32 ∷ b ∷ [])) (all-events (queue w))
+
+-- ---- hearing from what the task knows is a run over the event
+
+module _ (t : List ℕ) (s : Task) (w : Watch) (i : ℕ) where
+  abbrev e : ℕ
+  e = oldest w
+
+  -- the run by the same tests
+  abbrev ranBy : Bool → Bool → Bool → Ran
+  ranBy inside can way =
+      tested way
+      (cond inside
+      (cond (ltb (cond (not can) 0 1) 1) (Ran.Refused (WrongEvent (cond (not can) 0 1))) (endOf (monitorIn t (s .signals) (s .states)) (w .state) (e ∷ [])))
+      (Ran.Refused WrongState))
+
+  by-tests : (inside can way : Bool) → byTests s w (heardHere t s w i) (not inside) (not can) (not way) ≡ hearDecided s w i (ranBy inside can way)
+  by-tests true true true = refl
+  by-tests true true false = refl
+  by-tests true false true = refl
+  by-tests true false false = refl
+  by-tests false can true = refl
+  by-tests false can false = refl
+
+  -- over the task's own counts
+  heard-own : countsFit t (s .signals) (s .states) ≡ true → eqb (bit e (s .mask)) 1 ≡ isEvent (alphabetIn t (s .signals)) e
+      → heardFrom t s w i ≡ hearDecided s w i (ranIn t (s .signals) (s .states) (w .state) (e ∷ []))
+  unfolding onTable
+  heard-own fit can =
+      few-first t s w i (counts-few t (s .signals) (s .states) fit)
+      ∙ ap (λ (x : Bool). byTests s w (heardHere t s w i) (not (ltb (w .state) (s .states))) (not x) (not (wayHere t s w i))) can
+      ∙ by-tests (ltb (w .state) (s .states)) (isEvent (alphabetIn t (s .signals)) e) (wayHere t s w i)
+      ∙ ap (λ (b : Bool). hearDecided s w i (cond b (ranBy (ltb (w .state) (s .states)) (isEvent (alphabetIn t (s .signals)) e) (wayHere t s w i)) (Ran.Refused WrongTable))) (sym fit)
+
+  heard-so : (P S : ℕ) → s .signals ≡ P → s .states ≡ S → countsFit t P S ≡ true → eqb (bit e (s .mask)) 1 ≡ isEvent (alphabetIn t P) e
+      → heardFrom t s w i ≡ hearDecided s w i (ranIn t P S (w .state) (e ∷ []))
+  heard-so P S p q fit can =
+      let fit′ : countsFit t (s .signals) (s .states) ≡ true = ap (λ (x : ℕ). countsFit t x (s .states)) p ∙ ap (countsFit t P) q ∙ fit in
+      let can′ : eqb (bit e (s .mask)) 1 ≡ isEvent (alphabetIn t (s .signals)) e = can ∙ ap (λ (x : ℕ). isEvent (alphabetIn t x) e) (sym p) in
+      heard-own fit′ can′ ∙ ap (λ (x : ℕ). hearDecided s w i (ranIn t x (s .states) (w .state) (e ∷ []))) p ∙ ap (λ (x : ℕ). hearDecided s w i (ranIn t P x (w .state) (e ∷ []))) q
 
 -- ---- the whole
 
@@ -172,14 +213,11 @@ module _ (t : List ℕ) (P S : ℕ) (r : Request) (d : List Watch) (s₀ s : Tas
             let at : nextOf s ≡ i = next-so l e ∙ rw (lt-ltb (passed d l) n p) in
             let inside : i < n = mod-lt _ some in
             let is : w ≡ watchAt d i = q ∙ ap (watchAt d) at in
+            let can : eqb (bit (oldest w) (s .mask)) 1 ≡ isEvent Σ (oldest w) = ap (λ (m : ℕ). eqb (bit (oldest w) m) 1) (kept .mask) ∙ bits .bits (oldest w) in
             let heard : leb (s .length) (nextOf s) ≡ false = lt-leb (s .length) (nextOf s) (omega (arith, at, inside, long)) in
             let run : Ran = ranIn t P S (watchAt d i .state) (oldest (watchAt d i) ∷ []) in
-            let ran : ranIn t (s .signals) (s .states) (w .state) (oldest w ∷ []) ≡ run =
-            ap (λ (x : ℕ). ranIn t x (s .states) (w .state) (oldest w ∷ [])) (kept .signals ∙ begun .signals)
-            ∙ ap (λ (x : ℕ). ranIn t P x (w .state) (oldest w ∷ [])) (kept .states ∙ begun .states)
-            ∙ ap (λ (x : Watch). ranIn t P S (x .state) (oldest x ∷ [])) is in
-            rw (heard, lt-ltb (passed d l) n p)
-            (ap (λ (x : Ran). applied d (hearDecided s w (nextOf s) x)) ran ∙ ap (λ (k : ℕ). applied d (hearDecided s w k run)) at ∙ applied-heard d s w long i is run)
+            let ran : heardFrom t s w i ≡ hearDecided s w i run = heard-so t s w i P S (kept .signals ∙ begun .signals) (kept .states ∙ begun .states) fit can ∙ ap (λ (x : Watch). hearDecided s w i (ranIn t P S (x .state) (oldest x ∷ []))) is in
+            rw (heard, lt-ltb (passed d l) n p) (ap (λ (k : ℕ). applied d (heardFrom t s w k)) at ∙ ap (applied d) ran ∙ applied-heard d s w long i is run)
         go (no h) =
             let at : nextOf s ≡ n = next-so l e ∙ rw (le-ltb (passed d l) n (omega arith)) in
             let shut : leb (s .length) (nextOf s) ≡ true = le-leb (s .length) (nextOf s) (omega (arith, at, long)) in

@@ -6,10 +6,12 @@ use Prim.Native.Nat.{ℕ, zero, suc}
 use lib.Dec.{ltb, leb, eqb}
 use Rattle.meaning.specs.Bytes.{bit}
 use Rattle.meaning.specs.RuleFiles.{firstOf}
-use Rattle.meaning.specs.Runs.{countsFit, ranIn}
+use Rattle.meaning.specs.TableFiles.{successor, verdictByte, verdictOf}
+use Rattle.meaning.specs.Runs.{countsFit, inTable}
 use Rattle.meaning.specs.Desks.{watchAt, oldest, withEvent, withoutOldest}
 use Rattle.meaning.specs.declared.Refusal.{Refusal}
-use Rattle.meaning.specs.declared.Refusal.the-variants.{WrongEvent, WrongWatch, WrongTable, WrongDesk, WrongNumber, QueueFull}
+use Rattle.meaning.specs.declared.Refusal.the-variants.{WrongEvent, WrongState, WrongWatch, WrongTable, WrongDesk, WrongNumber, QueueFull}
+use Rattle.meaning.specs.declared.Verdict.{Verdict}
 use Rattle.meaning.specs.declared.Ran.{Ran}
 use Rattle.meaning.specs.declared.Ran.the-variants as Ran
 use Rattle.meaning.specs.declared.Watch.{Watch}
@@ -107,16 +109,32 @@ addition w i e = record { number = i; watch = withEvent w e; answer = Served.Don
 abbrev pub postDecided : Task → Watch → ℕ → ℕ → Service
 postDecided s w i e = firstOf (refusing s w) (postChecks s w i e) (addition w i e)
 
--- hearing the oldest event of watch w, which has number i, where the run over it ended so
+-- hearing the oldest event of watch w, which has number i and is led by it to a state with a verdict
+abbrev pub hearing : Watch → ℕ → ℕ → Verdict → Service
+hearing w i to v = record { number = i; watch = withoutOldest w to; answer = Served.Heard i (oldest w) to v }
+
+-- where the run over it ended so
 abbrev pub hearDecided : Task → Watch → ℕ → Ran → Service
-hearDecided s w i (Ran.Ended to v c) = record { number = i; watch = withoutOldest w to; answer = Served.Heard i (oldest w) to v }
+hearDecided s w i (Ran.Ended to v c) = hearing w i to v
 hearDecided s w i (Ran.Refused x) = refusing s w x
+
+-- the same from what the task knows of the table: 14, 13 and 12 as a run has them, and 14 where the way leaves the table
+abbrev pub heardFrom : List ℕ → Task → Watch → ℕ → Service
+heardFrom t s w i =
+    let to = successor t (s .signals) (w .state) (oldest w) in
+    firstOf (refusing s w)
+    ((not (leb (s .signals) 4), WrongTable)
+    ∷ (not (ltb (w .state) (s .states)), WrongState)
+    ∷ (not (eqb (bit (oldest w) (s .mask)) 1), WrongEvent 0)
+    ∷ (not (inTable t (s .signals) (s .states) (w .state) && inTable t (s .signals) (s .states) to), WrongTable)
+    ∷ [])
+    (hearing w i to (verdictOf (verdictByte t (s .signals) to)))
 
 abbrev pub turnDecided : List ℕ → Task → Watch → ℕ → Service
 turnDecided t s w l =
     cond (leb (s .length) (nextOf s))
     (record { number = s .length; watch = w; answer = Served.NoneWaits l })
-    (hearDecided s w (nextOf s) (ranIn t (s .signals) (s .states) (w .state) (oldest w ∷ [])))
+    (heardFrom t s w (nextOf s))
 
 abbrev pub requestDecided : List ℕ → Task → Watch → Request → Service
 requestDecided t s w (Post i e) = postDecided s w i e

@@ -1,16 +1,20 @@
 // What is asked of a desk, what one pass over its row finds out, and what is then done to one watch.
 ghost use mathlib.Core.Path.{_≡_};
 ghost use mathlib.Core.Bool.{cond, _&&_};
+ghost use Prim.Native.Nat.{_≤_};
 ghost use lib.Dec.{leb};
+ghost use Rattle.meaning.specs.Runs.{inTable};
 ghost use Rattle.desk_tasks.specs.declared.Request.the-variants.{Post, Turn};
-ghost use Rattle.desk_tasks.specs.Tasks.{lastIn, Begun, lookOf, nextOf, wantedOf, rowChecked, refusing, postDecided, turnDecided, decidedOf};
+ghost use Rattle.desk_tasks.specs.Tasks.{lastIn, Begun, lookOf, nextOf, wantedOf, rowChecked, refusing, postDecided, heardFrom, turnDecided, decidedOf};
 use events::can_happen;
-use meaning::Ran;
 use meaning::Refusal;
 use meaning::Served;
 use meaning::Watch;
+use run_parts::in_table;
 use table_layout::counts_fit;
 use table_layout::possible_mask;
+use table_layout::successor_at;
+use table_layout::verdict_at;
 use watches::fits;
 use watches::oldest_event;
 use watches::row_fits;
@@ -243,7 +247,51 @@ fn decide_post(s: Task, w: Watch, number: usize, event: u8) -> Service
     }
 }
 
-// The oldest event is heard, or none waits.
+// The oldest event of the watch with this number is heard, and answered as a run over it would be.
+fn hear(t: &[u8], s: Task, w: Watch, number: usize) -> Service
+    ensures { λ r. ⌜ r ≡ heardFrom (now (t .entry)) s w number ⌝ }
+{
+    let signals = s.signals;
+    let states = s.states;
+    let mask = s.mask;
+    let state = w.state;
+    if 4 < signals {
+        return refuse(s, w, Refusal::WrongTable);
+    }
+    if states <= state {
+        return refuse(s, w, Refusal::WrongState);
+    }
+    let event = oldest_event(w);
+    if !can_happen(mask, wide(event)) {
+        return refuse(s, w, Refusal::WrongEvent(0));
+    }
+    let to = successor_at(t, signals, state, event);
+    if !way_fits(t, signals, states, state, to) {
+        return refuse(s, w, Refusal::WrongTable);
+    }
+    let verdict = verdict_at(t, signals, to);
+    let watch = without_oldest(w, to);
+    Service {
+        number,
+        watch,
+        answer: Served::Heard {
+            number,
+            event,
+            state: to,
+            verdict,
+        },
+    }
+}
+
+// Whether both ends of a way of one event are states of the table.
+fn way_fits(t: &[u8], signals: u8, states: u16, from: u16, to: u16) -> bool
+    requires { ⌜ signals ≤ 4 ⌝ }
+    ensures { λ r. ⌜ r ≡ (inTable (now (t .entry)) signals states from && inTable (now (t .entry)) signals states to) ⌝ }
+{
+    in_table(t, signals, states, from) & in_table(t, signals, states, to)
+}
+
+// The oldest event of the next watch is heard, or none waits.
 fn decide_turn(t: &[u8], s: Task, w: Watch, last: usize) -> Service
     ensures { λ r. ⌜ r ≡ turnDecided (now (t .entry)) s w last ⌝ }
 {
@@ -256,28 +304,7 @@ fn decide_turn(t: &[u8], s: Task, w: Watch, last: usize) -> Service
             answer: Served::NoneWaits(last),
         };
     }
-    let event = oldest_event(w);
-    let ran = table_run::step_in(t, s.signals, s.states, w.state, event);
-    match ran {
-        Ran::Ended {
-            state,
-            verdict,
-            decided: _,
-        } => {
-            let watch = without_oldest(w, state);
-            Service {
-                number,
-                watch,
-                answer: Served::Heard {
-                    number,
-                    event,
-                    state,
-                    verdict,
-                },
-            }
-        }
-        Ran::Refused(why) => refuse(s, w, why),
-    }
+    hear(t, s, w, number)
 }
 
 // What is done to the watch that the request is about.
