@@ -283,7 +283,13 @@ survey-meets : {M : Type 1} (𝓤 : URA M) (H : Heap 𝓤) (A : Atoms 𝓤) (W :
     → Triple 𝓤 (𝓣 .C #desk-tasks·begin) (Begin 𝓤 H A mem run) → Triple 𝓤 (𝓣 .C #desk-survey·scan) (Scan 𝓤 H A mem run)
     → Triple 𝓤 (𝓣 .C #desk-tasks·wanted) (Wanted 𝓤 H A mem run) → Triple 𝓤 (𝓣 .C #desk-survey·watch-at) (WatchAt 𝓤 H A mem run) → Triple 𝓤 (𝓣 .C #desk-tasks·decide) (Decide 𝓤 H A mem run)
     → Meets 𝓤 H A outer.signature (WpFn 𝓤 H (𝓣 .C) (𝓣 .Λ) code.function) (outer.spec 𝓤 H A mem run)
-survey-meets 𝓤 H A W mem run 𝓣 known-begin known-scan known-wanted known-watch known-decide = walk-meets 𝓤 H A outer.ended stayed W (goes-none-slice 𝓤 H A W 2 (0 ∷ []) tt (plain (λ _. T.the-row)) yes, (goes-none-slice 𝓤 H A W 2 (1 ∷ []) tt (plain (λ _. u8)) yes, (goes-none 𝓤 H A W 2 (λ _. u8) yes (λ κs x f. refl), (goes-none 𝓤 H A W 2 (λ _. u16) yes (λ κs x f. refl), (goes-none 𝓤 H A W 2 (λ _. Q.the-row) yes (λ κs x f. refl), tt))))) (outer.clauses 𝓤 H A mem run)
+survey-meets 𝓤 H A W mem run 𝓣 known-begin known-scan known-wanted known-watch known-decide = walk-meets 𝓤 H A outer.ended stayed W (
+  goes-none-slice 𝓤 H A W 2 (0 ∷ []) tt (plain (λ _. T.the-row)) yes,
+  (
+    goes-none-slice 𝓤 H A W 2 (1 ∷ []) tt (plain (λ _. u8)) yes,
+    (goes-none 𝓤 H A W 2 (λ _. u8) yes (λ κs x f. refl), (goes-none 𝓤 H A W 2 (λ _. u16) yes (λ κs x f. refl), (goes-none 𝓤 H A W 2 (λ _. Q.the-row) yes (λ κs x f. refl), tt))),
+  ),
+) (outer.clauses 𝓤 H A mem run)
     (WpFn 𝓤 H (𝓣 .C) (𝓣 .Λ) code.function) (WpFn-mono 𝓤 H (W .laws) 𝓣 code.function) (survey-walks 𝓤 H A W mem run (𝓣 .C) (𝓣 .Λ) (fmOf 𝓤 H (W .laws) 𝓣) known-begin known-scan known-wanted known-watch known-decide)
 
 pub survey-spec : {M : Type 1} → stated.statement M

@@ -217,7 +217,10 @@ module _ {M : Type 1} (𝓤 : URA M) (H : Heap 𝓤) (A : Atoms 𝓤) (W : Given
         nothing ! $ move ! (4 ∷ 0 ∷ []) $ fjoin ! $ owned ! u16 (Is u16) (uint-makes 𝓤 H A W w16) (c .states) _ (refl, fs .1 .0 .1) $ fjoin ! $ owned ! u8 (Is u8) (uint-makes 𝓤 H A W w8) (c .signals) _ (refl, fs .0 .1) $ fjoin ! $
         move ! (1 ∷ 0 ∷ []) $ fjoin ! $ move ! (2 ∷ 0 ∷ []) $ fjoin ! $ move ! (24 ∷ 0 ∷ []) $ use2 W (raw (Serve 𝓤 H A mem run .pre (to-serve c a v))) (goes-serve c a v) $
         -- [the call's; the bytes'; _10; …]
-        calls-at ! fm (Serve 𝓤 H A mem run) known-serve (to-serve c a v) (and-then ! (load ! (from ! (stop !)) (look ! 4 refl)) (and-then ! (load ! (from ! (stop !)) (look ! 18 refl)) (and-then ! (load ! (from ! (fld ! {τ = tyInt w8} {d = 0} refl (stop !))) (look-in ! 10 {τ = tyInt w8} (sub ! 0 {τ = tyInt w8} {d = 0} refl (whole !)))) (and-then ! (load ! (from ! (fld ! {τ = tyInt w16} {d = 2} refl (stop !))) (look-in ! 10 {τ = tyInt w16} (sub ! 1 {τ = tyInt w16} {d = 2} refl (whole !)))) (and-then ! (load ! (from ! (stop !)) (look ! 2 refl)) (no-more !)))))) (λ w.
+        calls-at ! fm (Serve 𝓤 H A mem run) known-serve (to-serve c a v)
+        (and-then ! (load ! (from ! (stop !)) (look ! 4 refl)) (and-then ! (load ! (from ! (stop !)) (look ! 18 refl))
+        (and-then ! (load ! (from ! (fld ! {τ = tyInt w8} {d = 0} refl (stop !))) (look-in ! 10 {τ = tyInt w8} (sub ! 0 {τ = tyInt w8} {d = 0} refl (whole !))))
+        (and-then ! (load ! (from ! (fld ! {τ = tyInt w16} {d = 2} refl (stop !))) (look-in ! 10 {τ = tyInt w16} (sub ! 1 {τ = tyInt w16} {d = 2} refl (whole !)))) (and-then ! (load ! (from ! (stop !)) (look ! 2 refl)) (no-more !)))))) (λ w.
         use1 W (later (some (λ (z : Served). (Alive ⊛ ‵ (S.the-row .own z (w ∷ []))) ⊛ raw (ensured 𝓤 H A serve.ended (serve.clauses 𝓤 H A mem run) (κ, (κ′, tt)) (serves c a v) tt z)))) (id⊢ 𝓤 _) $ await ! tt $ pick ! (λ z.
         split ! $ move ! (1 ∷ []) $ use1 W (some (λ (zs : List Watch × (Unit {0} × (Unit {0} × (Unit {0} × (Unit {0} × Unit {0}))))). ‵ (lasts serve.ended (κ, (κ′, tt)) (serves c a v) zs) ⊛ raw (fact 𝓤 ((z ≡ outcome c a .answer) × (zs .0 ≡ outcome c a .desk))))) (id⊢ 𝓤 _) $ pick ! (λ zs.
         split ! $ move ! (1 ∷ []) $ heard ! ((z ≡ outcome c a .answer) × (zs .0 ≡ outcome c a .desk)) (λ ze. fsplit ! $ fsplit ! $ move ! (1 ∷ []) $ feqL ! (λ len.
