@@ -1,5 +1,6 @@
 -- Document 02, C-15: "One desk for sixty-four tunnels". A desk is a list of watches; the number of a tunnel is the index of its watch. In the field's
 -- terms a watch is a monitor's state with a bounded first-in, first-out queue, and turns serve the queues round robin.
+-- C-16: "Watches remember when": a watch also counts the events that it heard, and keeps the count at which a verdict other than undecided first stood.
 use mathlib.Core.List.{List, [], _∷_, _++_, map}
 use mathlib.Core.Bool.{Bool, cond, not, _&&_}
 use Prim.Native.Nat.{ℕ, _+_, _-_, _%_}
@@ -7,11 +8,16 @@ use lib.ListN.{length, getD, set, take, drop, replicate}
 use lib.Dec.{ltb, leb, eqb}
 use Rattle.sequences.specs.Tabulate.{every, leastBelow}
 use Rattle.meaning.specs.Traces.{Alphabet, isEvent}
-use Rattle.meaning.specs.TableFiles.{isTable, alphabetIn, signalsIn, statesIn}
+use Rattle.meaning.specs.Monitors.{Monitor}
+use Rattle.meaning.specs.TableFiles.{isTable, alphabetIn, signalsIn, statesIn, monitorIn, monitorOf}
 use Rattle.meaning.specs.RuleFiles.{firstOf}
-use Rattle.meaning.specs.Runs.{runOf, ranIn, countsFit}
+use Rattle.meaning.specs.Runs.{decides, runOf, ranIn, countsFit, inTable}
+use Rattle.meaning.specs.declared.Verdict.{Verdict}
+use Rattle.meaning.specs.declared.Verdict.the-variants.{Undecided}
+use Rattle.meaning.specs.declared.Decided.{Decided}
+use Rattle.meaning.specs.declared.Decided.the-variants.{After, Never}
 use Rattle.meaning.specs.declared.Refusal.{Refusal}
-use Rattle.meaning.specs.declared.Refusal.the-variants.{WrongEvent, WrongWatch, WrongTable, WrongDesk, WrongNumber, QueueFull}
+use Rattle.meaning.specs.declared.Refusal.the-variants.{WrongEvent, WrongWatch, WrongTable, WrongDesk, WrongNumber, QueueFull, CountFull}
 use Rattle.meaning.specs.declared.Ran.{Ran}
 use Rattle.meaning.specs.declared.Ran.the-variants as Ran
 use Rattle.meaning.specs.declared.Watch.{Watch}
@@ -22,13 +28,26 @@ use Rattle.meaning.specs.declared.Served.the-variants as Served
 abbrev pub queue : Watch → List ℕ
 queue w = take (w .waiting) (w .events)
 
--- "A fresh desk has every watch in state 0 with nothing waiting."
-abbrev pub freshWatch : Watch
-freshWatch = record { state = 0; waiting = 0; events = replicate 32 0 }
+-- "the number at which a verdict first stood", as a run counts it: after so many events, and never where it is unfilled
+abbrev pub firstStood : Watch → Decided
+firstStood w = cond (eqb (w .filled) 0) Never (After (w .first))
+
+-- "heard plus waiting"
+abbrev pub counted : Watch → ℕ
+counted w = w .heard + w .waiting
+
+-- "A fresh desk has every watch in state 0 with nothing waiting." C-16: "On a fresh desk .. the first is 0, and the second 0 if the start's verdict isn't
+-- undecided, otherwise unfilled"; the start's verdict is given
+abbrev pub freshWatch : Verdict → Watch
+freshWatch v = record { state = 0; waiting = 0; filled = cond (decides v) 1 0; heard = 0; first = 0; events = replicate 32 0 }
+
+-- what is read past a row's end
+abbrev pub noWatch : Watch
+noWatch = freshWatch Undecided
 
 -- the watch with a number
 abbrev pub watchAt : List Watch → ℕ → Watch
-watchAt d i = getD d i freshWatch
+watchAt d i = getD d i noWatch
 
 -- An answer, and the desk after it.
 pub record Outcome : Type 0 where
@@ -39,13 +58,14 @@ pub record Outcome : Type 0 where
 abbrev pub refused : List Watch → Refusal → Outcome
 refused d x = record { answer = Served.Refused x; desk = d }
 
--- ---- refusals: "18 row empty or above 64", "13 for a watch with a state too large, over 32 waiting or a waiting byte that is no possible event"
+-- ---- refusals: "18 row empty or above 64", "13 for a watch with a state too large, over 32 waiting or a waiting byte that is no possible event";
+-- C-16: "13 covers a watch where that sum is larger", heard plus waiting larger than 4,294,967,295
 
 abbrev pub rowFits : List Watch → Bool
 rowFits d = leb 1 (length d) && leb (length d) 64
 
 abbrev pub watchFits : Alphabet → ℕ → Watch → Bool
-watchFits Σ S w = every (ltb (w .state) S ∷ leb (w .waiting) 32 ∷ every (map (isEvent Σ) (queue w)) ∷ [])
+watchFits Σ S w = every (ltb (w .state) S ∷ leb (w .waiting) 32 ∷ leb (counted w) 4294967295 ∷ every (map (isEvent Σ) (queue w)) ∷ [])
 
 -- "Place .. of 13 the first such watch": its number, and the row's length where there is none
 abbrev pub firstWrong : Alphabet → ℕ → List Watch → ℕ
@@ -58,9 +78,18 @@ deskChecks Σ S d = (not (rowFits d), WrongDesk) ∷ (ltb (firstWrong Σ S d) (l
 
 -- in the first free slot
 abbrev pub withEvent : Watch → ℕ → Watch
-withEvent w e = record { state = w .state; waiting = w .waiting + 1; events = set (w .events) (w .waiting) e }
+withEvent w e =
+    record {
+      state = w .state;
+      waiting = w .waiting + 1;
+      filled = w .filled;
+      heard = w .heard;
+      first = w .first;
+      events = set (w .events) (w .waiting) e;
+    }
 
--- "Order 18, 13 .., 19, 12, 20"; "19 tunnel number outside the row; 20 already 32 waiting"; their place is "the tunnel number"
+-- "Order 18, 13 .., 19, 12, 20"; "19 tunnel number outside the row; 20 already 32 waiting"; their place is "the tunnel number". C-16: "21 heard plus
+-- waiting is 4,294,967,295, at posting, last in order, place the tunnel number"
 unfoldable pub postBy : Alphabet → ℕ → List Watch → ℕ → ℕ → Outcome
 postBy Σ S d i e =
     firstOf (refused d)
@@ -68,6 +97,7 @@ postBy Σ S d i e =
     ++ ((leb (length d) i, WrongNumber i)
     ∷ (not (isEvent Σ e), WrongEvent i)
     ∷ (leb 32 (watchAt d i .waiting), QueueFull i)
+    ∷ (eqb (counted (watchAt d i)) 4294967295, CountFull i)
     ∷ []))
     (record { answer = Served.Done; desk = set d i (withEvent (watchAt d i) e) })
 
@@ -89,13 +119,25 @@ passed d l = leastBelow (length d) (λ k. leb 1 (watchAt d (after (length d) l k
 abbrev pub oldest : Watch → ℕ
 oldest w = getD (w .events) 0 0
 
--- "Hearing takes the event out and moves the state by it": the others move up, and the last slot is 0
-abbrev pub withoutOldest : Watch → ℕ → Watch
-withoutOldest w s = record { state = s; waiting = w .waiting - 1; events = drop 1 (w .events) ++ (0 ∷ []) }
+-- C-16: "Hearing an event fills the second, where it is unfilled and the new verdict isn't undecided; otherwise it keeps it."
+abbrev pub fills : Watch → Verdict → Bool
+fills w v = eqb (w .filled) 0 && decides v
+
+-- "Hearing takes the event out and moves the state by it", to s with verdict v: the others move up, and the last slot is 0; one event more is heard
+abbrev pub withoutOldest : Watch → ℕ → Verdict → Watch
+withoutOldest w s v =
+    record {
+      state = s;
+      waiting = w .waiting - 1;
+      filled = cond (fills w v) 1 (w .filled);
+      heard = w .heard + 1;
+      first = cond (fills w v) (w .heard + 1) (w .first);
+      events = drop 1 (w .events) ++ (0 ∷ []);
+    }
 
 -- what hearing at a number comes to, where the run over the oldest event ended so
 abbrev pub heardBy : List Watch → ℕ → Ran → Outcome
-heardBy d i (Ran.Ended s v c) = record { answer = Served.Heard i (oldest (watchAt d i)) s v; desk = set d i (withoutOldest (watchAt d i) s) }
+heardBy d i (Ran.Ended s v c) = record { answer = Served.Heard i (oldest (watchAt d i)) s v; desk = set d i (withoutOldest (watchAt d i) s v) }
 heardBy d i (Ran.Refused x) = refused d x
 
 -- "it returns the number now last heard, or says that none waits and returns the number given"; the run over one event from a state is given
@@ -122,6 +164,14 @@ postIn t P S d i e = cond (countsFit t P S) (postBy (alphabetIn t P) S d i e) (r
 unfoldable pub turnIn : List ℕ → ℕ → ℕ → List Watch → ℕ → Outcome
 turnIn t P S d l = cond (countsFit t P S) (turnBy (λ s e. ranIn t P S s (e ∷ [])) (alphabetIn t P) S d l) (refused d WrongTable)
 
--- "A fresh desk": the whole row; 18
-unfoldable pub freshOf : List Watch → Outcome
-freshOf d = cond (rowFits d) (record { answer = Served.Done; desk = replicate (length d) freshWatch }) (refused d WrongDesk)
+-- "A fresh desk": the whole row, where the start's verdict is given; 18
+abbrev pub freshBy : Verdict → List Watch → Outcome
+freshBy v d = cond (rowFits d) (record { answer = Served.Done; desk = replicate (length d) (freshWatch v) }) (refused d WrongDesk)
+
+-- "made with C-15's one table": 14 before 18
+unfoldable pub freshOf : List ℕ → List Watch → Outcome
+freshOf t d = cond (isTable t) (freshBy (monitorOf t .verdict 0) d) (refused d WrongTable)
+
+-- from bytes and counts in hand: 14 too where the start's verdict byte is none of the four
+unfoldable pub freshIn : List ℕ → ℕ → ℕ → List Watch → Outcome
+freshIn t P S d = cond (countsFit t P S && inTable t P S 0) (freshBy (monitorIn t P S .verdict 0) d) (refused d WrongTable)

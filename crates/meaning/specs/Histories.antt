@@ -4,6 +4,8 @@ use mathlib.Core.Bool.{Bool, cond}
 use Prim.Native.Nat.{ℕ, suc}
 use lib.ListN.{replicate}
 use lib.Dec.{eqb}
+use Rattle.meaning.specs.Monitors.{Monitor}
+use Rattle.meaning.specs.TableFiles.{monitorOf}
 use Rattle.meaning.specs.Desks.{Outcome, freshWatch, postOf, turnOf}
 use Rattle.meaning.specs.declared.Watch.{Watch}
 use Rattle.meaning.specs.declared.Served.{Served}
@@ -19,9 +21,9 @@ pub record Standing : Type 0 where
   pub desk : List Watch
   pub last : ℕ
 
--- a fresh desk of n watches, whose first turn takes l
-abbrev pub begun : ℕ → ℕ → Standing
-begun n l = record { desk = replicate n freshWatch; last = l }
+-- a fresh desk of n watches, made with the table t, whose first turn takes l
+abbrev pub begun : List ℕ → ℕ → ℕ → Standing
+begun t n l = record { desk = replicate n (freshWatch (monitorOf t .verdict 0)); last = l }
 
 -- the number that an answer returns, and l where it returns none
 abbrev pub lastAfter : Served → ℕ → ℕ

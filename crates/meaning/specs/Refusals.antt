@@ -1,7 +1,7 @@
 -- Document 01's table "Refusing", and the numbers that document 02 adds.
 use Prim.Native.Nat.{ℕ}
 use Rattle.meaning.specs.declared.Refusal.{Refusal}
-use Rattle.meaning.specs.declared.Refusal.the-variants.{Truncated, WrongLength, WrongKind, WrongSignals, WrongCount, WrongOperand, OutOfRange, EighthTemporal, TrailingBytes, ShortOutput, TooManyResiduals, WrongEvent, WrongState, WrongWatch, WrongTable, WrongText, TooManyNodes, NoEvent, WrongDesk, WrongNumber, QueueFull}
+use Rattle.meaning.specs.declared.Refusal.the-variants.{Truncated, WrongLength, WrongKind, WrongSignals, WrongCount, WrongOperand, OutOfRange, EighthTemporal, TrailingBytes, ShortOutput, TooManyResiduals, WrongEvent, WrongState, WrongWatch, WrongTable, WrongText, TooManyNodes, NoEvent, WrongDesk, WrongNumber, QueueFull, CountFull}
 
 -- "Returned" and "Place", of each case
 abbrev pub codeOf : Refusal → ℕ × ℕ
@@ -26,3 +26,4 @@ codeOf (NoEvent p) = (17, p)
 codeOf WrongDesk = (18, 0)
 codeOf (WrongNumber p) = (19, p)
 codeOf (QueueFull p) = (20, p)
+codeOf (CountFull p) = (21, p)

@@ -33,6 +33,7 @@ pub enum Refusal {
     WrongDesk,
     WrongNumber(usize),
     QueueFull(usize),
+    CountFull(usize),
 }
 
 impl Refusal {
@@ -61,6 +62,7 @@ impl Refusal {
             Refusal::WrongDesk => 18,
             Refusal::WrongNumber(_) => 19,
             Refusal::QueueFull(_) => 20,
+            Refusal::CountFull(_) => 21,
         }
     }
 
@@ -89,6 +91,7 @@ impl Refusal {
             Refusal::WrongDesk => 0,
             Refusal::WrongNumber(p) => p,
             Refusal::QueueFull(p) => p,
+            Refusal::CountFull(p) => p,
         }
     }
 }
@@ -172,12 +175,16 @@ pub struct StateRow {
     pub successors: [u16; 16],
 }
 
-// A watch of a desk: where the monitor of one tunnel stands, and the events that wait for it. Of its 32 slots the first `waiting` count, the oldest
-// event in front; the others are free. It passes to other languages as it is, and whatever its bytes are, it is a watch.
+// A watch of a desk: where the monitor of one tunnel stands, how many events it has heard, after how many of them a verdict other than undecided first
+// stood, and the events that wait for it. `first` counts where `filled` is not 0, and otherwise there is none yet. Of the 32 slots the first `waiting`
+// count, the oldest event in front; the others are free. It passes to other languages as it is, and whatever its bytes are, it is a watch.
 #[repr(C)]
 pub struct Watch {
     pub state: u16,
     pub waiting: u16,
+    pub filled: u32,
+    pub heard: u32,
+    pub first: u32,
     pub events: [u8; 32],
 }
 

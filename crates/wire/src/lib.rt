@@ -1,4 +1,4 @@
-// Numbers in files: two bytes, low byte first. Past the end of the bytes there are zeros, so reading is total.
+// Numbers, and numbers in files: two bytes, low byte first. Past the end of the bytes there are zeros, so reading is total.
 ghost use mathlib.Core.Path.{_≡_};
 ghost use Prim.Native.Nat.{_+_, _*_, _≤_, _<_};
 ghost use lib.ListN.{length, getD};
@@ -14,6 +14,12 @@ pub fn wide(x: u8) -> usize
 
 pub fn wide16(x: u16) -> usize
     ensures { λ r. ⌜ (r ≡ x) × (r < 65536) ⌝ }
+{
+    x as usize
+}
+
+pub fn wide32(x: u32) -> usize
+    ensures { λ r. ⌜ (r ≡ x) × (r < 4294967296) ⌝ }
 {
     x as usize
 }

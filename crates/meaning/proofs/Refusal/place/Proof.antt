@@ -66,6 +66,9 @@ enum-known-self-12 c = search needs
 enum-known-self-13 : tie.Need-enum-known-self-13
 enum-known-self-13 c = search needs
 
+enum-known-self-14 : tie.Need-enum-known-self-14
+enum-known-self-14 c = search needs
+
 returns : tie.Need-returns
 returns c = rw (c .before .self .given .1)
 
@@ -129,6 +132,9 @@ returns-20 c = rw (c .before .self12 .given .1)
 returns-21 : tie.Need-returns-21
 returns-21 c = rw (c .before .self13 .given .1)
 
+returns-22 : tie.Need-returns-22
+returns-22 c = rw (c .before .self14 .given .1)
+
 pub place-spec : {M : Type 1} → statement M
 place-spec =
     tie.close
@@ -154,6 +160,7 @@ place-spec =
     enum-told-8
     enum-known-self-12
     enum-known-self-13
+    enum-known-self-14
     returns
     returns-2
     returns-3
@@ -174,4 +181,5 @@ place-spec =
     returns-18
     returns-19
     returns-20
-    returns-21)
+    returns-21
+    returns-22)
