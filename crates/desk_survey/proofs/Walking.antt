@@ -11,5 +11,5 @@ type-at i [] = tyBool
 type-at zero (local τ h ∷ ls) = τ
 type-at (suc i) (local τ h ∷ ls) = type-at i ls
 
-pub scaled : (i n : ℕ) → i < n → n * 36 < 2 ^ 63 → i * 36 < 2 ^ 64
+pub scaled : (i n : ℕ) → i < n → n * 48 < 2 ^ 63 → i * 48 < 2 ^ 64
 scaled i n l r = omega arith

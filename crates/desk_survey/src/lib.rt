@@ -13,7 +13,7 @@ use desk_tasks::decide;
 use desk_tasks::look;
 use desk_tasks::wanted;
 use meaning::Watch;
-use watches::fresh_watch;
+use watches::no_watch;
 
 // The task after a pass over the watches below its `upto`, from the last to the first.
 pub fn scan(desk: &[Watch], task: Task) -> Task
@@ -29,14 +29,14 @@ pub fn scan(desk: &[Watch], task: Task) -> Task
     s
 }
 
-// The watch with a number; past the row a fresh one.
+// The watch with a number, past the row as well.
 pub fn watch_at(desk: &[Watch], number: usize) -> Watch
     ensures { λ r. ⌜ r ≡ watchAt (now (desk .entry)) number ⌝ }
 {
     if number < desk.len() {
         return desk[number];
     }
-    fresh_watch()
+    no_watch()
 }
 
 // The service that a request comes to, over the bytes of a table and its counts.

@@ -1,7 +1,7 @@
 -- Laws of the decisions.
 --     never       no test is both
 --     barred      whether an event can happen, as the code asks it
---     decided-refused, decided-request, turn-none, turn-some      what is decided, by cases
+--     decided-refused, decided-request, turn-none, turn-full, turn-some      what is decided, by cases
 --     byTests, few-first                   hearing as three tests
 --     hear-many, hear-outside, hear-barred, hear-off, hear-ended           what hearing comes to, by cases
 use mathlib.Core.Path.{_≡_, sym, ap, _∙_}
@@ -17,7 +17,7 @@ use Rattle.meaning.specs.TableFiles.{successor, verdictByte, verdictOf}
 use Rattle.meaning.specs.Runs.{inTable}
 use Rattle.meaning.specs.Desks.{oldest, withoutOldest}
 use Rattle.meaning.specs.declared.Refusal.{Refusal}
-use Rattle.meaning.specs.declared.Refusal.the-variants.{WrongEvent, WrongState, WrongTable}
+use Rattle.meaning.specs.declared.Refusal.the-variants.{WrongEvent, WrongState, WrongWatch, WrongTable}
 use Rattle.meaning.specs.declared.Verdict.{Verdict}
 use Rattle.meaning.specs.declared.Watch.{Watch}
 use Rattle.meaning.specs.declared.Served.the-variants as Served
@@ -25,7 +25,7 @@ use Rattle.desk_tasks.specs.declared.Request.{Request}
 use Rattle.desk_tasks.specs.declared.Task.{Task}
 use Rattle.desk_tasks.specs.declared.Service.{Service}
 use Rattle.desk_tasks.specs.declared.Check.the-variants as Check
-use Rattle.desk_tasks.specs.Tasks.{nextOf, rowChecked, refusing, hearing, heardFrom, turnDecided, requestDecided, checkDecided, decidedOf}
+use Rattle.desk_tasks.specs.Tasks.{nextOf, rowChecked, refusing, hearing, heardFrom, countedFrom, turnDecided, requestDecided, checkDecided, decidedOf}
 
 pub never : {A : Type 0} → false ≡ true → A
 never q = let z : _≡_ {A = ℕ} 0 1 = cc in absurd (omega arith)
@@ -47,8 +47,15 @@ module _ (t : List ℕ) (s : Task) (w : Watch) where
   pub turn-none : (l : ℕ) {n : ℕ} → n ≡ nextOf s → s .length ≤ n → record { number = s .length; watch = w; answer = Served.NoneWaits l } ≡ turnDecided t s w l
   turn-none l p b = let q : s .length ≤ nextOf s = omega arith in rw (le-leb (s .length) (nextOf s) q)
 
-  pub turn-some : (l : ℕ) {n : ℕ} → n ≡ nextOf s → n < s .length → heardFrom t s w n ≡ turnDecided t s w l
-  turn-some l p b = let q : nextOf s < s .length = omega arith in rw (lt-leb (s .length) (nextOf s) q) (ap (heardFrom t s w) p)
+  module _ (l : ℕ) {n : ℕ} (p : n ≡ nextOf s) (b : n < s .length) where
+    turn-counted : countedFrom t s w n ≡ turnDecided t s w l
+    turn-counted = let q : nextOf s < s .length = omega arith in rw (lt-leb (s .length) (nextOf s) q) (ap (countedFrom t s w) p)
+
+    pub turn-full : 4294967295 ≤ w .heard → refusing s w (WrongWatch n) ≡ turnDecided t s w l
+    turn-full h = sym (rw (le-ltb (w .heard) 4294967295 h)) ∙ turn-counted
+
+    pub turn-some : w .heard < 4294967295 → heardFrom t s w n ≡ turnDecided t s w l
+    turn-some h = sym (rw (lt-ltb (w .heard) 4294967295 h)) ∙ turn-counted
 
 -- ---- hearing
 
@@ -100,6 +107,6 @@ module _ (t : List ℕ) (s : Task) (w : Watch) (i : ℕ) where
         pub hear-off : not f ≡ true → refusing s w WrongTable ≡ heardFrom t s w i
         hear-off h = sym (passed-to true h)
 
-        pub hear-ended : not f ≡ false → {v : Verdict} {u : Watch} → v ≡ verdictOf (verdictByte t (s .signals) to) → u ≡ withoutOldest w to
+        pub hear-ended : not f ≡ false → {v : Verdict} {u : Watch} → v ≡ verdictOf (verdictByte t (s .signals) to) → u ≡ withoutOldest w to v
             → record { number = i; watch = u; answer = Served.Heard i e to v } ≡ heardFrom t s w i
         hear-ended h p z = rw (z, p, old, there) (sym (passed-to false h))

@@ -8,20 +8,22 @@ use Prim.Native.Nat.{ℕ, _≤_, _<_}
 use native.Mathlib.Omega.{arith}
 use native.Mathlib.Decide.{decLt}
 use native.Mathlib.Nat.{mod-lt}
-use borrow.Author.Tests.{lt-ltb, le-ltb, le-leb, lt-leb, leb-true}
+use borrow.Author.Tests.{lt-ltb, le-ltb, le-leb, lt-leb, leb-true, ltb-false}
 use lib.Dec.{ltb, leb, eqb}
 use lib.ListN.{length, set}
 use lib.Seq.{set-out}
 use Rattle.sequences.specs.Tabulate.{every, allBelow, leastBelow}
 use Rattle.sequences.proofs.Pointwise.{least-same}
+use Rattle.sequences.proofs.Pigeonhole.{Least, least-below}
+use Rattle.sequences.proofs.Tests.{holds}
 use Rattle.meaning.specs.Bytes.{bit}
 use Rattle.meaning.specs.Traces.{Alphabet, isEvent}
 use Rattle.meaning.specs.TableFiles.{alphabetIn, monitorIn}
 use Rattle.meaning.specs.RuleFiles.{firstOf}
 use Rattle.meaning.specs.Runs.{endOf, countsFit, onTable, tested, ranIn}
-use Rattle.meaning.specs.Desks.{Outcome, refused, rowFits, watchFits, queue, firstWrong, deskChecks, watchAt, oldest, withEvent, after, passed, heardBy, postBy, turnBy, postIn, turnIn}
+use Rattle.meaning.specs.Desks.{Outcome, refused, rowFits, watchFits, queue, counted, firstWrong, deskChecks, watchAt, oldest, withEvent, after, passed, heardBy, postBy, turnBy, postIn, turnIn}
 use Rattle.meaning.specs.declared.Refusal.{Refusal}
-use Rattle.meaning.specs.declared.Refusal.the-variants.{WrongEvent, WrongState, WrongWatch, WrongTable, WrongDesk, WrongNumber, QueueFull}
+use Rattle.meaning.specs.declared.Refusal.the-variants.{WrongEvent, WrongState, WrongWatch, WrongTable, WrongDesk, WrongNumber, QueueFull, CountFull}
 use Rattle.meaning.specs.declared.Ran.{Ran}
 use Rattle.meaning.specs.declared.Ran.the-variants as Ran
 use Rattle.meaning.specs.declared.Watch.{Watch}
@@ -97,7 +99,7 @@ module _ (t : List ℕ) (P m : ℕ) (bits : MaskIn t P m) where
   all-events (e ∷ q) = rw (bits .bits e, all-events q)
 
   fits-so : (S : ℕ) (w : Watch) → fitsIn m S w ≡ watchFits (alphabetIn t P) S w
-  fits-so S w = ap (λ (b : Bool). every (ltb (w .state) S ∷ leb (w .waiting) 32 ∷ b ∷ [])) (all-events (queue w))
+  fits-so S w = ap (λ (b : Bool). every (ltb (w .state) S ∷ leb (w .waiting) 32 ∷ leb (counted w) 4294967295 ∷ b ∷ [])) (all-events (queue w))
 
 -- ---- hearing from what the task knows is a run over the event
 
@@ -191,7 +193,7 @@ module _ (t : List ℕ) (P S : ℕ) (r : Request) (d : List Watch) (s₀ s : Tas
 
     post-so : (i e : ℕ) (w : Watch) → w ≡ watchAt d i
         → applied d (postDecided s w i e)
-        ≡ firstOf (refused d) ((leb n i, WrongNumber i) ∷ (not (isEvent Σ e), WrongEvent i) ∷ (leb 32 (watchAt d i .waiting), QueueFull i) ∷ [])
+        ≡ firstOf (refused d) ((leb n i, WrongNumber i) ∷ (not (isEvent Σ e), WrongEvent i) ∷ (leb 32 (watchAt d i .waiting), QueueFull i) ∷ (eqb (counted (watchAt d i)) 4294967295, CountFull i) ∷ [])
         (record { answer = Served.Done; desk = set d i (withEvent (watchAt d i) e) })
     post-so i e w q =
         let can : eqb (bit e (s .mask)) 1 ≡ isEvent Σ e = ap (λ (m : ℕ). eqb (bit e m) 1) (kept .mask) ∙ bits .bits e in
@@ -204,8 +206,26 @@ module _ (t : List ℕ) (P S : ℕ) (r : Request) (d : List Watch) (s₀ s : Tas
     abbrev silence : ℕ → Outcome
     silence l = record { answer = Served.NoneWaits l; desk = d }
 
-    turn-so : (l : ℕ) → r ≡ Turn l → (w : Watch) → w ≡ watchAt d (nextOf s) → applied d (turnDecided t s w l) ≡ cond (ltb (passed d l) n) (hearing (after n l (passed d l))) (silence l)
-    turn-so l e w q = go (decLt (passed d l) n)
+    -- where no watch is wrong, one that waits can count an event more
+    module _ (sound : ltb (firstWrong Σ S d) n ≡ false) where
+      fits-there : (i : ℕ) → i < n → watchFits Σ S (watchAt d i) ≡ true
+      fits-there i l = go (watchFits Σ S (watchAt d i)) refl (least-below n (λ k. not (watchFits Σ S (watchAt d k))) .before i (omega (arith, ltb-false (firstWrong Σ S d) n sound)))
+        where
+          go : (b : Bool) → watchFits Σ S (watchAt d i) ≡ b → not b ≡ false → watchFits Σ S (watchAt d i) ≡ true
+          go true e h = e
+          go false e h = e ∙ sym h
+
+      can-count : (l : ℕ) → passed d l < n → watchAt d (after n l (passed d l)) .heard < 4294967295
+      can-count l p =
+          let i : ℕ = after n l (passed d l) in
+          let waits : 1 ≤ watchAt d i .waiting = leb-true 1 (watchAt d i .waiting) (least-below n (λ k. leb 1 (watchAt d (after n l k) .waiting)) .here p) in
+          let w : Watch = watchAt d i in
+          let tests : List Bool = ltb (w .state) S ∷ leb (w .waiting) 32 ∷ leb (counted w) 4294967295 ∷ every (map (isEvent Σ) (queue w)) ∷ [] in
+          let sum : counted w ≤ 4294967295 = leb-true (counted w) 4294967295 (holds tests (fits-there i (mod-lt _ some)) 2) in
+          omega arith
+
+    turn-so : ltb (firstWrong Σ S d) n ≡ false → (l : ℕ) → r ≡ Turn l → (w : Watch) → w ≡ watchAt d (nextOf s) → applied d (turnDecided t s w l) ≡ cond (ltb (passed d l) n) (hearing (after n l (passed d l))) (silence l)
+    turn-so sound l e w q = go (decLt (passed d l) n)
       where
         go : Dec (passed d l < n) → applied d (turnDecided t s w l) ≡ cond (ltb (passed d l) n) (hearing (after n l (passed d l))) (silence l)
         go (yes p) =
@@ -217,7 +237,8 @@ module _ (t : List ℕ) (P S : ℕ) (r : Request) (d : List Watch) (s₀ s : Tas
             let heard : leb (s .length) (nextOf s) ≡ false = lt-leb (s .length) (nextOf s) (omega (arith, at, inside, long)) in
             let run : Ran = ranIn t P S (watchAt d i .state) (oldest (watchAt d i) ∷ []) in
             let ran : heardFrom t s w i ≡ hearDecided s w i run = heard-so t s w i P S (kept .signals ∙ begun .signals) (kept .states ∙ begun .states) fit can ∙ ap (λ (x : Watch). hearDecided s w i (ranIn t P S (x .state) (oldest x ∷ []))) is in
-            rw (heard, lt-ltb (passed d l) n p) (ap (λ (k : ℕ). applied d (heardFrom t s w k)) at ∙ ap (applied d) ran ∙ applied-heard d s w long i is run)
+            let more : ltb (w .heard) 4294967295 ≡ true = lt-ltb (w .heard) 4294967295 (subst (λ (x : Watch). x .heard < 4294967295) (sym is) (can-count sound l p)) in
+            rw (heard, lt-ltb (passed d l) n p, more) (ap (λ (k : ℕ). applied d (heardFrom t s w k)) at ∙ ap (applied d) ran ∙ applied-heard d s w long i is run)
         go (no h) =
             let at : nextOf s ≡ n = next-so l e ∙ rw (le-ltb (passed d l) n (omega arith)) in
             let shut : leb (s .length) (nextOf s) ≡ true = le-leb (s .length) (nextOf s) (omega (arith, at, long)) in
@@ -227,7 +248,7 @@ module _ (t : List ℕ) (P S : ℕ) (r : Request) (d : List Watch) (s₀ s : Tas
   table-is b e = kept .table ∙ begun .table ∙ e
 
   -- 14, 18 and 13, and then what the request comes to
-  row-so : (y z : Outcome) → (countsFit t P S ≡ true → (leb 1 n && leb n 64) ≡ true → y ≡ z)
+  row-so : (y z : Outcome) → (countsFit t P S ≡ true → (leb 1 n && leb n 64) ≡ true → ltb (firstWrong Σ S d) n ≡ false → y ≡ z)
       → firstOf (refused d) (rowChecks s) y ≡ cond (countsFit t P S) (firstOf (refused d) (deskChecks Σ S d) z) (refused d WrongTable)
   row-so y z h = go (countsFit t P S) (leb 1 n && leb n 64) refl refl
     where
@@ -235,7 +256,11 @@ module _ (t : List ℕ) (P S : ℕ) (r : Request) (d : List Watch) (s₀ s : Tas
           → firstOf (refused d) (rowChecks s) y ≡ cond (countsFit t P S) (firstOf (refused d) (deskChecks Σ S d) z) (refused d WrongTable)
       go false c e q = rw (table-is false e, e)
       go true false e q = rw (table-is true e, e, long, q)
-      go true true e q = rw (table-is true e, e, long, q, wrong-is e q) (ap (λ (x : Outcome). cond (ltb (firstWrong Σ S d) n) (refused d (WrongWatch (firstWrong Σ S d))) x) (h e q))
+      go true true e q = rw (table-is true e, e, long, q, wrong-is e q) (last (ltb (firstWrong Σ S d) n) refl)
+        where
+          last : (b : Bool) → ltb (firstWrong Σ S d) n ≡ b → cond b (refused d (WrongWatch (firstWrong Σ S d))) y ≡ cond b (refused d (WrongWatch (firstWrong Σ S d))) z
+          last true a = refl
+          last false a = h e q a
 
   served-so : (w : Watch) → w ≡ watchAt d (wantedOf s) → applied d (decidedOf t s w) ≡ servedIn t P S r d
   unfolding postIn postBy turnIn turnBy
@@ -248,8 +273,8 @@ module _ (t : List ℕ) (P S : ℕ) (r : Request) (d : List Watch) (s₀ s : Tas
       wanted x e = q ∙ ap (λ (y : Request). watchAt d (wantedBy s y)) (asked ∙ e)
 
       go : (x : Request) → r ≡ x → firstOf (refused d) (rowChecks s) (applied d (requestDecided t s w x)) ≡ servedIn t P S x d
-      go (Post i e) h = row-so _ _ (λ fit row. post-so fit row i e w (wanted (Post i e) h))
-      go (Turn l) h = row-so _ _ (λ fit row. turn-so fit row l h w (wanted (Turn l) h))
+      go (Post i e) h = row-so _ _ (λ fit row sound. post-so fit row i e w (wanted (Post i e) h))
+      go (Turn l) h = row-so _ _ (λ fit row sound. turn-so fit row sound l h w (wanted (Turn l) h))
 
 pub surveyed : (t : List ℕ) (P S : ℕ) (r : Request) (d : List Watch) (s₀ s : Task) (i : ℕ) (w : Watch) (v : Service)
     → Begun t P S r (length d) s₀ → s ≡ passOver d (s₀ .upto) s₀ → i ≡ wantedOf s → w ≡ watchAt d i → v ≡ decidedOf t s w → Surveyed t P S r d v

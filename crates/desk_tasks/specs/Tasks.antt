@@ -8,9 +8,9 @@ use Rattle.meaning.specs.Bytes.{bit}
 use Rattle.meaning.specs.RuleFiles.{firstOf}
 use Rattle.meaning.specs.TableFiles.{successor, verdictByte, verdictOf}
 use Rattle.meaning.specs.Runs.{countsFit, inTable}
-use Rattle.meaning.specs.Desks.{watchAt, oldest, withEvent, withoutOldest}
+use Rattle.meaning.specs.Desks.{counted, watchAt, oldest, withEvent, withoutOldest}
 use Rattle.meaning.specs.declared.Refusal.{Refusal}
-use Rattle.meaning.specs.declared.Refusal.the-variants.{WrongEvent, WrongState, WrongWatch, WrongTable, WrongDesk, WrongNumber, QueueFull}
+use Rattle.meaning.specs.declared.Refusal.the-variants.{WrongEvent, WrongState, WrongWatch, WrongTable, WrongDesk, WrongNumber, QueueFull, CountFull}
 use Rattle.meaning.specs.declared.Verdict.{Verdict}
 use Rattle.meaning.specs.declared.Ran.{Ran}
 use Rattle.meaning.specs.declared.Ran.the-variants as Ran
@@ -94,12 +94,13 @@ rowChecked s = firstOf Check.Refused (rowChecks s) Check.Passed
 abbrev pub refusing : Task → Watch → Refusal → Service
 refusing s w x = record { number = s .length; watch = w; answer = Served.Refused x }
 
--- 19, 12 and 20
+-- 19, 12, 20 and 21
 abbrev pub postChecks : Task → Watch → ℕ → ℕ → List (Bool × Refusal)
 postChecks s w i e =
     (leb (s .length) i, WrongNumber i)
     ∷ (not (eqb (bit e (s .mask)) 1), WrongEvent i)
     ∷ (leb 32 (w .waiting), QueueFull i)
+    ∷ (eqb (counted w) 4294967295, CountFull i)
     ∷ []
 
 -- the watch w, which has number i, with the event e
@@ -111,7 +112,7 @@ postDecided s w i e = firstOf (refusing s w) (postChecks s w i e) (addition w i 
 
 -- hearing the oldest event of watch w, which has number i and is led by it to a state with a verdict
 abbrev pub hearing : Watch → ℕ → ℕ → Verdict → Service
-hearing w i to v = record { number = i; watch = withoutOldest w to; answer = Served.Heard i (oldest w) to v }
+hearing w i to v = record { number = i; watch = withoutOldest w to v; answer = Served.Heard i (oldest w) to v }
 
 -- where the run over it ended so
 abbrev pub hearDecided : Task → Watch → ℕ → Ran → Service
@@ -130,11 +131,15 @@ heardFrom t s w i =
     ∷ [])
     (hearing w i to (verdictOf (verdictByte t (s .signals) to)))
 
+-- where one event more can be counted: it can for every watch that fits and has one waiting
+abbrev pub countedFrom : List ℕ → Task → Watch → ℕ → Service
+countedFrom t s w i = cond (ltb (w .heard) 4294967295) (heardFrom t s w i) (refusing s w (WrongWatch i))
+
 abbrev pub turnDecided : List ℕ → Task → Watch → ℕ → Service
 turnDecided t s w l =
     cond (leb (s .length) (nextOf s))
     (record { number = s .length; watch = w; answer = Served.NoneWaits l })
-    (heardFrom t s w (nextOf s))
+    (countedFrom t s w (nextOf s))
 
 abbrev pub requestDecided : List ℕ → Task → Watch → Request → Service
 requestDecided t s w (Post i e) = postDecided s w i e

@@ -1,7 +1,7 @@
 // What is asked of a desk, what one pass over its row finds out, and what is then done to one watch.
 ghost use mathlib.Core.Path.{_≡_};
 ghost use mathlib.Core.Bool.{cond, _&&_};
-ghost use Prim.Native.Nat.{_≤_};
+ghost use Prim.Native.Nat.{_≤_, _<_};
 ghost use lib.Dec.{leb};
 ghost use Rattle.meaning.specs.Runs.{inTable};
 ghost use Rattle.desk_tasks.specs.declared.Request.the-variants.{Post, Turn};
@@ -15,6 +15,7 @@ use table_layout::counts_fit;
 use table_layout::possible_mask;
 use table_layout::successor_at;
 use table_layout::verdict_at;
+use watches::count_of;
 use watches::fits;
 use watches::oldest_event;
 use watches::row_fits;
@@ -223,7 +224,7 @@ fn refuse(s: Task, w: Watch, why: Refusal) -> Service
     }
 }
 
-// 19, 12 and 20, or the event is added.
+// 19, 12, 20 and 21, or the event is added.
 fn decide_post(s: Task, w: Watch, number: usize, event: u8) -> Service
     ensures { λ r. ⌜ r ≡ postDecided s w number event ⌝ }
 {
@@ -239,6 +240,9 @@ fn decide_post(s: Task, w: Watch, number: usize, event: u8) -> Service
     if 32 <= waiting {
         return refuse(s, w, Refusal::QueueFull(number));
     }
+    if count_of(w.heard, waiting) == 4294967295 {
+        return refuse(s, w, Refusal::CountFull(number));
+    }
     let watch = with_event(w, event);
     Service {
         number,
@@ -249,6 +253,7 @@ fn decide_post(s: Task, w: Watch, number: usize, event: u8) -> Service
 
 // The oldest event of the watch with this number is heard, and answered as a run over it would be.
 fn hear(t: &[u8], s: Task, w: Watch, number: usize) -> Service
+    requires { ⌜ w .heard < 4294967295 ⌝ }
     ensures { λ r. ⌜ r ≡ heardFrom (now (t .entry)) s w number ⌝ }
 {
     let signals = s.signals;
@@ -270,7 +275,7 @@ fn hear(t: &[u8], s: Task, w: Watch, number: usize) -> Service
         return refuse(s, w, Refusal::WrongTable);
     }
     let verdict = verdict_at(t, signals, to);
-    let watch = without_oldest(w, to);
+    let watch = without_oldest(w, to, verdict);
     Service {
         number,
         watch,
@@ -291,7 +296,7 @@ fn way_fits(t: &[u8], signals: u8, states: u16, from: u16, to: u16) -> bool
     in_table(t, signals, states, from) & in_table(t, signals, states, to)
 }
 
-// The oldest event of the next watch is heard, or none waits.
+// The oldest event of the next watch is heard, or none waits. No watch that fits has an event waiting where no more can be counted.
 fn decide_turn(t: &[u8], s: Task, w: Watch, last: usize) -> Service
     ensures { λ r. ⌜ r ≡ turnDecided (now (t .entry)) s w last ⌝ }
 {
@@ -303,6 +308,9 @@ fn decide_turn(t: &[u8], s: Task, w: Watch, last: usize) -> Service
             watch: w,
             answer: Served::NoneWaits(last),
         };
+    }
+    if 4294967295 <= w.heard {
+        return refuse(s, w, Refusal::WrongWatch(number));
     }
     hear(t, s, w, number)
 }

@@ -1,20 +1,23 @@
 // One watch: whether it fits its table, and what a posted and a heard event make of it. How many watches a row has.
 ghost use mathlib.Core.Path.{_≡_};
-ghost use mathlib.Core.Bool.{_&&_};
-ghost use Prim.Native.Nat.{_-_, _<_};
-ghost use lib.Dec.{leb};
-ghost use Rattle.meaning.specs.Desks.{freshWatch, oldest, withEvent, withoutOldest};
+ghost use mathlib.Core.Bool.{cond, _&&_};
+ghost use Prim.Native.Nat.{_+_, _-_, _≤_, _<_};
+ghost use lib.Dec.{leb, eqb};
+ghost use Rattle.meaning.specs.Runs.{decides};
+ghost use Rattle.meaning.specs.Desks.{queue, freshWatch, noWatch, oldest, withEvent, withoutOldest};
 ghost use Rattle.event_lists.specs.Masks.{allIn};
-ghost use Rattle.watches.specs.Fitting.{fitsIn, shifted};
+ghost use Rattle.watches.specs.Fitting.{numbersFit, fitsIn, shifted};
 use event_lists::all_in;
 use event_lists::each_in;
 use events::can_happen;
+use meaning::Verdict;
 use meaning::Watch;
 use wire::wide;
 use wire::wide16;
+use wire::wide32;
 
 // Whether the mask has all the events. A few are looked at one by one, which is faster for these.
-fn queue_fits(mask: u16, events: &[u8]) -> bool
+fn slots_fit(mask: u16, events: &[u8]) -> bool
     ensures { λ r. ⌜ r ≡ allIn mask (now (events .entry)) ⌝ }
 {
     if events.len() < 4 {
@@ -23,18 +26,28 @@ fn queue_fits(mask: u16, events: &[u8]) -> bool
     all_in(mask, events)
 }
 
-// Whether the state is one of a table's, at most 32 events wait, and each of them can happen, by the table's mask.
-pub fn fits(w: Watch, mask: u16, states: u16) -> bool
-    ensures { λ r. ⌜ r ≡ fitsIn mask states w ⌝ }
+// How many events were heard and wait. The sum is wider than both, so that it cannot wrap.
+pub fn count_of(heard: u32, waiting: u16) -> usize
+    ensures { λ r. ⌜ r ≡ heard + waiting ⌝ }
 {
-    let state = w.state;
-    if states <= state {
-        return false;
-    }
+    wide32(heard) + wide16(waiting)
+}
+
+// Whether the state is one of a table's, at most 32 events wait, and with those heard they are at most 4,294,967,295.
+fn numbers_fit(w: Watch, states: u16) -> bool
+    ensures { λ r. ⌜ r ≡ numbersFit states w ⌝ }
+{
     let waiting = w.waiting;
-    if 32 < waiting {
-        return false;
-    }
+    let count = count_of(w.heard, waiting);
+    (w.state < states) & (waiting <= 32) & (count <= 4294967295)
+}
+
+// Whether each event that waits can happen, by the table's mask.
+fn queue_fits(w: Watch, mask: u16) -> bool
+    requires { ⌜ w .waiting ≤ 32 ⌝ }
+    ensures { λ r. ⌜ r ≡ allIn mask (queue w) ⌝ }
+{
+    let waiting = w.waiting;
     if waiting < 1 {
         return true;
     }
@@ -43,7 +56,17 @@ pub fn fits(w: Watch, mask: u16, states: u16) -> bool
         return can_happen(mask, wide(events[0]));
     }
     let end = wide16(waiting);
-    queue_fits(mask, &events[0..end])
+    slots_fit(mask, &events[0..end])
+}
+
+// Whether a watch fits a table of so many states and with this mask.
+pub fn fits(w: Watch, mask: u16, states: u16) -> bool
+    ensures { λ r. ⌜ r ≡ fitsIn mask states w ⌝ }
+{
+    if !numbers_fit(w, states) {
+        return false;
+    }
+    queue_fits(w, mask)
 }
 
 // Whether a row has 1 to 64 watches.
@@ -56,15 +79,47 @@ pub fn row_fits(length: usize) -> bool
     length <= 64
 }
 
-// A watch in state 0 with nothing waiting.
-pub fn fresh_watch() -> Watch
-    ensures { λ r. ⌜ r ≡ freshWatch ⌝ }
+// Whether a verdict is other than undecided.
+fn is_decided(verdict: Verdict) -> bool
+    ensures { λ r. ⌜ r ≡ decides verdict ⌝ }
 {
+    match verdict {
+        Verdict::Undecided => false,
+        Verdict::Satisfied => true,
+        Verdict::Violated => true,
+        Verdict::Moot => true,
+    }
+}
+
+fn number_if(chosen: bool, number: u32, before: u32) -> u32
+    ensures { λ r. ⌜ r ≡ cond chosen number before ⌝ }
+{
+    if chosen {
+        return number;
+    }
+    before
+}
+
+// A watch in state 0, which has this verdict, with nothing heard and nothing waiting.
+pub fn fresh_watch(verdict: Verdict) -> Watch
+    ensures { λ r. ⌜ r ≡ freshWatch verdict ⌝ }
+{
+    let filled = number_if(is_decided(verdict), 1, 0);
     Watch {
         state: 0,
         waiting: 0,
+        filled,
+        heard: 0,
+        first: 0,
         events: [0; 32],
     }
+}
+
+// What is read past a row's end.
+pub fn no_watch() -> Watch
+    ensures { λ r. ⌜ r ≡ noWatch ⌝ }
+{
+    fresh_watch(Verdict::Undecided)
 }
 
 // The watch with one event more, in the first free slot.
@@ -72,14 +127,16 @@ pub fn with_event(w: Watch, event: u8) -> Watch
     requires { ⌜ w .waiting < 32 ⌝ }
     ensures { λ r. ⌜ r ≡ withEvent w event ⌝ }
 {
-    let state = w.state;
     let waiting = w.waiting;
     let mut events = w.events;
     let slot = wide16(waiting);
     events[slot] = event;
     Watch {
-        state,
+        state: w.state,
         waiting: waiting + 1,
+        filled: w.filled,
+        heard: w.heard,
+        first: w.first,
         events,
     }
 }
@@ -114,16 +171,31 @@ fn one_less(waiting: u16) -> u16
     waiting - 1
 }
 
-// The watch without its oldest event, in the state to which that led.
-pub fn without_oldest(w: Watch, state: u16) -> Watch
-    ensures { λ r. ⌜ r ≡ withoutOldest w state ⌝ }
+// Whether hearing an event that led to a verdict fills the number at which one first stood.
+fn fills_at(filled: u32, verdict: Verdict) -> bool
+    ensures { λ r. ⌜ r ≡ (eqb filled 0 && decides verdict) ⌝ }
 {
+    (filled == 0) & is_decided(verdict)
+}
+
+// The watch without its oldest event, which was heard and led to this state with this verdict.
+pub fn without_oldest(w: Watch, state: u16, verdict: Verdict) -> Watch
+    requires { ⌜ w .heard < 4294967295 ⌝ }
+    ensures { λ r. ⌜ r ≡ withoutOldest w state verdict ⌝ }
+{
+    let filled = w.filled;
+    let heard = w.heard + 1;
+    let first = w.first;
     let waiting = one_less(w.waiting);
     let events = w.events;
     let up = moved_up(events);
+    let fill = fills_at(filled, verdict);
     Watch {
         state,
         waiting,
+        filled: number_if(fill, 1, filled),
+        heard,
+        first: number_if(fill, heard, first),
         events: up,
     }
 }

@@ -44,7 +44,7 @@ use denote.Triple.Walked.{says, needs, Stays, stay-none, stay-none-slice, walkOf
 use denote.Exit.{yes}
 use denote.Triple.Clauses.{ensured, lasts}
 use Rattle.meaning.specs.declared.Watch.{Watch}
-use Rattle.meaning.specs.Desks.{freshWatch, watchAt}
+use Rattle.meaning.specs.Desks.{noWatch, watchAt}
 use Rattle.meaning.proofs.Watch as T
 use Rattle.meaning.proofs.Watch.Laws as T′
 use Rattle.desk_tasks.specs.declared.Task.{Task}
@@ -210,16 +210,16 @@ module _ {M : Type 1} (𝓤 : URA M) (H : Heap 𝓤) (A : Atoms 𝓤) (W : Given
         rewrite ! 8 (λ (j : ℕ). ‵ (fat fullShare word l₄ 0 (vint w64 j))) less-is refl $
         assigns ! (bin ! (load ! (from ! (stop !)) (look ! 8 refl)) (lit ! tt) (record { fits = scaled k n l (room .1) })) (from ! (stop !)) (init ! 4 refl (tt, record { fits = scaled k n l (room .1) })) $
         assigns ! (bin ! (load ! (from ! (fld ! refl (stop !))) (look-in ! 14 (sub ! 0 refl (whole !)))) (load ! (from ! (stop !)) (look ! 4 refl)) tt) (from ! (stop !)) (init ! 2 refl (tt, tt)) $
-        rewrite ! 2 (λ (p : ℕ). ‵ (fat fullShare tyPtr l₇ 0 (vptr b p))) (sym (place-is 36 o k)) refl $
+        rewrite ! 2 (λ (p : ℕ). ‵ (fat fullShare tyPtr l₇ 0 (vptr b p))) (sym (place-is 48 o k)) refl $
         -- what desk owns is had twice, and one copy is opened
         move ! (19 ∷ []) $ use1 W (‵ Own ⊛ ‵ Own) (shr-slice-copy 𝓤 H A W (named 0) κ T.the-row .twice d (v ∷ [])) $ split ! $
         fsplit ! $ move ! (1 ∷ []) $ fsplit ! $ move ! (1 ∷ 22 ∷ 3 ∷ []) $
         -- [the fractured borrow; the token; what desk owns; res; the copy's fact; _8; …]
         looks-slice ! tt T.the-row (Is T.the-row) (shows 𝓤 H A T.the-row) (LL.vals T.the-type T′.the-laws) (LL.tells T.the-type T′.the-laws) (LL.copy T.the-type T′.the-copy 𝓤 H A W) ys b o (λ q′.
-        elem-out ! T.the-row (Is T.the-row) (shows 𝓤 H A T.the-row) (LL.vals T.the-type T′.the-laws) (LL.tells T.the-type T′.the-laws) q′ ys k freshWatch b o l (λ g.
+        elem-out ! T.the-row (Is T.the-row) (shows 𝓤 H A T.the-row) (LL.vals T.the-type T′.the-laws) (LL.tells T.the-type T′.the-laws) q′ ys k noWatch b o l (λ g.
         -- [desk[i]; what it owns; the others; what shuts; the fractured borrow; what desk owns; res; the copy's fact; _8; …]
         assigns ! (of-opd ! (load ! (from ! (hop ! (look ! 10 refl) (stop !))) (look-raw ! 0 refl))) (from ! (stop !)) (init ! 8 refl (LL.lawful T.the-type T′.the-laws 𝓤 H A W .typed (watchAt ys k) _ g .0)) $
-        elem-back ! T.the-row q′ ys k freshWatch (LL.vals T.the-type T′.the-laws (watchAt ys k)) b o l $ shuts-slice ! tt T.the-row q′ ys b o $
+        elem-back ! T.the-row q′ ys k noWatch (LL.vals T.the-type T′.the-laws (watchAt ys k)) b o l $ shuts-slice ! tt T.the-row q′ ys b o $
         -- [the token; the fractured borrow; what desk owns; res; the copy's fact; _8; …]
         move ! (1 ∷ 3 ∷ 4 ∷ []) $ drop ! $ drop ! $ drop ! $
         nothing ! $ owned ! usize (Is usize) (uint-makes 𝓤 H A W w64) k _ (refl, k-fits) $ fjoin ! $ owned ! T.the-row (Is T.the-row) (LL.makes T.the-type T′.the-plain 𝓤 H A) (watchAt ys k) _ g $ fjoin ! $

@@ -1,4 +1,4 @@
--- `desk_survey::watch_at` meets its contract: a walk of its MIR, with a branch in it. Below the row's length the slice is looked into and the element copied out; past it `watches::fresh_watch` is called.
+-- `desk_survey::watch_at` meets its contract: a walk of its MIR, with a branch in it. Below the row's length the slice is looked into and the element copied out; past it `watches::no_watch` is called.
 use mathlib.Core.Path.{_≡_, refl, sym, _∙_}
 use Prim.Native.Nat.{ℕ, _<_, _^_}
 use mathlib.Core.List.{List, [], _∷_}
@@ -39,13 +39,13 @@ use denote.Triple.Walked.{says, Stays, stay-none, stay-none-slice, walkOf, goes-
 use denote.Exit.{yes}
 use denote.Triple.Clauses.{ensured, lasts}
 use Rattle.meaning.specs.declared.Watch.{Watch}
-use Rattle.meaning.specs.Desks.{freshWatch, watchAt}
+use Rattle.meaning.specs.Desks.{noWatch, watchAt}
 use Rattle.meaning.proofs.Watch as T
 use Rattle.meaning.proofs.Watch.Laws as T′
-use Rattle.watches.proofs.fresh_watch as fresh
-use Rattle.watches.proofs.fresh_watch.Symbol as fresh-def
-use Rattle.watches.proofs.fresh_watch.Symbol.{name as #watches·fresh-watch}
-use Rattle.watches.proofs.fresh_watch.Met as fresh-thm
+use Rattle.watches.proofs.no_watch as outside
+use Rattle.watches.proofs.no_watch.Symbol as outside-def
+use Rattle.watches.proofs.no_watch.Symbol.{name as #watches·no-watch}
+use Rattle.watches.proofs.no_watch.Met as outside-thm
 use Rattle.desk_survey.proofs.Walking.{type-at, scaled}
 use Rattle.desk_survey.proofs.watch_at.Key.{name as #desk-survey·watch-at}
 use Rattle.desk_survey.proofs.watch_at as outer
@@ -58,17 +58,17 @@ stayed = (stay-none-slice (0 ∷ []) tt (plain (λ _. T.the-row)) yes, (stay-non
 
 module _ {M : Type 1} (𝓤 : URA M) (H : Heap 𝓤) (A : Atoms 𝓤) (mem : Memory → SProp 𝓤) (run : Routine → Fun 𝓤) where
   -- the contract that the proof cites
-  abbrev Fresh : Contract 𝓤
-  Fresh = tripleOf 𝓤 H A fresh.signature (fresh.spec 𝓤 H A mem run)
+  abbrev Outside : Contract 𝓤
+  Outside = tripleOf 𝓤 H A outside.signature (outside.spec 𝓤 H A mem run)
 
-  abbrev to : Fresh .Ghost
+  abbrev to : Outside .Ghost
   to = ((tt, tt, tt, tt, tt), tt)
 
-  goes : Given 𝓤 H A → ent 𝓤 (⋆ 𝓤 H A (‵ ftrue ∷ ‵ (owns [] tt tt) ∷ [])) (Fresh .pre to)
+  goes : Given 𝓤 H A → ent 𝓤 (⋆ 𝓤 H A (‵ ftrue ∷ ‵ (owns [] tt tt) ∷ [])) (Outside .pre to)
   goes W = qed W (‵ ftrue ∷ ‵ (owns [] tt tt) ∷ []) ∵ join ! $ frame ! $ done !
 
-  said : (r : Watch) → ent 𝓤 (ensured 𝓤 H A fresh.ended (fresh.clauses 𝓤 H A mem run) tt tt tt r) (fact 𝓤 (r ≡ freshWatch))
-  said r = exE 𝓤 _ (λ ws. snd∗ 𝓤 (sem 𝓤 H A (lasts fresh.ended tt tt ws)) (fact 𝓤 (r ≡ freshWatch)))
+  said : (r : Watch) → ent 𝓤 (ensured 𝓤 H A outside.ended (outside.clauses 𝓤 H A mem run) tt tt tt r) (fact 𝓤 (r ≡ noWatch))
+  said r = exE 𝓤 _ (λ ws. snd∗ 𝓤 (sem 𝓤 H A (lasts outside.ended tt tt ws)) (fact 𝓤 (r ≡ noWatch)))
 
 module _ {M : Type 1} (𝓤 : URA M) (H : Heap 𝓤) (A : Atoms 𝓤) (W : Given 𝓤 H A) (mem : Memory → SProp 𝓤) (run : Routine → Fun 𝓤) (κ : Lft) (q : Share) (b o : ℕ) (γ : GName) (ys : List Watch) (i : ℕ) (i-fits : i < 2 ^ 64) where
   abbrev d : RefT (List Watch)
@@ -104,7 +104,7 @@ module _ {M : Type 1} (𝓤 : URA M) (H : Heap 𝓤) (A : Atoms 𝓤) (W : Given
       nothing ! $ move ! (2 ∷ 0 ∷ []) $ join ! $ frame ! $
       nothing ! $ owned ! usize (Is usize) (uint-makes 𝓤 H A W w64) i _ (refl, i-fits) $ fjoin ! $ move ! (2 ∷ 0 ∷ []) $ fjoin ! $ frame ! $ done !
 
-  module _ (C : Calls 𝓤 H) (Λ : Loops 𝓤 H) (fm : FmC 𝓤 H (W .laws) C) (known : Triple 𝓤 (C #watches·fresh-watch) (Fresh 𝓤 H A mem run)) where
+  module _ (C : Calls 𝓤 H) (Λ : Loops 𝓤 H) (fm : FmC 𝓤 H (W .laws) C) (known : Triple 𝓤 (C #watches·no-watch) (Outside 𝓤 H A mem run)) where
     abbrev word : Ty
     word = tyInt w64
 
@@ -126,16 +126,16 @@ module _ {M : Type 1} (𝓤 : URA M) (H : Heap 𝓤) (A : Atoms 𝓤) (W : Given
         (λ below. let l : i < n = ltb→lt i n below in
         assigns ! (bin ! (load ! (from ! (stop !)) (look ! 10 refl)) (lit ! tt) (record { fits = scaled i n l (gn .1) })) (from ! (stop !)) (init ! 4 refl (tt, record { fits = scaled i n l (gn .1) })) $
         assigns ! (bin ! (load ! (from ! (fld ! refl (stop !))) (look-in ! 12 (sub ! 0 refl (whole !)))) (load ! (from ! (stop !)) (look ! 4 refl)) tt) (from ! (stop !)) (init ! 2 refl (tt, tt)) $
-        rewrite ! 2 (λ (p : ℕ). ‵ (fat fullShare tyPtr l₆ 0 (vptr b p))) (sym (place-is 36 o i)) refl $
+        rewrite ! 2 (λ (p : ℕ). ‵ (fat fullShare tyPtr l₆ 0 (vptr b p))) (sym (place-is 48 o i)) refl $
         -- what desk owns is had twice, and one copy is opened
         move ! (17 ∷ []) $ fsplit ! $ use1 W (‵ Own ⊛ ‵ Own) (shr-slice-copy 𝓤 H A W (named 0) κ T.the-row .twice d (v ∷ [])) $ split ! $
         fsplit ! $ move ! (1 ∷ []) $ fsplit ! $ move ! (21 ∷ []) $ split ! $ move ! (3 ∷ 0 ∷ []) $
         looks-slice ! tt T.the-row (Is T.the-row) (shows 𝓤 H A T.the-row) (LL.vals T.the-type T′.the-laws) (LL.tells T.the-type T′.the-laws) (LL.copy T.the-type T′.the-copy 𝓤 H A W) ys b o (λ q′.
-        elem-out ! T.the-row (Is T.the-row) (shows 𝓤 H A T.the-row) (LL.vals T.the-type T′.the-laws) (LL.tells T.the-type T′.the-laws) q′ ys i freshWatch b o l (λ g.
+        elem-out ! T.the-row (Is T.the-row) (shows 𝓤 H A T.the-row) (LL.vals T.the-type T′.the-laws) (LL.tells T.the-type T′.the-laws) q′ ys i noWatch b o l (λ g.
         -- [desk[number]; what it owns; the others; what shuts; the fractured borrow; true; res; the copy's fact; what desk owns; number's; _7; …]
         assigns ! (of-opd ! (load ! (from ! (hop ! (look ! 12 refl) (stop !))) (look-raw ! 0 refl))) (from ! (stop !)) (init ! 10 refl (LL.lawful T.the-type T′.the-laws 𝓤 H A W .typed elem _ g .0)) $
         assigns ! (of-opd ! (load ! (from ! (stop !)) (look ! 10 refl))) (from ! (stop !)) (init ! 24 refl (LL.lawful T.the-type T′.the-laws 𝓤 H A W .typed elem _ g .0)) $
-        elem-back ! T.the-row q′ ys i freshWatch (LL.vals T.the-type T′.the-laws elem) b o l $ shuts-slice ! tt T.the-row q′ ys b o $
+        elem-back ! T.the-row q′ ys i noWatch (LL.vals T.the-type T′.the-laws elem) b o l $ shuts-slice ! tt T.the-row q′ ys b o $
         owned ! T.the-row (Is T.the-row) (LL.makes T.the-type T′.the-plain 𝓤 H A) elem _ g $
         -- [what the result owns; the token; the fractured borrow; true; res; the copy's fact; what desk owns; number's; _7; …]
         returns-within ! Post refl (look ! 22 refl) $ forget ! 8 refl $ forget ! 10 refl $ forget ! 12 refl $ forget ! 14 refl $ forget ! 16 refl $ forget ! 18 refl $ forget ! 20 refl $ forget ! 22 refl $
@@ -143,10 +143,10 @@ module _ {M : Type 1} (𝓤 : URA M) (H : Heap 𝓤) (A : Atoms 𝓤) (W : Given
         move ! (14 ∷ 15 ∷ []) $ free1 ! $ move ! (12 ∷ 13 ∷ []) $ free1 ! $ move ! (10 ∷ 11 ∷ []) $ free1 ! $ move ! (8 ∷ 9 ∷ []) $ free1 ! $ free0 ! $
         keep ! (0 ∷ 1 ∷ 6 ∷ []) $ by ! (exits elem (LL.val T.the-type T′.the-laws elem) refl))))
         (λ past. skips ! $ exec ! C Λ (En l₀ l₁ l₂ l₃ l₄ l₅ l₆ l₇) body.t-4 (atRet (En l₀ l₁ l₂ l₃ l₄ l₅ l₆ l₇) Post) $
-        nothing ! $ nothing ! $ use2 W (raw (Fresh 𝓤 H A mem run .pre (to 𝓤 H A mem run))) (goes 𝓤 H A mem run W) $
-        calls-at ! fm (Fresh 𝓤 H A mem run) known (to 𝓤 H A mem run) (no-more !) (λ u.
-        use1 W (later (some (λ (r : Watch). (‵ ftrue ⊛ ‵ (T.the-row .own r (u ∷ []))) ⊛ raw (ensured 𝓤 H A fresh.ended (fresh.clauses 𝓤 H A mem run) tt tt tt r)))) (id⊢ 𝓤 _) $ await ! tt $ pick ! (λ r.
-        split ! $ move ! (1 ∷ []) $ use1 W (raw (fact 𝓤 (r ≡ freshWatch))) (said 𝓤 H A mem run r) $ heard ! (r ≡ freshWatch) (λ e. split ! $ drop ! $
+        nothing ! $ nothing ! $ use2 W (raw (Outside 𝓤 H A mem run .pre (to 𝓤 H A mem run))) (goes 𝓤 H A mem run W) $
+        calls-at ! fm (Outside 𝓤 H A mem run) known (to 𝓤 H A mem run) (no-more !) (λ u.
+        use1 W (later (some (λ (r : Watch). (‵ ftrue ⊛ ‵ (T.the-row .own r (u ∷ []))) ⊛ raw (ensured 𝓤 H A outside.ended (outside.clauses 𝓤 H A mem run) tt tt tt r)))) (id⊢ 𝓤 _) $ await ! tt $ pick ! (λ r.
+        split ! $ move ! (1 ∷ []) $ use1 W (raw (fact 𝓤 (r ≡ noWatch))) (said 𝓤 H A mem run r) $ heard ! (r ≡ noWatch) (λ e. split ! $ drop ! $
         -- [what the result owns; _7; …; the token; what desk and number own]
         peeks ! T.the-row (Is T.the-row) (shows 𝓤 H A T.the-row) r (u ∷ []) (λ is.
         land ! (from ! (stop !)) (init ! 15 refl (LL.lawful T.the-type T′.the-laws 𝓤 H A W .typed r _ is .0)) $
@@ -154,16 +154,16 @@ module _ {M : Type 1} (𝓤 : URA M) (H : Heap 𝓤) (A : Atoms 𝓤) (W : Given
         move ! (15 ∷ 16 ∷ []) $ free1 ! $ move ! (13 ∷ 14 ∷ []) $ free1 ! $ move ! (11 ∷ 12 ∷ []) $ free1 ! $ move ! (9 ∷ 10 ∷ []) $ free1 ! $
         move ! (7 ∷ 8 ∷ []) $ free1 ! $ move ! (5 ∷ 6 ∷ []) $ free1 ! $ move ! (3 ∷ 4 ∷ []) $ free1 ! $ move ! (1 ∷ 2 ∷ []) $ free1 ! $ free0 ! $
         move ! (1 ∷ []) $ split ! $ move ! (3 ∷ []) $ fsplit ! $
-        keep ! (4 ∷ 2 ∷ 0 ∷ []) $ by ! (exits r u (e ∙ sym (List·getD-eq-default ys freshWatch (nltb→le i n past)))))))))))))))))
+        keep ! (4 ∷ 2 ∷ 0 ∷ []) $ by ! (exits r u (e ∙ sym (List·getD-eq-default ys noWatch (nltb→le i n past)))))))))))))))))
 
 module _ {M : Type 1} (𝓤 : URA M) (H : Heap 𝓤) (A : Atoms 𝓤) (W : Given 𝓤 H A) (mem : Memory → SProp 𝓤) (run : Routine → Fun 𝓤) where
-  watch-at-walks : (C : Calls 𝓤 H) (Λ : Loops 𝓤 H) → FmC 𝓤 H (W .laws) C → Triple 𝓤 (C #watches·fresh-watch) (Fresh 𝓤 H A mem run)
+  watch-at-walks : (C : Calls 𝓤 H) (Λ : Loops 𝓤 H) → FmC 𝓤 H (W .laws) C → Triple 𝓤 (C #watches·no-watch) (Outside 𝓤 H A mem run)
       → Walks 𝓤 H A outer.ended stayed (WpFn 𝓤 H C Λ code.function) (outer.clauses 𝓤 H A mem run)
   watch-at-walks C Λ fm known = walked 𝓤 H A outer.ended stayed (outer.clauses 𝓤 H A mem run) (WpFn 𝓤 H C Λ code.function) (λ κs. (slice-vals, (uint-vals w64, tt))) (λ κs. (shr-slice-tells (named 0) (κs .0) T.the-row, (uint-tells w64, tt)))
       (λ κs qs bounds a g are. via 𝓤 _ (fst∗ 𝓤 _ (emp 𝓤)) (walk 𝓤 H A W mem run (κs .0) (qs .0) (a .0 .ptr .0) (a .0 .ptr .1) (a .0 .name) (a .0 .now) (a .1 .0) (are .1 .0 .1) C Λ fm known (are .0 .0 .1)))
 
 watch-at-meets : {M : Type 1} (𝓤 : URA M) (H : Heap 𝓤) (A : Atoms 𝓤) (W : Given 𝓤 H A) (mem : Memory → SProp 𝓤) (run : Routine → Fun 𝓤) (𝓣 : Tables 𝓤 H)
-    → Triple 𝓤 (𝓣 .C #watches·fresh-watch) (Fresh 𝓤 H A mem run)
+    → Triple 𝓤 (𝓣 .C #watches·no-watch) (Outside 𝓤 H A mem run)
     → Meets 𝓤 H A outer.signature (WpFn 𝓤 H (𝓣 .C) (𝓣 .Λ) code.function) (outer.spec 𝓤 H A mem run)
 watch-at-meets 𝓤 H A W mem run 𝓣 known = walk-meets 𝓤 H A outer.ended stayed W (goes-none-slice 𝓤 H A W 1 (0 ∷ []) tt (plain (λ _. T.the-row)) yes, (goes-none 𝓤 H A W 1 (λ _. usize) yes (λ κs x f. refl), tt)) (outer.clauses 𝓤 H A mem run)
     (WpFn 𝓤 H (𝓣 .C) (𝓣 .Λ) code.function) (WpFn-mono 𝓤 H (W .laws) 𝓣 code.function) (watch-at-walks 𝓤 H A W mem run (𝓣 .C) (𝓣 .Λ) (fmOf 𝓤 H (W .laws) 𝓣) known)
@@ -174,4 +174,4 @@ watch-at-spec 𝓤 H 𝓜 𝓖 𝓡 =
     entered 𝓤 H (tripleOf 𝓤 H (𝓖 .A) outer.signature (outer.spec 𝓤 H (𝓖 .A) (𝓜 .mem) (𝓡 .run)))
     (tables 𝓤 H 𝓜 𝓡 code.env .C) (tables 𝓤 H 𝓜 𝓡 code.env .Λ) #desk-survey·watch-at code.function (code.unfolded 𝓤 H 𝓜 𝓡)
     (watch-at-meets 𝓤 H (𝓖 .A) (givenOf 𝓤 H 𝓜 𝓖) (𝓜 .mem) (𝓡 .run) (tablesOf 𝓤 H 𝓜 (tables 𝓤 H 𝓜 𝓡 code.env))
-    (cited 𝓤 H (Fresh 𝓤 H (𝓖 .A) (𝓜 .mem) (𝓡 .run)) 𝓜 𝓡 code.env #watches·fresh-watch fresh-def.routine code.calls-watches·fresh-watch (fresh-thm.met 𝓤 H 𝓜 𝓖 𝓡)))
+    (cited 𝓤 H (Outside 𝓤 H (𝓖 .A) (𝓜 .mem) (𝓡 .run)) 𝓜 𝓡 code.env #watches·no-watch outside-def.routine code.calls-watches·no-watch (outside-thm.met 𝓤 H 𝓜 𝓖 𝓡)))

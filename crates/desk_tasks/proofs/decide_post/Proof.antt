@@ -1,7 +1,9 @@
 -- `desk_tasks::decide_post` meets its contract.
 use borrow.Author.Needs.{needs}
 use native.Mathlib.Omega.{arith}
-use borrow.Author.Tests.{le-leb, lt-leb}
+use borrow.Author.Tests.{le-leb, lt-leb, eq-eqb, ne-eqb}
+use mathlib.Core.Path.{_∙_}
+use Rattle.meaning.specs.Desks.{counted}
 use Rattle.desk_tasks.proofs.Laws.{barred}
 use Rattle.desk_tasks.proofs.decide_post.Statement.{statement}
 use Rattle.desk_tasks.proofs.decide_post.Tie as tie
@@ -39,15 +41,47 @@ returns-3 c =
     rw (lt-leb (a .s .length) (a .number) (omega (arith, inside .if1 .left)), barred (a .s .mask) (a .event) (happens .before .wide .ensures .0) (happens .can-happen .ensures) (c .before .before .if2 .left), le-leb 32 (a .w .waiting) (omega (arith, c .before .if3 .taken)))
     (c .refuse3 .ensures)
 
-with-event-requires : tie.Need-with-event-requires
-with-event-requires c κs = search needs
+count-of-requires : tie.Need-count-of-requires
+count-of-requires c κs = search needs
+
+refuse-requires-4 : tie.Need-refuse-requires-4
+refuse-requires-4 c κs = search needs
 
 returns-4 : tie.Need-returns-4
 returns-4 c =
-    let happens = c .before .before .before in
+    let count = c .before .before in
+    let room = count .before in
+    let able = room .before in
+    let happens = able .before in
     let inside = happens .before .before in
     let a = inside .before .args in
-    rw (c .with-event .ensures, lt-leb (a .s .length) (a .number) (omega (arith, inside .if1 .left)), barred (a .s .mask) (a .event) (happens .before .wide .ensures .0) (happens .can-happen .ensures) (c .before .before .if2 .left), lt-leb 32 (a .w .waiting) (omega (arith, c .before .if3 .left)))
+    rw (
+      lt-leb (a .s .length) (a .number) (omega (arith, inside .if1 .left)),
+      barred (a .s .mask) (a .event) (happens .before .wide .ensures .0) (happens .can-happen .ensures) (able .if2 .left),
+      lt-leb 32 (a .w .waiting) (omega (arith, room .if3 .left)),
+      eq-eqb (counted (a .w)) 4294967295 (omega (arith, c .before .if4 .taken, count .count-of .ensures)),
+    )
+    (c .refuse4 .ensures)
+
+with-event-requires : tie.Need-with-event-requires
+with-event-requires c κs = omega (arith, c .before .before .if3 .left)
+
+returns-5 : tie.Need-returns-5
+returns-5 c =
+    let more = c .before in
+    let count = more .before in
+    let room = count .before in
+    let able = room .before in
+    let happens = able .before in
+    let inside = happens .before .before in
+    let a = inside .before .args in
+    rw (
+      c .with-event .ensures,
+      lt-leb (a .s .length) (a .number) (omega (arith, inside .if1 .left)),
+      barred (a .s .mask) (a .event) (happens .before .wide .ensures .0) (happens .can-happen .ensures) (able .if2 .left),
+      lt-leb 32 (a .w .waiting) (omega (arith, room .if3 .left)),
+      ne-eqb (counted (a .w)) 4294967295 (λ e. more .if4 .left (count .count-of .ensures ∙ e)),
+    )
 
 pub decide-post-spec : {M : Type 1} → statement M
 decide-post-spec =
@@ -61,5 +95,8 @@ decide-post-spec =
     returns-2
     refuse-requires-3
     returns-3
+    count-of-requires
+    refuse-requires-4
+    returns-4
     with-event-requires
-    returns-4)
+    returns-5)

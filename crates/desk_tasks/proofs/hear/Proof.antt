@@ -72,7 +72,7 @@ verdict-at-requires : tie.Need-verdict-at-requires
 verdict-at-requires c κs = omega (arith, c .before .before .before .before .before .before .before .before .if1 .left)
 
 without-oldest-requires : tie.Need-without-oldest-requires
-without-oldest-requires c κs = search needs
+without-oldest-requires c κs = c .before .before .before .before .before .before .before .before .before .before .before .pre
 
 returns-5 : tie.Need-returns-5
 returns-5 c =

@@ -9,11 +9,11 @@ wide16-requires c κs = search needs
 array-write-events : tie.Need-array-write-events
 array-write-events c = search needs
 
-add-t9 : tie.Need-add-t9
-add-t9 c = search needs
+add-t8 : tie.Need-add-t8
+add-t8 c = search needs
 
 returns : tie.Need-returns
 returns c = rw (c .wide16 .ensures .0)
 
 pub with-event-spec : {M : Type 1} → statement M
-with-event-spec = tie.close (tie.spec wide16-requires array-write-events add-t9 returns)
+with-event-spec = tie.close (tie.spec wide16-requires array-write-events add-t8 returns)

@@ -3,14 +3,35 @@ use borrow.Author.Needs.{needs}
 use Rattle.watches.proofs.without_oldest.Statement.{statement}
 use Rattle.watches.proofs.without_oldest.Tie as tie
 
+add-heard : tie.Need-add-heard
+add-heard c = search needs
+
 one-less-requires : tie.Need-one-less-requires
 one-less-requires c κs = search needs
 
 moved-up-requires : tie.Need-moved-up-requires
 moved-up-requires c κs = search needs
 
+fills-at-requires : tie.Need-fills-at-requires
+fills-at-requires c κs = search needs
+
+number-if-requires : tie.Need-number-if-requires
+number-if-requires c κs = search needs
+
+number-if-requires-2 : tie.Need-number-if-requires-2
+number-if-requires-2 c κs = search needs
+
 returns : tie.Need-returns
-returns c = rw (c .before .before .one-less .ensures, c .moved-up .ensures)
+returns c =
+    let fill = c .before .before in
+    let up = fill .before in
+    rw (
+      c .number-if2 .ensures,
+      c .before .number-if .ensures,
+      fill .fills-at .ensures,
+      up .moved-up .ensures,
+      up .before .before .one-less .ensures,
+    )
 
 pub without-oldest-spec : {M : Type 1} → statement M
-without-oldest-spec = tie.close (tie.spec one-less-requires moved-up-requires returns)
+without-oldest-spec = tie.close (tie.spec add-heard one-less-requires moved-up-requires fills-at-requires number-if-requires number-if-requires-2 returns)
