@@ -20,7 +20,7 @@ use Rattle.meaning.specs.declared.Served.{Served}
 use Rattle.meaning.specs.declared.Served.the-variants as Served
 use Rattle.meaning.specs.declared.Watch.{Watch}
 use Rattle.meaning.specs.Runs.{ranIn}
-use Rattle.meaning.specs.Desks.{Outcome, postIn, turnIn}
+use Rattle.meaning.specs.Desks.{Outcome, freshIn, postIn, turnIn}
 use Rattle.codes.specs.declared.Counts.{Counts}
 use Rattle.text_pieces.specs.declared.Text.{Text}
 use Rattle.text_pieces.specs.declared.Text.the-variants as Text
@@ -86,7 +86,10 @@ servedCode (Served.Refused r) = refusalCode r
 abbrev pub countsIn : ℕ → Counts
 countsIn c = cond (ltb 4 (c / 65536)) (record { signals = 0; states = 0 }) (record { signals = c / 65536; states = c % 65536 })
 
--- a post and a turn over the table whose counts are c
+-- a fresh desk, a post and a turn over the table whose counts are c
+abbrev pub freshAt : List ℕ → ℕ → List Watch → Outcome
+freshAt t c d = freshIn t (c / 65536) (c % 65536) d
+
 abbrev pub postAt : List ℕ → ℕ → List Watch → ℕ → ℕ → Outcome
 postAt t c d i e = postIn t (c / 65536) (c % 65536) d i e
 

@@ -10,7 +10,7 @@ use Rattle.meaning.specs.Traces.{Alphabet, Event, Word}
 use Rattle.meaning.specs.Monitors.{follow}
 use Rattle.meaning.specs.TableFiles.{isTable, alphabetIn, signalsIn, statesIn, successor, checkedOf, monitorOf}
 use Rattle.meaning.specs.Runs.{runOf, ranIn, rowRead, rowIn}
-use Rattle.meaning.specs.Desks.{postOf, turnOf}
+use Rattle.meaning.specs.Desks.{Outcome, freshIn, freshOf, postOf, turnOf}
 use Rattle.meaning.specs.declared.Ran.{Ran}
 use Rattle.meaning.specs.declared.Watch.{Watch}
 use Rattle.meaning.specs.declared.Checked.{Checked}
@@ -20,8 +20,8 @@ use Rattle.table_run.proofs.Answers.{run-table, run-refused, row-table, row-ref
 use Rattle.desk_tasks.specs.Surveys.{servedIn, servedOf}
 use Rattle.desk_tasks.specs.declared.Request.{Request}
 use Rattle.desk_tasks.specs.declared.Request.the-variants.{Post, Turn}
-use Rattle.desk_tasks.proofs.Tables.{served-none, served-refused, served-table}
-use Rattle.opened.specs.OpenedTables.{countsOf, openedOf, outcomeBy, ranBy, rowBy, steppedBy, stateAfter, steppedAll, postedBy, turnedBy}
+use Rattle.desk_tasks.proofs.Tables.{Agrees, served-agrees, fresh-agrees}
+use Rattle.opened.specs.OpenedTables.{countsOf, openedOf, outcomeBy, ranBy, rowBy, steppedBy, stateAfter, steppedAll, freshenedBy, postedBy, turnedBy}
 
 module _ (x : RefT (List ℕ)) where
   -- "Opening checks the bytes and refuses by 14"
@@ -49,12 +49,18 @@ module _ (x : RefT (List ℕ)) where
       go (Checked.Refused r) h = row-refused (now x) s r h
 
   -- "A site runs up to 64 tunnels on one table"
-  opened-serves : (d : List Watch) (r : Request) → servedIn (now x) (openedOf x .signals) (openedOf x .states) r d ≡ servedOf (now x) r d
-  opened-serves d r = go (checkedOf (now x)) refl
+  opened-agrees : (d : List Watch) (by : ℕ → ℕ → Outcome) (of : Outcome) → Agrees (now x) d by of → by (openedOf x .signals) (openedOf x .states) ≡ of
+  opened-agrees d by of a = go (checkedOf (now x)) refl
     where
-      go : (c : Checked) → checkedOf (now x) ≡ c → servedIn (now x) (countsOf c .signals) (countsOf c .states) r d ≡ servedOf (now x) r d
-      go (Checked.Table P S) h = served-table (now x) d P S r h
-      go (Checked.Refused y) h = served-none (now x) d 0 0 r refl ∙ sym (served-refused (now x) d r y h)
+      go : (c : Checked) → checkedOf (now x) ≡ c → by (countsOf c .signals) (countsOf c .states) ≡ of
+      go (Checked.Table P S) h = a .table P S h
+      go (Checked.Refused y) h = a .none 0 0 refl ∙ sym (a .wrong y h)
+
+  opened-serves : (d : List Watch) (r : Request) → servedIn (now x) (openedOf x .signals) (openedOf x .states) r d ≡ servedOf (now x) r d
+  opened-serves d r = opened-agrees d (λ P S. servedIn (now x) P S r d) (servedOf (now x) r d) (served-agrees (now x) d r)
+
+  pub opened-freshens : (d : List Watch) → freshenedBy (openedOf x) d ≡ freshOf (now x) d
+  opened-freshens d = opened-agrees d (λ P S. freshIn (now x) P S d) (freshOf (now x) d) (fresh-agrees (now x) d)
 
   pub opened-posts : (d : List Watch) (i e : ℕ) → postedBy (openedOf x) d i e ≡ postOf (now x) d i e
   opened-posts d i e = opened-serves d (Post i e)

@@ -6,7 +6,7 @@ use lib.Dec.{leb}
 use denote.Ref.{RefT, now}
 use Rattle.meaning.specs.TableFiles.{checkedOf}
 use Rattle.meaning.specs.Runs.{ranIn, rowIn}
-use Rattle.meaning.specs.Desks.{Outcome, postIn, turnIn}
+use Rattle.meaning.specs.Desks.{Outcome, freshIn, postIn, turnIn}
 use Rattle.meaning.specs.declared.Refusal.the-variants.{WrongTable}
 use Rattle.meaning.specs.declared.Checked.{Checked}
 use Rattle.meaning.specs.declared.Checked.the-variants as Checked
@@ -54,6 +54,10 @@ stateAfter (Ran.Refused x) s = s
 abbrev pub steppedAll : Opened → ℕ → List ℕ → ℕ
 steppedAll t s [] = s
 steppedAll t s (e ∷ es) = steppedAll t (stateAfter (steppedBy t s e) s) es
+
+-- "A fresh desk", "made with C-15's one table"
+abbrev pub freshenedBy : Opened → List Watch → Outcome
+freshenedBy t d = freshIn (now (t .bytes)) (t .signals) (t .states) d
 
 -- "A site runs up to 64 tunnels on one table": a post and a turn over an opened table
 abbrev pub postedBy : Opened → List Watch → ℕ → ℕ → Outcome

@@ -3,7 +3,7 @@ ghost use mathlib.Core.Path.{_≡_};
 ghost use mathlib.Core.List.{_∷_, []};
 ghost use Rattle.meaning.specs.TableFiles.{checkedOf};
 ghost use Rattle.meaning.specs.Runs.{runOf, rowRead};
-ghost use Rattle.opened.specs.OpenedTables.{countsOf, openedOf, outcomeIn, outcomeBy, steppedBy, ranBy, rowBy, stateAfter, steppedAll, postedBy, turnedBy};
+ghost use Rattle.opened.specs.OpenedTables.{countsOf, openedOf, outcomeIn, outcomeBy, steppedBy, ranBy, rowBy, stateAfter, steppedAll, freshenedBy, postedBy, turnedBy};
 use desk::serve;
 use desk_tasks::post_request;
 use desk_tasks::turn_request;
@@ -124,7 +124,14 @@ pub fn step_all<'a, 'e>(t: Opened<'a>, state: u16, events: &'e [u8]) -> u16
 
 // ---- a desk
 
-// Posts an event to the watch with a number: 14 where opening refused, then 18, 13, 19, 12 and 20.
+// Makes a fresh desk of the row, whatever stood there: 14 where opening refused, then 18.
+pub fn fresh<'d, 'a>(desk: &'d mut [Watch], t: Opened<'a>) -> Served
+    ensures { λ r. ⌜ (r ≡ freshenedBy (t .entry) (now (desk .entry)) .answer) × (now (desk .exit) ≡ freshenedBy (t .entry) (now (desk .entry)) .desk) ⌝ }
+{
+    desk::fresh(desk, t.bytes, t.signals, t.states)
+}
+
+// Posts an event to the watch with a number: 14 where opening refused, then 18, 13, 19, 12, 20 and 21.
 pub fn post<'d, 'a>(desk: &'d mut [Watch], t: Opened<'a>, number: usize, event: u8) -> Served
     ensures { λ r. ⌜ (r ≡ postedBy (t .entry) (now (desk .entry)) number event .answer) × (now (desk .exit) ≡ postedBy (t .entry) (now (desk .entry)) number event .desk) ⌝ }
 {

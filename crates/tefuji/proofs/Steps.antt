@@ -1,4 +1,4 @@
--- A step, a post and a turn with counts: those that a check answered, and those that none can.
+-- A step, a fresh desk, a post and a turn with counts: those that a check answered, and those that none can.
 use mathlib.Core.Path.{_≡_, refl, sym, subst, _∙_}
 use mathlib.Core.List.{List, [], _∷_}
 use mathlib.Core.Bool.{Bool, true, false, cond}
@@ -9,7 +9,7 @@ use lib.Dec.{ltb}
 use Rattle.sequences.proofs.Tests.{fails}
 use Rattle.meaning.specs.TableFiles.{signalsIn, statesIn, isTable, countsTests, checkedOf}
 use Rattle.meaning.specs.Runs.{countsFit, runOf}
-use Rattle.meaning.specs.Desks.{Outcome}
+use Rattle.meaning.specs.Desks.{Outcome, freshIn, freshOf}
 use Rattle.meaning.specs.declared.Refusal.{Refusal}
 use Rattle.meaning.specs.declared.Refusal.the-variants.{WrongTable}
 use Rattle.meaning.specs.declared.Checked.{Checked}
@@ -20,8 +20,8 @@ use Rattle.table_layout.proofs.Form.{table-header, states-few}
 use Rattle.table_run.proofs.Answers.{found, run-table, run-refused}
 use Rattle.desk_tasks.specs.Surveys.{servedIn, servedOf}
 use Rattle.desk_tasks.specs.declared.Request.{Request}
-use Rattle.desk_tasks.proofs.Tables.{served-none, served-refused, served-table}
-use Rattle.codes.specs.Codes.{refusalCode, countsCode, countsIn, stepOf}
+use Rattle.desk_tasks.proofs.Tables.{Agrees, served-agrees, fresh-agrees}
+use Rattle.codes.specs.Codes.{refusalCode, countsCode, countsIn, stepOf, freshAt}
 
 -- over more than four signals there is no table
 pub step-none : (t : List ℕ) (c s e : ℕ) → 4 < c / 65536 → Ran.Refused WrongTable ≡ stepOf t c s e
@@ -56,40 +56,49 @@ module _ (t : List ℕ) (s e : ℕ) where
 
 -- ---- a desk
 
-module _ (t : List ℕ) (d : List Watch) (r : Request) where
-  abbrev servedAt : ℕ → Outcome
-  servedAt c = servedIn t (c / 65536) (c % 65536) r d
+-- counts of more than four signals fit no table
+many-none : (t : List ℕ) (c : ℕ) → 4 < c / 65536 → countsFit t (c / 65536) (c % 65536) ≡ false
+many-none t c h = fails (countsTests t (c / 65536) (c % 65536)) 1 (lt-leb (c / 65536) 4 h)
 
-  -- counts of more than four signals fit no table
-  many-none : (c : ℕ) → 4 < c / 65536 → countsFit t (c / 65536) (c % 65536) ≡ false
-  many-none c h = fails (countsTests t (c / 65536) (c % 65536)) 1 (lt-leb (c / 65536) 4 h)
+-- checking refuses by 14 alone
+large : (t : List ℕ) (x : Refusal) → checkedOf t ≡ Checked.Refused x → 4 < refusalCode x / 65536
+large t x k = go (isTable t) k
+  where
+    go : (b : Bool) → cond b (Checked.Table (signalsIn t) (statesIn t)) (Checked.Refused WrongTable) ≡ Checked.Refused x → 4 < refusalCode x / 65536
+    go true q = let z : _≡_ {A = ℕ} 0 1 = cc in absurd (omega arith)
+    go false q =
+        let e : WrongTable ≡ x = cc in
+        subst (λ (y : Refusal). 4 < refusalCode y / 65536) e refused-large
 
-  -- the counts that are taken out of a number serve as the number says
-  pub served-counts : (c : ℕ) → servedIn t (countsIn c .signals) (countsIn c .states) r d ≡ servedAt c
-  served-counts c = go (ltb 4 (c / 65536)) refl
+-- what is done to a desk with counts
+module _ (t : List ℕ) (d : List Watch) (by : ℕ → ℕ → Outcome) (of : Outcome) (a : Agrees t d by of) where
+  -- the counts that are taken out of a number do as the number says
+  by-counts : (c : ℕ) → by (countsIn c .signals) (countsIn c .states) ≡ by (c / 65536) (c % 65536)
+  by-counts c = go (ltb 4 (c / 65536)) refl
     where
-      go : (b : Bool) → ltb 4 (c / 65536) ≡ b → servedIn t (countsIn c .signals) (countsIn c .states) r d ≡ servedAt c
-      go true h = rw h (served-none t d 0 0 r refl ∙ sym (served-none t d (c / 65536) (c % 65536) r (many-none c (ltb-true 4 (c / 65536) h))))
+      go : (b : Bool) → ltb 4 (c / 65536) ≡ b → by (countsIn c .signals) (countsIn c .states) ≡ by (c / 65536) (c % 65536)
+      go true h = rw h (a .none 0 0 refl ∙ sym (a .none (c / 65536) (c % 65536) (many-none t c (ltb-true 4 (c / 65536) h))))
       go false h = rw h
 
-  -- checking refuses by 14 alone
-  large : (x : Refusal) → checkedOf t ≡ Checked.Refused x → 4 < refusalCode x / 65536
-  large x k = go (isTable t) k
-    where
-      go : (b : Bool) → cond b (Checked.Table (signalsIn t) (statesIn t)) (Checked.Refused WrongTable) ≡ Checked.Refused x → 4 < refusalCode x / 65536
-      go true q = let z : _≡_ {A = ℕ} 0 1 = cc in absurd (omega arith)
-      go false q =
-          let e : WrongTable ≡ x = cc in
-          subst (λ (y : Refusal). 4 < refusalCode y / 65536) e refused-large
-
-  served-at : (c : Checked) → checkedOf t ≡ c → servedAt (countsCode c) ≡ servedOf t r d
-  served-at (Checked.Table P S) k =
+  -- and those that checking the bytes answers, whatever the bytes, as the table does
+  by-checked : (c : Checked) → checkedOf t ≡ c → by (countsCode c / 65536) (countsCode c % 65536) ≡ of
+  by-checked (Checked.Table P S) k =
       let few : S ≤ 256 = omega (arith, found t P S k .states, states-few t (table-header t (found t P S k .table))) in
-      let a : (P * 65536 + S) / 65536 ≡ P = omega (arith, few) in
-      let b : (P * 65536 + S) % 65536 ≡ S = omega (arith, few) in
-      rw (a, b) (served-table t d P S r k)
-  served-at (Checked.Refused x) k = served-none t d (refusalCode x / 65536) (refusalCode x % 65536) r (many-none (refusalCode x) (large x k)) ∙ sym (served-refused t d r x k)
+      let p : (P * 65536 + S) / 65536 ≡ P = omega (arith, few) in
+      let q : (P * 65536 + S) % 65536 ≡ S = omega (arith, few) in
+      rw (p, q) (a .table P S k)
+  by-checked (Checked.Refused x) k = a .none (refusalCode x / 65536) (refusalCode x % 65536) (many-none t (refusalCode x) (large t x k)) ∙ sym (a .wrong x k)
 
-  -- with the counts that checking the bytes answers, whatever the bytes, a post and a turn are those over the table
-  pub served-checked : servedAt (countsCode (checkedOf t)) ≡ servedOf t r d
-  served-checked = served-at (checkedOf t) refl
+module _ (t : List ℕ) (d : List Watch) where
+  pub served-counts : (r : Request) (c : ℕ) → servedIn t (countsIn c .signals) (countsIn c .states) r d ≡ servedIn t (c / 65536) (c % 65536) r d
+  served-counts r = by-counts t d (λ P S. servedIn t P S r d) (servedOf t r d) (served-agrees t d r)
+
+  pub fresh-counts : (c : ℕ) → freshIn t (countsIn c .signals) (countsIn c .states) d ≡ freshAt t c d
+  fresh-counts = by-counts t d (λ P S. freshIn t P S d) (freshOf t d) (fresh-agrees t d)
+
+  -- with the counts that checking the bytes answers, whatever the bytes, a post, a turn and a fresh desk are those over the table
+  pub served-checked : (r : Request) → servedIn t (countsCode (checkedOf t) / 65536) (countsCode (checkedOf t) % 65536) r d ≡ servedOf t r d
+  served-checked r = by-checked t d (λ P S. servedIn t P S r d) (servedOf t r d) (served-agrees t d r) (checkedOf t) refl
+
+  pub fresh-checked : freshAt t (countsCode (checkedOf t)) d ≡ freshOf t d
+  fresh-checked = by-checked t d (λ P S. freshIn t P S d) (freshOf t d) (fresh-agrees t d) (checkedOf t) refl

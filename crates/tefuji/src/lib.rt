@@ -5,8 +5,7 @@ ghost use Rattle.meaning.specs.RuleFiles.{judge};
 ghost use Rattle.meaning.specs.TableFiles.{checkedOf};
 ghost use Rattle.meaning.specs.Runs.{runOf};
 ghost use Rattle.building.specs.Build.{answerOf, outputAfter, Right};
-ghost use Rattle.meaning.specs.Desks.{freshOf};
-ghost use Rattle.codes.specs.Codes.{builtCode, countsCode, ranCode, countAfter, stepOf, textCode, servedCode, postAt, turnAt};
+ghost use Rattle.codes.specs.Codes.{builtCode, countsCode, ranCode, countAfter, stepOf, textCode, servedCode, freshAt, postAt, turnAt};
 ghost use Rattle.table_text.specs.Text.{textAnswer, textAfter};
 ghost use Rattle.tefuji.specs.Writing.{Written};
 use codes::built_code;
@@ -86,12 +85,13 @@ pub extern "C" fn tefuji_text(table: &[u8], text: &mut [u8]) -> u64
 
 // ---- a desk of watches
 
-// Makes a fresh desk of the row. Answers 0.
+// Makes a fresh desk of the row, over a table that was checked, whose counts the check answered. Answers 0.
 #[no_mangle]
-pub extern "C" fn tefuji_fresh(desk: &mut [Watch]) -> u64
-    ensures { λ r. ⌜ (r ≡ servedCode (freshOf (now (desk .entry)) .answer)) × (now (desk .exit) ≡ freshOf (now (desk .entry)) .desk) ⌝ }
+pub extern "C" fn tefuji_fresh<'d, 't>(desk: &'d mut [Watch], table: &'t [u8], counts: u64) -> u64
+    ensures { λ r. ⌜ (r ≡ servedCode (freshAt (now (table .entry)) counts (now (desk .entry)) .answer)) × (now (desk .exit) ≡ freshAt (now (table .entry)) counts (now (desk .entry)) .desk) ⌝ }
 {
-    served_code(fresh(desk))
+    let c = counts_in(counts);
+    served_code(fresh(desk, table, c.signals, c.states))
 }
 
 // Posts an event to the watch with a number, over a table that was checked, whose counts the check answered. Answers 0.
