@@ -1,5 +1,5 @@
 -- What posts and turns of a good desk come to. Nothing else looks into their definitions.
---     Added, Denied     a post that is done, and one that is refused, by 19, 12 or 20
+--     Added, Denied     a post that is done, and one that is refused, by 19, 12, 20 or 21
 --     posted            a post is one of the two
 --     Hearing, Silent   a turn that hears the first number with an event waiting, and one that finds none
 --     turned            a turn is one of the two
@@ -9,8 +9,8 @@ use mathlib.Core.List.{List, [], _∷_}
 use mathlib.Core.Bool.{Bool, true, false, cond, not}
 use Prim.Native.Nat.{ℕ, _≤_, _<_}
 use native.Mathlib.Omega.{arith}
-use borrow.Author.Tests.{le-ltb, leb-true, leb-false, ltb-true, ltb-false}
-use lib.Dec.{leb, ltb}
+use borrow.Author.Tests.{le-ltb, leb-true, leb-false, ltb-true, ltb-false, eqb-false}
+use lib.Dec.{leb, ltb, eqb}
 use lib.ListN.{length, set}
 use Rattle.sequences.proofs.Pigeonhole.{Least, least-below}
 use Rattle.meaning.specs.Traces.{Alphabet, Event, isEvent}
@@ -18,9 +18,10 @@ use Rattle.meaning.specs.TableFiles.{isTable, alphabetIn, signalsIn, statesIn, 
 use Rattle.meaning.specs.Runs.{runOf}
 use Rattle.meaning.specs.RuleFiles.{firstOf}
 use Rattle.meaning.specs.Refusals.{codeOf}
-use Rattle.meaning.specs.Desks.{Outcome, watchAt, refused, withEvent, oldest, withoutOldest, after, passed, heardBy, postBy, postOf, turnBy, turnOf}
+use Rattle.meaning.specs.Desks.{Outcome, counted, watchAt, refused, withEvent, oldest, withoutOldest, after, passed, heardBy, postBy, postOf, turnBy, turnOf}
 use Rattle.meaning.specs.declared.Refusal.{Refusal}
-use Rattle.meaning.specs.declared.Refusal.the-variants.{WrongEvent, WrongNumber, QueueFull}
+use Rattle.meaning.specs.declared.Refusal.the-variants.{WrongEvent, WrongNumber, QueueFull, CountFull}
+use Rattle.meaning.specs.declared.Verdict.{Verdict}
 use Rattle.meaning.specs.declared.Watch.{Watch}
 use Rattle.meaning.specs.declared.Served.the-variants as Served
 use Rattle.table_layout.proofs.Form.{test-event}
@@ -43,17 +44,25 @@ module _ (t : List ℕ) where
   abbrev pub next : Watch → ℕ
   next w = successor t (signalsIn t) (w .state) (oldest w)
 
+  -- the verdict there, and the watch that has heard it
+  abbrev pub shown : Watch → Verdict
+  shown w = monitorOf t .verdict (next w)
+
+  abbrev pub later : Watch → Watch
+  later w = withoutOldest w (next w) (shown w)
+
   module _ (n : ℕ) (d : List Watch) where
     -- ---- a post of e to j
     pub record Added (j e : ℕ) : Type 0 where
       pub inside : j < n
       pub event : Event Σ e
       pub room : watchAt d j .waiting < 32
+      pub counts : counted (watchAt d j) < 4294967295
       pub is : postOf t d j e ≡ record { answer = Served.Done; desk = set d j (withEvent (watchAt d j) e) }
 
     pub record Denied (j e : ℕ) : Type 0 where
       pub why : Refusal
-      pub number : (codeOf why .0 ≡ 19) ⊎ (codeOf why .0 ≡ 12) ⊎ (codeOf why .0 ≡ 20)
+      pub number : (codeOf why .0 ≡ 19) ⊎ (codeOf why .0 ≡ 12) ⊎ (codeOf why .0 ≡ 20) ⊎ (codeOf why .0 ≡ 21)
       pub is : postOf t d j e ≡ refused d why
 
     -- ---- a turn that takes l
@@ -71,7 +80,7 @@ module _ (t : List ℕ) where
         pub inside : number < n
         pub waits : 1 ≤ watchAt d number .waiting
         pub is : turnOf t d l
-            ≡ record { answer = Served.Heard number (oldest (watchAt d number)) (next (watchAt d number)) (monitorOf t .verdict (next (watchAt d number))); desk = set d number (withoutOldest (watchAt d number) (next (watchAt d number))) }
+            ≡ record { answer = Served.Heard number (oldest (watchAt d number)) (next (watchAt d number)) (shown (watchAt d number)); desk = set d number (later (watchAt d number)) }
 
       pub record Silent : Type 0 where
         pub before : Silence n
@@ -81,25 +90,36 @@ module _ (t : List ℕ) where
     abbrev done : ℕ → ℕ → Outcome
     done j e = record { answer = Served.Done; desk = set d j (withEvent (watchAt d j) e) }
 
-    -- the tests of the table and of the desk pass, and the other three are left
+    -- the tests of the table and of the desk pass, and the other four are left
     post-checked : (j e : ℕ) → postOf t d j e
-        ≡ firstOf (refused d) ((leb (length d) j, WrongNumber j) ∷ (not (isEvent Σ e), WrongEvent j) ∷ (leb 32 (watchAt d j .waiting), QueueFull j) ∷ []) (done j e)
+        ≡ firstOf (refused d)
+        ((leb (length d) j, WrongNumber j)
+        ∷ (not (isEvent Σ e), WrongEvent j)
+        ∷ (leb 32 (watchAt d j .waiting), QueueFull j)
+        ∷ (eqb (counted (watchAt d j)) 4294967295, CountFull j)
+        ∷ [])
+        (done j e)
     unfolding postBy postOf
     post-checked j e = rw (form, row-fits Σ S n d g some few, none-wrong Σ S n d g, le-ltb (length d) (length d) (omega arith))
 
     pub posted : (j e : ℕ) → Added n d j e ⊎ Denied n d j e
-    posted j e = go (leb (length d) j) (isEvent Σ e) (leb 32 (watchAt d j .waiting)) refl refl refl
+    posted j e = go (leb (length d) j) (isEvent Σ e) (leb 32 (watchAt d j .waiting)) (eqb (counted (watchAt d j)) 4294967295) refl refl refl refl
       where
-        go : (a b c : Bool) → leb (length d) j ≡ a → isEvent Σ e ≡ b → leb 32 (watchAt d j .waiting) ≡ c → Added n d j e ⊎ Denied n d j e
-        go true b c p q r = inr (record { why = WrongNumber j; number = inl refl; is = post-checked j e ∙ rw p })
-        go false false c p q r = inr (record { why = WrongEvent j; number = inr (inl refl); is = post-checked j e ∙ rw (p, q) })
-        go false true true p q r = inr (record { why = QueueFull j; number = inr (inr refl); is = post-checked j e ∙ rw (p, q, r) })
-        go false true false p q r = inl (record {
-          inside = omega (arith, leb-false (length d) j p, g .size);
-          event = test-event Σ e q;
-          room = leb-false 32 (watchAt d j .waiting) r;
-          is = post-checked j e ∙ rw (p, q, r);
-        })
+        go : (a b c f : Bool) → leb (length d) j ≡ a → isEvent Σ e ≡ b → leb 32 (watchAt d j .waiting) ≡ c → eqb (counted (watchAt d j)) 4294967295 ≡ f
+            → Added n d j e ⊎ Denied n d j e
+        go true b c f p q r s = inr (record { why = WrongNumber j; number = inl refl; is = post-checked j e ∙ rw p })
+        go false false c f p q r s = inr (record { why = WrongEvent j; number = inr (inl refl); is = post-checked j e ∙ rw (p, q) })
+        go false true true f p q r s = inr (record { why = QueueFull j; number = inr (inr (inl refl)); is = post-checked j e ∙ rw (p, q, r) })
+        go false true false true p q r s = inr (record { why = CountFull j; number = inr (inr (inr refl)); is = post-checked j e ∙ rw (p, q, r, s) })
+        go false true false false p q r s =
+            let l : j < n = omega (arith, leb-false (length d) j p, g .size) in
+            inl (record {
+              inside = l;
+              event = test-event Σ e q;
+              room = leb-false 32 (watchAt d j .waiting) r;
+              counts = omega (arith, g .fits j l .sum, eqb-false (counted (watchAt d j)) 4294967295 s);
+              is = post-checked j e ∙ rw (p, q, r, s);
+            })
 
     module _ (l : ℕ) where
       abbrev at : ℕ
@@ -132,7 +152,7 @@ module _ (t : List ℕ) where
               let w : 1 ≤ watchAt d at .waiting = leb-true 1 (watchAt d at .waiting) (least .here h) in
               let i : at < n = subst (λ (j : ℕ). j < n) (sym (same-after (passed d l))) (after-in n some l (passed d l)) in
               let f = g .fits at i in
-              let e : Event Σ (oldest (watchAt d at)) = oldest-event Σ S (watchAt d at) f w 0 in
+              let e : Event Σ (oldest (watchAt d at)) = oldest-event Σ S (watchAt d at) f w in
               inl (record {
                 passes = passed d l;
                 number = at;

@@ -1,4 +1,5 @@
 pub mod Rows
+pub mod Counts
 pub mod Answers
 pub mod Moves
 pub mod Turns

@@ -4,7 +4,7 @@
 --     good-by, moved-by      one action
 --     good-all, moved-all    a list of them
 --     still-waits            an event that waits is heard, or one still waits
-use mathlib.Core.Path.{_≡_, refl, sym, ap, _∙_, subst}
+use mathlib.Core.Path.{_≡_, sym, ap, _∙_, subst}
 use mathlib.Core.Logic.{_⊎_, inl, inr}
 use mathlib.Core.List.{List, [], _∷_, _++_, append-nil, append-assoc}
 use mathlib.Core.Bool.{true, cond}
@@ -16,29 +16,34 @@ use lib.Dec.{eqb}
 use lib.ListN.{length, set, length-append}
 use lib.Seq.{length-take-le, getD-set-same, getD-set-other}
 use Rattle.meaning.specs.Traces.{Word}
-use Rattle.meaning.specs.Monitors.{Monitor, follow}
+use Rattle.meaning.specs.Monitors.{Monitor}
 use Rattle.meaning.specs.TableFiles.{isTable, monitorOf}
-use Rattle.meaning.specs.Desks.{Outcome, queue, freshWatch, watchAt, withEvent, oldest, withoutOldest}
+use Rattle.meaning.specs.Desks.{Outcome, queue, noWatch, watchAt, withEvent, oldest}
 use Rattle.meaning.specs.Histories.{Action, Post, Turn, Standing, asked, onward, reached, takes, hears, accepted, heard}
 use Rattle.meaning.specs.declared.Watch.{Watch}
 use Rattle.table_layout.proofs.Form.{table-inside}
-use Rattle.moore.proofs.Words.{word-append, follow-append}
+use Rattle.moore.proofs.Words.{word-append}
 use Rattle.desk_histories.proofs.Rows.{Fits, fits-more, fits-less, queue-more, queue-less, oldest-event, good-set}
+use Rattle.desk_histories.proofs.Counts.{Heard, heard-one}
 use Rattle.rounds.proofs.Rounds.{after-in}
-use Rattle.desk_histories.proofs.Answers.{Σ, S, Fine, Added, Denied, Hearing, Silent, next, posted, turned}
+use Rattle.desk_histories.proofs.Answers.{Σ, S, Fine, Added, Denied, Hearing, Silent, next, shown, later, posted, turned}
 
 module _ (t : List ℕ) where
   abbrev m : Monitor
   m = monitorOf t
 
-  -- from w to w′ the events ins were accepted, and outs heard
+  -- from w to w′ the events ins were accepted, and outs heard, after any that w had heard
   pub record Moved (w w′ : Watch) (ins outs : List ℕ) : Type 0 where
     pub kept : queue w ++ ins ≡ outs ++ queue w′
-    pub state : w′ .state ≡ follow m (w .state) outs
+    pub heard : (es : List ℕ) → Heard m w es → Heard m w′ (es ++ outs)
     pub word : Word (Σ t) outs
 
+  -- nothing is heard
+  heard-none : {w w′ : Watch} → ((es : List ℕ) → Heard m w es → Heard m w′ es) → (es : List ℕ) → Heard m w es → Heard m w′ (es ++ [])
+  heard-none {w} {w′} f es h = subst (Heard m w′) (sym (append-nil es)) (f es h)
+
   pub moved-none : (w : Watch) → Moved w w [] []
-  moved-none w = record { kept = append-nil (queue w); state = refl; word = tt }
+  moved-none w = record { kept = append-nil (queue w); heard = heard-none (λ es h. h); word = tt }
 
   pub moved-then : {w w′ w″ : Watch} {ins outs ins′ outs′ : List ℕ} → Moved w w′ ins outs → Moved w′ w″ ins′ outs′ → Moved w w″ (ins ++ ins′) (outs ++ outs′)
   moved-then {w} {w′} {w″} {ins} {outs} {ins′} {outs′} a b = record {
@@ -48,7 +53,7 @@ module _ (t : List ℕ) where
         ∙ append-assoc outs (queue w′) ins′
         ∙ ap (λ (l : List ℕ). outs ++ l) (b .kept)
         ∙ sym (append-assoc outs outs′ (queue w″));
-    state = b .state ∙ ap (λ (s : ℕ). follow m s outs′) (a .state) ∙ sym (follow-append m (w .state) outs outs′);
+    heard = λ es h. subst (Heard m w″) (append-assoc es outs outs′) (b .heard (es ++ outs) (a .heard es h));
     word = word-append (Σ t) outs outs′ (a .word) (b .word);
   }
 
@@ -67,17 +72,17 @@ module _ (t : List ℕ) where
 
     module _ (d : List Watch) (g : Fine t n d) where
       good-more : (j e : ℕ) → Added t n d j e → Fine t n (set d j (withEvent (watchAt d j) e))
-      good-more j e h = good-set (Σ t) (S t) n d g j (withEvent (watchAt d j) e) (h .inside) (fits-more (Σ t) (S t) (watchAt d j) (g .fits j (h .inside)) e (h .room) (h .event))
+      good-more j e h = good-set (Σ t) (S t) n d g j (withEvent (watchAt d j) e) (h .inside) (fits-more (Σ t) (S t) (watchAt d j) (g .fits j (h .inside)) e (h .room) (h .event) (h .counts))
 
       pub heard-in : (l : ℕ) (h : Hearing t n d l) → h .number < n
       heard-in l h = subst (λ (k : ℕ). k < n) (sym (h .there)) (after-in n some l (h .passes))
 
-      good-less : (l : ℕ) (h : Hearing t n d l) → Fine t n (set d (h .number) (withoutOldest (watchAt d (h .number)) (next t (watchAt d (h .number)))))
+      good-less : (l : ℕ) (h : Hearing t n d l) → Fine t n (set d (h .number) (later t (watchAt d (h .number))))
       good-less l h =
           let f = g .fits (h .number) (heard-in l h) in
           good-set (Σ t) (S t) n d g (h .number) _ (heard-in l h)
-          (fits-less (Σ t) (S t) (watchAt d (h .number)) f (h .waits) (next t (watchAt d (h .number)))
-          (table-inside t form _ _ (f .inside) (oldest-event (Σ t) (S t) (watchAt d (h .number)) f (h .waits) 0)))
+          (fits-less (Σ t) (S t) (watchAt d (h .number)) f (h .waits) (next t (watchAt d (h .number))) (shown t (watchAt d (h .number)))
+          (table-inside t form _ _ (f .inside) (oldest-event (Σ t) (S t) (watchAt d (h .number)) f (h .waits))))
 
     pub good-by : (c : Standing) → Fine t n (c .desk) → (a : Action) → Fine t n (asked t c a .desk)
     good-by c g (Post j e) = go (posted t form n some few (c .desk) g j e)
@@ -99,31 +104,35 @@ module _ (t : List ℕ) where
         more j e = withEvent (watchAt d j) e
 
         abbrev less : ℕ → Watch
-        less j = withoutOldest (watchAt d j) (next t (watchAt d j))
+        less j = later t (watchAt d j)
 
         moved-more : (j e : ℕ) → Added t n d j e → Moved (watchAt d i) (watchAt (set d j (more j e)) i) (cond (eqb i j) (e ∷ []) []) []
         moved-more j e h = go (ℕ-discrete i j)
           where
             here : Moved (watchAt d j) (more j e) (e ∷ []) []
-            here = record { kept = sym (queue-more (Σ t) (S t) (watchAt d j) (g .fits j (h .inside)) e (h .room)); state = refl; word = tt }
+            here = record {
+              kept = sym (queue-more (Σ t) (S t) (watchAt d j) (g .fits j (h .inside)) e (h .room));
+              heard = heard-none (λ es p. record { state = p .state; count = p .count; first = p .first });
+              word = tt;
+            }
 
             go : Dec (i ≡ j) → Moved (watchAt d i) (watchAt (set d j (more j e)) i) (cond (eqb i j) (e ∷ []) []) []
-            go (yes q) = rw (eq-eqb i j q, q, getD-set-same d j (more j e) freshWatch (omega (arith, h .inside, g .size))) here
-            go (no q) = rw (ne-eqb i j q, getD-set-other d j i (more j e) freshWatch q) (moved-none (watchAt d i))
+            go (yes q) = rw (eq-eqb i j q, q, getD-set-same d j (more j e) noWatch (omega (arith, h .inside, g .size))) here
+            go (no q) = rw (ne-eqb i j q, getD-set-other d j i (more j e) noWatch q) (moved-none (watchAt d i))
 
         moved-less : (j : ℕ) → j < n → 1 ≤ watchAt d j .waiting → Moved (watchAt d i) (watchAt (set d j (less j)) i) [] (cond (eqb i j) (oldest (watchAt d j) ∷ []) [])
         moved-less j l h = go (ℕ-discrete i j)
           where
             here : Moved (watchAt d j) (less j) [] (oldest (watchAt d j) ∷ [])
             here = record {
-              kept = append-nil (queue (watchAt d j)) ∙ queue-less (Σ t) (S t) (watchAt d j) (g .fits j l) h (next t (watchAt d j));
-              state = refl;
-              word = (oldest-event (Σ t) (S t) (watchAt d j) (g .fits j l) h 0, tt);
+              kept = append-nil (queue (watchAt d j)) ∙ queue-less (Σ t) (S t) (watchAt d j) (g .fits j l) h (next t (watchAt d j)) (shown t (watchAt d j));
+              heard = λ es p. heard-one m (watchAt d j) es (oldest (watchAt d j)) p;
+              word = (oldest-event (Σ t) (S t) (watchAt d j) (g .fits j l) h, tt);
             }
 
             go : Dec (i ≡ j) → Moved (watchAt d i) (watchAt (set d j (less j)) i) [] (cond (eqb i j) (oldest (watchAt d j) ∷ []) [])
-            go (yes q) = rw (eq-eqb i j q, q, getD-set-same d j (less j) freshWatch (omega (arith, g .size))) here
-            go (no q) = rw (ne-eqb i j q, getD-set-other d j i (less j) freshWatch q) (moved-none (watchAt d i))
+            go (yes q) = rw (eq-eqb i j q, q, getD-set-same d j (less j) noWatch (omega (arith, g .size))) here
+            go (no q) = rw (ne-eqb i j q, getD-set-other d j i (less j) noWatch q) (moved-none (watchAt d i))
 
       abbrev By : Standing → Action → Outcome → Type 0
       By c a o = Moved (watchAt (c .desk) i) (watchAt (o .desk) i) (takes i a (o .answer)) (hears i (o .answer))

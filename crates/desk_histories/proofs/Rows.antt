@@ -1,5 +1,5 @@
 -- Watches that fit a table, and rows of them.
---     Fits                       a watch in a state of the table, with 32 slots and events waiting that can happen
+--     Fits                       a watch in a state of the table, with 32 slots, events waiting that can happen, and room for them in its count
 --     fits-fresh, -more, -less   a fresh watch, one with an event more, one without its oldest
 --     queue-more, queue-less     what waits then
 --     Good                       a row of n such watches
@@ -18,8 +18,10 @@ use lib.Seq.{take-append-le, take-suc-set, getD-set-same, getD-set-other}
 use Rattle.sequences.specs.Tabulate.{every}
 use Rattle.sequences.proofs.Loops.{least-is}
 use Rattle.meaning.specs.Traces.{Alphabet, Event, isEvent, Word}
-use Rattle.meaning.specs.Desks.{queue, freshWatch, watchAt, rowFits, watchFits, firstWrong, withEvent, oldest, withoutOldest}
+use Rattle.meaning.specs.Desks.{queue, counted, freshWatch, noWatch, watchAt, rowFits, watchFits, firstWrong, withEvent, oldest, withoutOldest}
 use Rattle.meaning.specs.declared.Watch.{Watch}
+use Rattle.meaning.specs.declared.Verdict.{Verdict}
+use Rattle.meaning.specs.declared.Verdict.the-variants.{Undecided}
 use Rattle.moore.proofs.Words.{word-append}
 use Rattle.table_layout.proofs.Form.{event-test}
 
@@ -43,44 +45,47 @@ module _ (Σ : Alphabet) (S : ℕ) where
   pub record Fits (w : Watch) : Type 0 where
     pub inside : w .state < S
     pub few : w .waiting ≤ 32
+    pub sum : counted w ≤ 4294967295
     pub slots : length (w .events) ≡ 32
     pub word : Word Σ (queue w)
 
-  pub fits-fresh : 1 ≤ S → Fits freshWatch
-  fits-fresh h = record { inside = h; few = omega arith; slots = refl; word = tt }
+  pub fits-fresh : (v : Verdict) → 1 ≤ S → Fits (freshWatch v)
+  fits-fresh v h = record { inside = h; few = omega arith; sum = omega arith; slots = refl; word = tt }
 
   fits-test : (w : Watch) → Fits w → watchFits Σ S w ≡ true
-  fits-test w f = rw (lt-ltb (w .state) S (f .inside), le-leb (w .waiting) 32 (f .few), word-test Σ (queue w) (f .word))
+  fits-test w f = rw (lt-ltb (w .state) S (f .inside), le-leb (w .waiting) 32 (f .few), le-leb (counted w) 4294967295 (f .sum), word-test Σ (queue w) (f .word))
 
   module _ (w : Watch) (f : Fits w) where
     module _ (e : ℕ) (room : w .waiting < 32) where
       pub queue-more : queue (withEvent w e) ≡ queue w ++ (e ∷ [])
       queue-more = ap (λ (n : ℕ). take n (set (w .events) (w .waiting) e)) (add-one (w .waiting)) ∙ take-suc-set (w .events) (w .waiting) e (omega (arith, f .slots))
 
-      pub fits-more : Event Σ e → Fits (withEvent w e)
-      fits-more a = record {
+      pub fits-more : Event Σ e → counted w < 4294967295 → Fits (withEvent w e)
+      fits-more a c = record {
         inside = f .inside;
         few = omega arith;
+        sum = omega arith;
         slots = length-set (w .events) (w .waiting) e ∙ f .slots;
         word = subst (Word Σ) (sym queue-more) (word-append Σ (queue w) (e ∷ []) (f .word) (a, tt));
       }
 
-    module _ (some : 1 ≤ w .waiting) (s : ℕ) where
-      pub queue-less : queue w ≡ oldest w ∷ queue (withoutOldest w s)
-      queue-less = front (w .waiting) (w .events) some (omega (arith, f .slots, f .few))
+    module _ (some : 1 ≤ w .waiting) where
+      pub queue-less : (s : ℕ) (v : Verdict) → queue w ≡ oldest w ∷ queue (withoutOldest w s v)
+      queue-less s v = front (w .waiting) (w .events) some (omega (arith, f .slots, f .few))
 
-      less-word : Word Σ (oldest w ∷ queue (withoutOldest w s))
-      less-word = subst (Word Σ) queue-less (f .word)
+      less-word : (s : ℕ) (v : Verdict) → Word Σ (oldest w ∷ queue (withoutOldest w s v))
+      less-word s v = subst (Word Σ) (queue-less s v) (f .word)
 
       pub oldest-event : Event Σ (oldest w)
-      oldest-event = less-word .0
+      oldest-event = less-word 0 Undecided .0
 
-      pub fits-less : s < S → Fits (withoutOldest w s)
-      fits-less l = record {
+      pub fits-less : (s : ℕ) (v : Verdict) → s < S → Fits (withoutOldest w s v)
+      fits-less s v l = record {
         inside = l;
         few = omega (arith, f .few);
+        sum = omega (arith, f .sum);
         slots = length-append (drop 1 (w .events)) (0 ∷ []) ∙ omega (arith, length-drop 1 (w .events), f .slots);
-        word = less-word .1;
+        word = less-word s v .1;
       }
 
   -- ---- rows
@@ -89,10 +94,10 @@ module _ (Σ : Alphabet) (S : ℕ) where
     pub size : length d ≡ n
     pub fits : (i : ℕ) → i < n → Fits (watchAt d i)
 
-  pub good-fresh : (n : ℕ) → 1 ≤ S → Good n (replicate n freshWatch)
-  good-fresh n h = record {
-    size = length-replicate n freshWatch;
-    fits = λ i l. subst Fits (sym (getD-replicate n i freshWatch freshWatch l)) (fits-fresh h);
+  pub good-fresh : (v : Verdict) (n : ℕ) → 1 ≤ S → Good n (replicate n (freshWatch v))
+  good-fresh v n h = record {
+    size = length-replicate n (freshWatch v);
+    fits = λ i l. subst Fits (sym (getD-replicate n i (freshWatch v) noWatch l)) (fits-fresh v h);
   }
 
   module _ (n : ℕ) (d : List Watch) (g : Good n d) where
@@ -100,8 +105,8 @@ module _ (Σ : Alphabet) (S : ℕ) where
     good-set i w l f = record { size = length-set d i w ∙ g .size; fits = λ j m. go j m (ℕ-discrete j i) }
       where
         go : (j : ℕ) → j < n → Dec (j ≡ i) → Fits (watchAt (set d i w) j)
-        go j m (yes q) = subst (λ (k : ℕ). Fits (watchAt (set d i w) k)) (sym q) (subst Fits (sym (getD-set-same d i w freshWatch (omega (arith, g .size)))) f)
-        go j m (no q) = subst Fits (sym (getD-set-other d i j w freshWatch q)) (g .fits j m)
+        go j m (yes q) = subst (λ (k : ℕ). Fits (watchAt (set d i w) k)) (sym q) (subst Fits (sym (getD-set-same d i w noWatch (omega (arith, g .size)))) f)
+        go j m (no q) = subst Fits (sym (getD-set-other d i j w noWatch q)) (g .fits j m)
 
     pub row-fits : 1 ≤ n → n ≤ 64 → rowFits d ≡ true
     row-fits h k = rw (g .size, le-leb 1 n h, le-leb n 64 k)

@@ -17,7 +17,7 @@ table = 5 ∷ 0 ∷ 0 ∷ 2 ∷ 1 ∷ 1 ∷ 0 ∷ 7 ∷ 0 ∷ 1 ∷ 2 ∷ 0 ∷ 
 
 -- a desk of n watches, where event 1 was posted to each and the first counts as heard last
 abbrev pub posted : ℕ → Standing
-posted n = reached table (begun n 0) (map (λ i. Post i 1) (upTo n))
+posted n = reached table (begun table n 0) (map (λ i. Post i 1) (upTo n))
 
 -- and within k turns the first is not heard
 pub record Unheard (n k : ℕ) : Type 0 where
