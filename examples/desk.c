@@ -1,7 +1,8 @@
 /* One board that serves 64 tunnels with one table.
  *
  * The rule, for each tunnel by itself: after a dose, no second dose until the valve has acknowledged. Events come in bursts, as the tunnels report them,
- * and are posted; the board takes a turn whenever it has time for one event, and opens a valve only when it has heard the dose and the rule stands.
+ * and are posted; the board takes a turn whenever it has time for one event, and opens a valve only when it has heard the dose and the rule stands. Which
+ * tunnel broke its rule, and at which of its events, the foreman reads off the watches at any time.
  *
  * Build: rt staticlib tefuji && cc -I include examples/desk.c target/staticlib/libtefuji.a -o desk
  * Run:   ./desk (here, where examples/ is)
@@ -14,7 +15,7 @@ enum { NOTHING = 0, DOSE = 1, ACKNOWLEDGED = 2, TUNNELS = TEFUJI_DESK_MAX };
 
 static const char *const words[] = {"nothing", "dose", "acknowledged"};
 
-_Static_assert(sizeof(tefuji_watch) == 36, "a watch has no byte but those of its members");
+_Static_assert(sizeof(tefuji_watch) == 48, "a watch has no byte but those of its members");
 
 static uint8_t table[TEFUJI_TABLE_MAX];
 static uint64_t length, counts;
@@ -37,7 +38,7 @@ static void start(void) {
     if (file) fclose(file);
     length = or_stop("build", tefuji_build(rule, size, table, sizeof table));
     counts = or_stop("check", tefuji_check(table, length));
-    or_stop("fresh", tefuji_fresh(desk, TUNNELS));
+    or_stop("fresh", tefuji_fresh(desk, TUNNELS, table, length, counts));
     printf("%d tunnels, one table of %d bytes\n", TUNNELS, (int)length);
 }
 
@@ -60,6 +61,13 @@ static void say(uint64_t answer) {
     printf("tunnel %d: %s, ", (int)tefuji_number(answer), words[tefuji_event(answer)]);
     if (held_back) printf("held back\n");
     else printf("state %u\n", tefuji_state(answer));
+}
+
+/* The rule of the second dose is never satisfied for good, so the verdict that a watch remembers is that it was broken. */
+static void tell_foreman(void) {
+    for (size_t number = 0; number < TUNNELS; number++)
+        if (desk[number].filled)
+            printf("tunnel %d broke its rule at its event %u, of %u heard\n", (int)number, desk[number].first, desk[number].heard);
 }
 
 /* Three tunnels report at once. Tunnel 7 lost its acknowledgement and doses again. */
@@ -104,9 +112,13 @@ static void full(void) {
 int main(void) {
     start();
     burst();
+    tell_foreman();
     busy();
     full();
+    tell_foreman(); /* tunnel 7 has heard 3 events of the burst, 32 of its full queue and one posted again */
     post(TUNNELS, DOSE); /* no such tunnel */
     post(5, 4);          /* an event that needs a third signal */
+    desk[5].heard = UINT32_MAX; /* as if so many had been heard: no more can be counted */
+    post(5, NOTHING);
     return 0;
 }

@@ -45,7 +45,13 @@ pub mod library {
             text: *mut u8,
             text_length: usize,
         ) -> u64;
-        pub fn tefuji_fresh(desk: *mut Watch, watches: usize) -> u64;
+        pub fn tefuji_fresh(
+            desk: *mut Watch,
+            watches: usize,
+            table: *const u8,
+            table_length: usize,
+            counts: u64,
+        ) -> u64;
         pub fn tefuji_post(
             desk: *mut Watch,
             watches: usize,
@@ -81,7 +87,7 @@ pub const DESK_MAX: usize = 64;
 /// The most events that wait for one tunnel.
 pub const QUEUE_MAX: usize = 32;
 
-/// A refusal: its number, 1 to 20, and its place. What was lent keeps every byte.
+/// A refusal: its number, 1 to 21, and its place. What was lent keeps every byte.
 #[derive(Clone, Copy, Debug, PartialEq, Eq)]
 pub struct Refusal {
     pub number: u8,
@@ -129,22 +135,33 @@ pub struct Ended {
     pub count: Option<u64>,
 }
 
-/// The watch of one tunnel: the state in which the table stands for it, how many events wait, and their slots, the oldest first. The first `waiting`
-/// slots count; the others are free. A desk is a row of watches, and a tunnel's number the index of its watch. Any values are a watch.
+/// The watch of one tunnel: the state in which the table stands for it, how many events wait, what it remembers, and the slots, the oldest event first.
+/// The first `waiting` slots count; the others are free. A desk is a row of watches, and a tunnel's number the index of its watch. Any values are a watch.
 #[repr(C)]
 #[derive(Clone, Copy, Debug, PartialEq, Eq)]
 pub struct Watch {
     pub state: u16,
     pub waiting: u16,
+    /// Not 0 where `first` counts. `first_verdict` reads both.
+    pub filled: u32,
+    /// How many events were heard.
+    pub heard: u32,
+    pub first: u32,
     pub events: [u8; QUEUE_MAX],
 }
 
 /// The watch of include/tefuji.h has as many bytes, none of them between or behind its members.
-const _: () = assert!(size_of::<Watch>() == 4 + QUEUE_MAX && align_of::<Watch>() == 2);
+const _: () = assert!(size_of::<Watch>() == 16 + QUEUE_MAX && align_of::<Watch>() == 4);
 
 impl Watch {
-    /// In state 0 with nothing waiting, as every watch of a fresh desk.
-    pub const FRESH: Watch = Watch { state: 0, waiting: 0, events: [0; QUEUE_MAX] };
+    /// Each byte 0: a row of these is what `Opened::fresh` makes a desk of. It is a fresh watch itself only where the start's verdict is undecided.
+    pub const BLANK: Watch =
+        Watch { state: 0, waiting: 0, filled: 0, heard: 0, first: 0, events: [0; QUEUE_MAX] };
+
+    /// At which of the tunnel's heard events, counted from 1, a verdict other than undecided first stood; 0 before the first, none if not yet.
+    pub fn first_verdict(&self) -> Option<u32> {
+        (self.filled != 0).then_some(self.first)
+    }
 }
 
 /// What a turn heard: the tunnel's number, which the next turn takes, its event, and where that led.
@@ -223,13 +240,6 @@ pub fn text(table: &[u8], text: &mut [u8]) -> Result<usize, Refusal> {
     answered(answer).map(|length| length as usize)
 }
 
-/// Makes a fresh desk of a row of watches, whatever stood there. A row that is empty or above `DESK_MAX` is refused by 18.
-pub fn fresh(desk: &mut [Watch]) -> Result<(), Refusal> {
-    // The slice is lent for the call.
-    let answer = unsafe { library::tefuji_fresh(desk.as_mut_ptr(), desk.len()) };
-    answered(answer).map(|_| ())
-}
-
 /// A table opened once and stepped many times. Only `open` makes one, so the counts are always those of the bytes.
 #[derive(Clone, Copy, Debug)]
 pub struct Opened<'a> {
@@ -260,7 +270,17 @@ impl<'a> Opened<'a> {
         answered(answer).map(reached)
     }
 
-    /// Adds an event to those that wait for the tunnel with this number.
+    /// Makes a fresh desk of a row of watches, whatever stood there. A row that is empty or above `DESK_MAX` is refused by 18.
+    pub fn fresh(self, desk: &mut [Watch]) -> Result<(), Refusal> {
+        let (bytes, length) = (self.bytes.as_ptr(), self.bytes.len());
+        // Both slices are lent for the call, and a `&mut` overlaps nothing.
+        let answer = unsafe {
+            library::tefuji_fresh(desk.as_mut_ptr(), desk.len(), bytes, length, self.counts)
+        };
+        answered(answer).map(|_| ())
+    }
+
+    /// Adds an event to those that wait for the tunnel with this number. 20 says that its queue is full, 21 that it has had 4,294,967,295 events.
     pub fn post(self, desk: &mut [Watch], number: usize, event: u8) -> Result<(), Refusal> {
         // Both slices are lent for the call, and a `&mut` overlaps nothing.
         let answer = unsafe {

@@ -1,7 +1,8 @@
-//! Watches several tunnels by one rule: `tunnels RULE NUMBER:EVENT..`. All events are posted, then turns are taken until none waits.
+//! Watches several tunnels by one rule: `tunnels RULE NUMBER:EVENT..`. All events are posted, then turns are taken until none waits; then
+//! each tunnel that was heard says at which of its events a verdict first stood.
 //!
 //! Build: rt staticlib tefuji && rustc --edition 2021 -O -L target/staticlib -l static=tefuji examples/tunnels.rs -o tunnels
-//! Run:   ./tunnels examples/second_dose.rule 7:1 7:1 3:1 3:2 3:1
+//! Run:   ./tunnels examples/second_dose.rule 8:0 3:1 3:2 3:1 3:1 3:2
 mod tefuji;
 
 use std::error::Error;
@@ -19,7 +20,8 @@ fn main() -> Result<(), Box<dyn Error>> {
 }
 
 fn serve(opened: Opened, posts: &[String]) -> Result<(), Box<dyn Error>> {
-    let mut desk = [Watch::FRESH; DESK_MAX];
+    let mut desk = [Watch::BLANK; DESK_MAX];
+    opened.fresh(&mut desk)?;
     for post in posts {
         let (number, event) = post.split_once(':').ok_or("a post is NUMBER:EVENT")?;
         let (number, event) = (number.parse()?, event.parse()?);
@@ -38,5 +40,17 @@ fn serve(opened: Opened, posts: &[String]) -> Result<(), Box<dyn Error>> {
         last = heard.number;
     }
     println!("none waits");
+    tell_foreman(&desk);
     Ok(())
+}
+
+fn tell_foreman(desk: &[Watch]) {
+    for (number, watch) in desk.iter().enumerate().filter(|(_, watch)| watch.heard > 0) {
+        print!("tunnel {number} has heard {}, ", watch.heard);
+        match watch.first_verdict() {
+            None => println!("no verdict yet"),
+            Some(0) => println!("verdict from the start"),
+            Some(count) => println!("verdict since its event {count}"),
+        }
+    }
 }

@@ -7,7 +7,7 @@
  * Pointers. Each goes with its length, in bytes, or in watches where it is a desk, and must be good for that many; it must not be null, not even
  * where the length is 0. A buffer that is written must not overlap one that is read. A buffer that is only read is not changed.
  *
- * Answers. An answer is one number. Below 2^56 it is what was asked for. From there on it is a refusal: the top byte is its number, 1 to 20,
+ * Answers. An answer is one number. Below 2^56 it is what was asked for. From there on it is a refusal: the top byte is its number, 1 to 21,
  * and the lower 56 bits are its place; a place of 2^56 or more is shown as 2^56 - 1. On a refusal every byte that was lent keeps its value.
  *
  *   number  when                                                          place
@@ -29,8 +29,10 @@
  *                                                                         post the tunnel's number
  *   13      a state is not below the number of states                     0
  *           in a desk: a watch has such a state, over 32 events waiting,  the first such watch
- *           or a waiting one that is none or cannot happen
- *   14      the bytes are not a table, or not one of the counts given     0
+ *           a waiting one that is none or cannot happen, or heard and
+ *           waiting events of more than 4,294,967,295 together
+ *   14      the bytes are not a table, or not one of the counts given,    0
+ *           or what is read of them is none of a table's
  *           (65,535 must stand for the same events in every row, not all)
  *   15      the rule text does not fit, or has over 1,024 bytes           see tefuji_write
  *   16      the rule text has more than 64 nodes                          0
@@ -38,6 +40,7 @@
  *   18      the row of a desk is empty, or above 64                       0
  *   19      the tunnel's number is outside the row                        the number
  *   20      32 events already wait for the tunnel                         the number
+ *   21      the tunnel's heard and waiting events are 4,294,967,295       the number
  *
  * tefuji_write refuses by 4, 7 and 8 as well, for the signals it is given, a signal of the text that is not below them, and an eighth
  * temporal sign; there every place but that of 15 is 0.
@@ -79,13 +82,18 @@ extern "C" {
 /* Verdicts. Violated: no continuation satisfies the rule. Satisfied: all do. Moot: neither, and no further event will tell. */
 enum { TEFUJI_UNDECIDED = 0, TEFUJI_SATISFIED = 1, TEFUJI_VIOLATED = 2, TEFUJI_MOOT = 3 };
 
-/* The watch of one tunnel: the state in which the table stands for it, how many events wait, and their slots, the oldest event first. The first
- * `waiting` slots count; the others are free, whatever stands in them.
- * A desk is a row of watches, one per tunnel; a tunnel's number is the index of its watch. It must be aligned as the compiler aligns it, to 2 bytes; a
- * watch has 36 bytes, with none between or behind its members. Any bytes are a watch: what no desk can have is refused by 13. */
+/* The watch of one tunnel: the state in which the table stands for it, how many events wait, what it remembers, and the slots, the oldest event first.
+ * The first `waiting` slots count; the others are free, whatever stands in them.
+ * It remembers how many events were `heard`, and at which of them, counted from 1, a verdict other than undecided `first` stood: 0 before the first
+ * event. `first` counts only where `filled` is not 0; where it is 0, no such verdict has stood yet. What stands in `filled` and `first` is not judged.
+ * A desk is a row of watches, one per tunnel; a tunnel's number is the index of its watch. It must be aligned as the compiler aligns it, to 4 bytes; a
+ * watch has 48 bytes, with none between or behind its members. Any bytes are a watch: what no desk can have is refused by 13. */
 typedef struct tefuji_watch {
     uint16_t state;
     uint16_t waiting;
+    uint32_t filled;
+    uint32_t heard;
+    uint32_t first;
     uint8_t events[TEFUJI_QUEUE_MAX];
 } tefuji_watch;
 
@@ -129,28 +137,35 @@ uint64_t tefuji_step(const uint8_t *table, size_t table_length, uint64_t counts,
  * Answers the text's length, or refuses by 14, then 10. No zero byte is added. */
 uint64_t tefuji_text(const uint8_t *table, size_t table_length, uint8_t *text, size_t text_length);
 
-/* Makes a fresh desk of the whole row: every watch in state 0 with nothing waiting, each of its bytes 0, whatever stood there.
- * Answers 0, or refuses by 18. */
-uint64_t tefuji_fresh(tefuji_watch *desk, size_t watches);
+/* Makes a fresh desk of the whole row, whatever stood there: every watch in state 0 with nothing waiting and nothing heard. Each of its bytes is 0, but
+ * `filled` is 1 where the table's start, state 0, shows a verdict other than undecided: that stood first at 0. The tunnels of a desk are served by one
+ * table; `counts` is what tefuji_check answered for it, as for tefuji_step.
+ * Answers 0, or refuses by 14, then 18.
+ * 14: as for tefuji_step, the counts are no table's or the bytes have not its length; or the start's verdict byte is above 3. */
+uint64_t tefuji_fresh(tefuji_watch *desk, size_t watches, const uint8_t *table, size_t table_length, uint64_t counts);
 
-/* Posts an event to the tunnel with a number: it stands in the first free slot, and one more waits. Nothing else of the desk changes. The tunnels of a
- * desk are served by one table; `counts` is what tefuji_check answered for it, as for tefuji_step.
- * Answers 0, or refuses by 14, then 18, 13, 19, 12, 20.
+/* Posts an event to the tunnel with a number: it stands in the first free slot, and one more waits. Nothing else of the desk changes. The table and its
+ * counts are those with which the desk was made fresh.
+ * Answers 0, or refuses by 14, then 18, 13, 19, 12, 20, 21.
  * 14: as for tefuji_step, the counts are no table's or the bytes have not its length. 13: of all watches of the row, the first with a state that is not
- * below the number of states, with more than 32 events waiting, or with a waiting one that would be refused by 12. 19: the number is not below `watches`.
- * 12: the event is not below 2^signals, or the row of state 0 has 65,535 for it. 20: 32 events wait already; post again after a turn that heard this
- * tunnel. The place of these three is the number as it was given. */
+ * below the number of states, with more than 32 events waiting, with a waiting one that would be refused by 12, or with more than 4,294,967,295 events
+ * heard and waiting. 19: the number is not below `watches`. 12: the event is not below 2^signals, or the row of state 0 has 65,535 for it. 20: 32 events
+ * wait already; post again after a turn that heard this tunnel. 21: heard and waiting are 4,294,967,295 already, so that one more could not be counted;
+ * only a fresh desk helps. The place of these four is the number as it was given. */
 uint64_t tefuji_post(tefuji_watch *desk, size_t watches, const uint8_t *table, size_t table_length, uint64_t counts, size_t number, uint8_t event);
 
 /* Takes a turn: hears the oldest event of the next tunnel after `last` that has one waiting, going round the row, the given tunnel itself at the end. A
  * `last` outside the row counts as the last tunnel, so that a turn then begins with tunnel 0. Hearing moves the tunnel's state to the successor, takes the
- * event out, moves the later slots, the free ones too, up by one, and leaves 0 in the last. Nothing else of the desk changes.
+ * event out, moves the later slots, the free ones too, up by one, leaves 0 in the last, and adds 1 to `heard`. Where `filled` is 0 and the successor shows
+ * a verdict other than undecided, `filled` becomes 1 and `first` the new `heard`; otherwise both are kept. Nothing else of the desk changes.
  * Answers 0 where no event waits; otherwise what tefuji_heard, tefuji_number, tefuji_event, tefuji_state and tefuji_verdict read: the tunnel heard, its
  * event, the successor and its verdict. tefuji_last gives the number for the next turn. Refuses by 14, then 18, then 13, as tefuji_post does; then by 14
  * where what it reads for this event is none of a table's, as tefuji_step does.
  * From a fresh desk that only posts and turns with one table change, where each turn is given the number that tefuji_last gave after the turn before: a
  * tunnel with an event waiting is heard within as many turns as the row has watches, at most 64, whoever else posts; and after its j-th heard event
- * a tunnel stands in the state in which a run from state 0 over its own first j accepted events ends. */
+ * a tunnel stands in the state in which a run from state 0 over its own first j accepted events ends, `heard` is j, and `first` is that run's count, or
+ * `filled` is 0 where that is TEFUJI_NONE. With a table that tefuji_build built, `filled` is not 0 exactly while the verdict of the tunnel's state is not
+ * undecided. */
 uint64_t tefuji_turn(tefuji_watch *desk, size_t watches, const uint8_t *table, size_t table_length, uint64_t counts, size_t last);
 
 /* The parts of an answer. */

@@ -1,6 +1,9 @@
-//! A desk in plain Rust: the same checks as tefuji_post and tefuji_turn, written down as they are said.
+//! A desk in plain Rust: the same checks as tefuji_fresh, tefuji_post and tefuji_turn, written down as they are said.
 
 use crate::tefuji::{Watch, DESK_MAX, QUEUE_MAX};
+
+/// The most events of a tunnel, heard and waiting.
+const EVENTS_MAX: u64 = u32::MAX as u64;
 
 /// A refusal's number and place.
 pub type Refused = (u8, usize);
@@ -32,6 +35,10 @@ impl<'a> Table<'a> {
         &self.bytes[7 + state * (5 + 2 * self.events)..]
     }
 
+    fn verdict(&self, state: usize) -> u8 {
+        self.row(state)[4]
+    }
+
     fn successor(&self, state: usize, event: u8) -> usize {
         let place = 5 + 2 * usize::from(event);
         u16::from_le_bytes([self.row(state)[place], self.row(state)[place + 1]]).into()
@@ -45,19 +52,40 @@ impl<'a> Table<'a> {
         let waiting = usize::from(watch.waiting);
         usize::from(watch.state) < self.states
             && waiting <= QUEUE_MAX
+            && events(watch) <= EVENTS_MAX
             && watch.events[..waiting].iter().all(|&event| self.is_event(event))
+    }
+}
+
+/// Heard and waiting.
+fn events(watch: &Watch) -> u64 {
+    u64::from(watch.heard) + u64::from(watch.waiting)
+}
+
+fn judge_row(desk: &[Watch]) -> Result<(), Refused> {
+    match desk.len() {
+        1..=DESK_MAX => Ok(()),
+        _ => Err((18, 0)),
     }
 }
 
 fn judge<'a>(desk: &[Watch], bytes: &'a [u8], counts: u64) -> Result<Table<'a>, Refused> {
     let table = Table::new(bytes, counts)?;
-    if desk.is_empty() || desk.len() > DESK_MAX {
-        return Err((18, 0));
-    }
+    judge_row(desk)?;
     match desk.iter().position(|watch| !table.fits(watch)) {
         Some(number) => Err((13, number)),
         None => Ok(table),
     }
+}
+
+pub fn fresh(desk: &mut [Watch], bytes: &[u8], counts: u64) -> Result<(), Refused> {
+    let start = Table::new(bytes, counts)?.verdict(0);
+    if start > 3 {
+        return Err((14, 0));
+    }
+    judge_row(desk)?;
+    desk.fill(Watch { filled: u32::from(start != 0), ..Watch::BLANK });
+    Ok(())
 }
 
 pub fn post(
@@ -72,7 +100,11 @@ pub fn post(
     if !table.is_event(event) {
         return Err((12, number));
     }
+    let events = events(watch);
     let slot = watch.events.get_mut(usize::from(watch.waiting)).ok_or((20, number))?;
+    if events == EVENTS_MAX {
+        return Err((21, number));
+    }
     *slot = event;
     watch.waiting += 1;
     Ok(())
@@ -93,12 +125,17 @@ pub fn turn(
     let watch = &mut desk[number];
     let (state, event) = (usize::from(watch.state), watch.events[0]);
     let successor = table.successor(state, event);
-    if successor >= table.states || table.row(state)[4] > 3 || table.row(successor)[4] > 3 {
+    if successor >= table.states || table.verdict(state) > 3 || table.verdict(successor) > 3 {
         return Err((14, 0));
     }
+    let verdict = table.verdict(successor);
     watch.state = successor as u16;
     watch.waiting -= 1;
+    watch.heard += 1;
+    if watch.filled == 0 && verdict != 0 {
+        (watch.filled, watch.first) = (1, watch.heard);
+    }
     watch.events.copy_within(1.., 0);
     watch.events[QUEUE_MAX - 1] = 0;
-    Ok(Some((number, event, successor as u16, table.row(successor)[4])))
+    Ok(Some((number, event, successor as u16, verdict)))
 }

@@ -1,5 +1,5 @@
-//! Posts and turns at a desk of 64: the proved library beside plain Rust that does the same job. After each call the one watch that it changed is put
-//! back, on both sides, and that is part of the time.
+//! Fresh desks, posts and turns at a desk of 64: the proved library beside plain Rust that does the same job. After each call one watch, the one
+//! that a post or a turn changed, is put back, on both sides, and that is part of the time.
 
 use std::fmt::Debug;
 use std::hint::black_box;
@@ -42,7 +42,7 @@ pub fn desk(table: &[u8], waiting: usize) -> Vec<Watch> {
     let mut rng = Rng::new(SEED);
     let monitor = Monitor::open(table).expect("the table is good");
     let mut watch = |_| {
-        let mut watch = Watch { waiting: waiting as u16, ..Watch::FRESH };
+        let mut watch = Watch { waiting: waiting as u16, heard: 1000, ..Watch::BLANK };
         watch.state = rng.below(monitor.states.len()) as u16;
         let events = random_events(&mut rng, &monitor, waiting);
         watch.events[..waiting].copy_from_slice(&events);
@@ -92,6 +92,9 @@ pub fn report(work: &Work) {
     for (name, table) in &tables() {
         let opened = Opened::open(table).expect("the table is good");
         let counts = counted::counts(opened.signals(), opened.states().into());
+        let ours = |desk: &mut [Watch]| opened.fresh(desk).expect(GOOD);
+        let plain = |desk: &mut [Watch]| plain_desk::fresh(desk, table, counts).expect(GOOD);
+        print_row(work, format!("fresh, {name}"), desk(table, QUEUE_MAX), ours, plain);
         for waiting in [0, QUEUE_MAX - 1] {
             let name = format!("post, {waiting} waiting for each, {name}");
             let ours = |desk: &mut [Watch]| opened.post(desk, SERVED, 0).expect(GOOD);

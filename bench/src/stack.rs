@@ -9,7 +9,7 @@ use oracle::vectors::rule_samples::{one_too_many, shared_nexts};
 
 use crate::building;
 use crate::serving;
-use crate::tefuji::{self, Opened, Watch, DESK_MAX, QUEUE_MAX};
+use crate::tefuji::{self, Opened, DESK_MAX, QUEUE_MAX};
 use crate::writing;
 
 /// How far down the stack is painted.
@@ -65,8 +65,6 @@ fn measure() {
     measure_making();
     measure_using("", &shared_nexts(5).to_bytes());
     measure_using(", 15 of 16 events", &one_too_many().with_mask(NOT_ALONE).to_bytes());
-    let mut desk = [Watch::FRESH; DESK_MAX];
-    print("fresh", OTHERS, || _ = black_box(tefuji::fresh(&mut desk)));
     for (name, table) in serving::tables() {
         measure_serving(name, &table);
     }
@@ -108,9 +106,11 @@ fn measure_using(which: &str, rule: &[u8]) {
     print(&format!("text{which}"), OTHERS, || _ = black_box(tefuji::text(table, &mut text)));
 }
 
-/// Posts and turns at a full row, with nothing waiting and with all slots but one or all taken.
+/// A fresh desk; posts and turns at a full row, with nothing waiting and with all slots but one or all taken.
 fn measure_serving(which: &str, table: &[u8]) {
     let opened = Opened::open(table).expect("a table");
+    let mut desk = serving::desk(table, QUEUE_MAX);
+    print(&format!("fresh, {which}"), OTHERS, || _ = black_box(opened.fresh(&mut desk)));
     for waiting in [0, QUEUE_MAX - 1] {
         let mut desk = serving::desk(table, waiting);
         let name = format!("post, {waiting} waiting for each, {which}");

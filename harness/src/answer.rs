@@ -62,10 +62,11 @@ pub fn heard(Heard { number, event, state, verdict }: Heard) -> tefuji::Heard {
     tefuji::Heard { number, event, reached: reached_state(state, verdict) }
 }
 
-pub fn watch(Tunnel { state, waiting, slots }: &Tunnel) -> tefuji::Watch {
+pub fn watch(tunnel: &Tunnel) -> tefuji::Watch {
+    let &Tunnel { state, waiting, filled, heard, first, ref slots } = tunnel;
     let slots: Vec<u8> = slots.iter().copied().collect();
     let events = slots.try_into().expect("a tunnel has as many slots as a watch");
-    tefuji::Watch { state: *state, waiting: *waiting, events }
+    tefuji::Watch { state, waiting, filled, heard, first, events }
 }
 
 pub fn refusal(refusal: Refusal) -> tefuji::Refusal {

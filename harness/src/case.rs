@@ -60,7 +60,7 @@ pub enum Input {
 /// A call over a desk. The counts need not be the table's.
 #[derive(Clone, Copy, Debug)]
 pub enum Call {
-    Fresh,
+    Fresh { counts: u64 },
     Post { counts: u64, number: usize, event: u8 },
     Turn { counts: u64, last: usize },
 }
@@ -69,9 +69,17 @@ impl Call {
     /// What is called.
     pub fn kind(self) -> &'static str {
         match self {
-            Call::Fresh => "fresh",
+            Call::Fresh { .. } => "fresh",
             Call::Post { .. } => "post",
             Call::Turn { .. } => "turn",
+        }
+    }
+
+    pub fn counts(self) -> u64 {
+        match self {
+            Call::Fresh { counts } | Call::Post { counts, .. } | Call::Turn { counts, .. } => {
+                counts
+            }
         }
     }
 }
@@ -178,9 +186,11 @@ pub struct Row<'a>(pub &'a [Tunnel]);
 impl fmt::Display for Row<'_> {
     fn fmt(&self, out: &mut fmt::Formatter<'_>) -> fmt::Result {
         writeln!(out, "{} watches", self.0.len())?;
-        for (number, Tunnel { state, waiting, slots }) in self.0.iter().enumerate() {
+        for (number, tunnel) in self.0.iter().enumerate() {
+            let Tunnel { state, waiting, filled, heard, first, slots } = tunnel;
             let slots: Vec<u8> = slots.iter().copied().collect();
-            writeln!(out, "{number}: state {state}, {waiting} waiting, slots {}", Hex(&slots))?;
+            write!(out, "{number}: state {state}, {waiting} waiting, {heard} heard, ")?;
+            writeln!(out, "filled {filled}, first {first}, slots {}", Hex(&slots))?;
         }
         Ok(())
     }

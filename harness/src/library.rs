@@ -20,9 +20,10 @@ pub fn step(table: &[u8], counts: u64, state: u16, event: u8) -> u64 {
     unsafe { declared::tefuji_step(table.as_ptr(), table.len(), counts, state, event) }
 }
 
-pub fn fresh(desk: &mut [Watch]) -> u64 {
-    // The slice is lent for the call.
-    unsafe { declared::tefuji_fresh(desk.as_mut_ptr(), desk.len()) }
+pub fn fresh(desk: &mut [Watch], table: &[u8], counts: u64) -> u64 {
+    let (row, watches, length) = (desk.as_mut_ptr(), desk.len(), table.len());
+    // Both are lent for the call, a `&mut` overlaps nothing, and the library takes any counts.
+    unsafe { declared::tefuji_fresh(row, watches, table.as_ptr(), length, counts) }
 }
 
 pub fn post(desk: &mut [Watch], table: &[u8], counts: u64, number: usize, event: u8) -> u64 {

@@ -15,7 +15,7 @@ use desks::Desks;
 const KINDS: [&str; 6] = ["write", "build", "check", "run", "step", "text"];
 /// What is called in the cases of desks and histories.
 const DESK_KINDS: [&str; 3] = ["fresh", "post", "turn"];
-const REFUSALS: std::ops::RangeInclusive<u8> = 1..=20;
+const REFUSALS: std::ops::RangeInclusive<u8> = 1..=21;
 /// The refusals of write, which have others' numbers and places of its own.
 const WRITE_REFUSALS: [u8; 6] = [15, 4, 16, 7, 8, 10];
 

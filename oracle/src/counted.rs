@@ -1,5 +1,5 @@
-//! A table's bytes with counts in hand, as a step, a post and a turn take them: the bytes may have
-//! changed since they were checked, and the counts may be any number.
+//! A table's bytes with counts in hand, as a step and the calls over a desk take them: the bytes
+//! may have changed since they were checked, and the counts may be any number.
 
 use crate::mask::{self, Mask};
 use crate::refusal::Refusal;
@@ -72,11 +72,15 @@ impl<'a> Counted<'a> {
             past if past >= self.states => return Err(Halt::SuccessorPastTheStates),
             successor => successor,
         };
-        let verdicts = [state, end_state].map(|state| Verdict::from_byte(self.row(state)[4]));
-        let [Some(_), Some(verdict)] = verdicts else {
+        let [Some(_), Some(verdict)] = [state, end_state].map(|state| self.verdict(state)) else {
             return Err(Halt::NoVerdict);
         };
         Ok(RunResult { end_state, verdict, count: None })
+    }
+
+    /// What a state shows, if its byte is a verdict.
+    pub fn verdict(&self, state: u16) -> Option<Verdict> {
+        Verdict::from_byte(self.row(state)[4])
     }
 
     fn row(&self, state: u16) -> &[u8] {

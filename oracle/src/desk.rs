@@ -1,20 +1,24 @@
-//! A desk, document 02's C-15: a lent row of watches, one per tunnel, all over one table.
+//! A desk, document 02's C-15 and C-16: a lent row of watches, one per tunnel, all over one table.
 //!
 //! A tunnel's slots are a queue that is always as long as a watch has slots: what is heard leaves
 //! in front and a 0 enters behind. Whose turn it is comes of the row turned round until it begins
-//! behind the tunnel that was heard last.
+//! behind the tunnel that was heard last. Whatever verdict comes to stand, that of the start or
+//! that behind an event, is handed to the tunnel with what it has heard by then, and the tunnel
+//! keeps the first that is not undecided.
 
 use std::collections::VecDeque;
 
 use crate::counted::{Counted, Halt};
 use crate::mask;
 use crate::refusal::Refusal;
-use crate::table::Verdict;
+use crate::table::{RunResult, Verdict};
 
 /// The most tunnels of a desk.
 pub const ROW_LIMIT: usize = 64;
 /// The most events that wait for one tunnel, and the slots of a watch.
 pub const QUEUE_LIMIT: usize = 32;
+/// The most events, heard and waiting, of one tunnel.
+pub const EVENT_LIMIT: u64 = 4_294_967_295;
 
 /// One watch as it is lent. Its numbers may be any.
 #[derive(Clone, Debug, PartialEq, Eq)]
@@ -22,6 +26,11 @@ pub struct Tunnel {
     pub state: u16,
     /// How many of the slots count.
     pub waiting: u16,
+    /// Not 0 where `first` counts.
+    pub filled: u32,
+    pub heard: u32,
+    /// How many events had been heard when a verdict other than undecided first stood.
+    pub first: u32,
     pub slots: VecDeque<u8>,
 }
 
@@ -30,6 +39,8 @@ pub struct Tunnel {
 pub enum Fault {
     StateTooLarge,
     OverTheLimit,
+    /// Those heard and those that wait are more than can be counted.
+    TooManyEvents,
     /// A waiting byte is not below 2^P.
     NoEvent,
     ImpossibleEvent,
@@ -48,9 +59,22 @@ pub struct Heard {
 pub type Served = Result<Option<Heard>, Refusal>;
 
 impl Tunnel {
-    /// State 0, and nothing waits.
-    pub fn fresh() -> Self {
-        Tunnel { state: 0, waiting: 0, slots: VecDeque::from([0; QUEUE_LIMIT]) }
+    /// State 0, in which this verdict stands; nothing waits and nothing was heard.
+    pub fn fresh(start: Verdict) -> Self {
+        let slots = VecDeque::from([0; QUEUE_LIMIT]);
+        let mut tunnel = Tunnel { state: 0, waiting: 0, filled: 0, heard: 0, first: 0, slots };
+        tunnel.remember(start);
+        tunnel
+    }
+
+    /// The count of heard events at which a verdict first stood, if one did.
+    pub fn first_verdict(&self) -> Option<u32> {
+        (self.filled != 0).then_some(self.first)
+    }
+
+    /// The events heard and those that wait.
+    pub fn total(&self) -> u64 {
+        u64::from(self.heard) + u64::from(self.waiting)
     }
 
     /// The events that wait, oldest first. Of more than the slots, those in the slots.
@@ -70,6 +94,7 @@ impl Tunnel {
         let all = [
             (self.state >= table.states, Fault::StateTooLarge),
             (usize::from(self.waiting) > QUEUE_LIMIT, Fault::OverTheLimit),
+            (self.total() > EVENT_LIMIT, Fault::TooManyEvents),
             (!self.queue().all(is_event), Fault::NoEvent),
             (self.queue().any(is_impossible), Fault::ImpossibleEvent),
         ];
@@ -81,10 +106,21 @@ impl Tunnel {
         self.waiting += 1;
     }
 
-    fn pop(&mut self) {
+    /// The oldest event is heard, and leads to this end.
+    fn hear(&mut self, end: RunResult) {
         self.slots.pop_front();
         self.slots.push_back(0);
         self.waiting -= 1;
+        self.heard += 1;
+        self.state = end.end_state;
+        self.remember(end.verdict);
+    }
+
+    /// This verdict stands after what was heard.
+    fn remember(&mut self, verdict: Verdict) {
+        if verdict != Verdict::Undecided && self.first_verdict().is_none() {
+            (self.filled, self.first) = (1, self.heard);
+        }
     }
 }
 
@@ -106,14 +142,17 @@ fn judge<'a>(desk: &[Tunnel], bytes: &'a [u8], counts: u64) -> Result<Counted<'a
     }
 }
 
-/// Every watch in state 0 with nothing waiting.
-pub fn fresh(desk: &mut [Tunnel]) -> Result<(), Refusal> {
+/// Every watch in state 0 with nothing waiting and nothing heard. Order 14, also for the start's
+/// verdict, 18.
+pub fn fresh(desk: &mut [Tunnel], (bytes, counts): (&[u8], u64)) -> Result<(), Refusal> {
+    let start = Counted::new(bytes, counts).and_then(|table| table.verdict(0));
+    let start = start.ok_or(Refusal::new(14, 0))?;
     judge_row(desk)?;
-    desk.fill(Tunnel::fresh());
+    desk.fill(Tunnel::fresh(start));
     Ok(())
 }
 
-/// Adds an event to a tunnel. Order 14, 18, 13, 19, 12, 20.
+/// Adds an event to a tunnel. Order 14, 18, 13, 19, 12, 20, 21.
 pub fn post(
     desk: &mut [Tunnel],
     (bytes, counts): (&[u8], u64),
@@ -126,6 +165,7 @@ pub fn post(
         None => refused(19),
         Some(_) if !mask::has(table.possible, event) => refused(12),
         Some(tunnel) if usize::from(tunnel.waiting) == QUEUE_LIMIT => refused(20),
+        Some(tunnel) if tunnel.total() == EVENT_LIMIT => refused(21),
         Some(tunnel) => {
             tunnel.push(event);
             Ok(())
@@ -156,8 +196,7 @@ pub fn turn(desk: &mut [Tunnel], (bytes, counts): (&[u8], u64), last: usize) -> 
     let tunnel = &mut desk[number];
     let event = tunnel.slots[0];
     let end = table.step(tunnel.state, event).map_err(Halt::refusal)?;
-    tunnel.pop();
-    tunnel.state = end.end_state;
+    tunnel.hear(end);
     Ok(Some(Heard { number, event, state: end.end_state, verdict: end.verdict }))
 }
 

@@ -1,17 +1,20 @@
-//! What has happened at a desk since it was fresh, and the laws of C-15 over it: who waits is
-//! heard within as many turns as the row has tunnels, whoever else posts; a tunnel's accepted
-//! events are those heard and then those that wait; and its state is the end of a run from state
-//! 0 over the events that it has heard.
+//! What has happened at a desk since it was fresh, and the laws of C-15 and C-16 over it: who waits
+//! is heard within as many turns as the row has tunnels, whoever else posts; a tunnel's accepted
+//! events are those heard and then those that wait; its state is the end of a run from state 0 over
+//! the events that it has heard; as many are counted as were heard; and what it remembers is that
+//! run's count. Where verdicts last, as in every built table, it remembers one exactly while one
+//! stands.
 //!
 //! A history is told what was answered, and knows nothing of how a desk works.
 
 use crate::desk::{Heard, Tunnel};
-use crate::table::Monitor;
+use crate::table::{Monitor, MonitorState, Verdict};
 
 pub struct History<'a> {
     monitor: &'a Monitor,
     tunnels: Vec<Past>,
     longest_wait: usize,
+    verdicts_last: bool,
 }
 
 /// What has happened to one tunnel.
@@ -33,10 +36,32 @@ impl Past {
 /// The law that is broken.
 pub type Broken = &'static str;
 
+const NOT_THE_STATE: Broken = "the state is not the end of a run over the events heard";
+const NOT_AS_MANY: Broken = "the events counted are not as many as were heard";
+const NOT_THE_COUNT: Broken = "what is remembered is not the count of a run over the events heard";
+const NOT_WHILE_IT_STANDS: Broken = "a verdict is not remembered exactly while one stands";
+
+fn is_decided(state: &MonitorState) -> bool {
+    state.verdict != Verdict::Undecided
+}
+
+fn verdicts_last(monitor: &Monitor) -> bool {
+    let stays = |state: &MonitorState| {
+        state.steps().all(|(_, successor)| is_decided(&monitor.states[successor]))
+    };
+    monitor.states.iter().filter(|state| is_decided(state)).all(stays)
+}
+
 impl<'a> History<'a> {
     /// Of a fresh row of so many tunnels.
     pub fn new(monitor: &'a Monitor, row: usize) -> Self {
-        History { monitor, tunnels: vec![Past::default(); row], longest_wait: 0 }
+        let tunnels = vec![Past::default(); row];
+        History { monitor, tunnels, longest_wait: 0, verdicts_last: verdicts_last(monitor) }
+    }
+
+    /// No event leads from a verdict back to undecided.
+    pub fn verdicts_last(&self) -> bool {
+        self.verdicts_last
     }
 
     /// The most turns within which an event was heard.
@@ -87,10 +112,17 @@ impl<'a> History<'a> {
             return Err("the accepted events are not those heard and then those that wait");
         }
         let run = self.monitor.run(0, &accepted[..*heard]);
-        match run.map(|end| end.end_state) == Ok(tunnel.state) {
-            true => Ok(()),
-            false => Err("the state is not the end of a run over the events heard"),
-        }
+        let end = run.map_err(|_| "an event that no run takes was heard")?;
+        let stands = self.monitor.states.get(usize::from(tunnel.state)).is_some_and(is_decided);
+        let count = tunnel.first_verdict().map(|count| count as usize);
+        let laws = [
+            (end.end_state == tunnel.state, NOT_THE_STATE),
+            (*heard == tunnel.heard as usize, NOT_AS_MANY),
+            (!self.verdicts_last || stands == count.is_some(), NOT_WHILE_IT_STANDS),
+            (end.count == count, NOT_THE_COUNT),
+        ];
+        let broken = laws.into_iter().find(|(is_kept, _)| !is_kept);
+        broken.map_or(Ok(()), |(_, law)| Err(law))
     }
 
     /// The same of all tunnels.
@@ -105,11 +137,14 @@ impl<'a> History<'a> {
 #[cfg(test)]
 mod tests {
     use super::*;
+    use crate::builder;
     use crate::counted::counts;
     use crate::desk;
     use crate::rng::Rng;
-    use crate::table::Verdict;
-    use crate::vectors::table_samples::{masked, p12, random_events, random_small_monitor};
+    use crate::vectors::rule_samples::{document_rules, random_short_rule};
+    use crate::vectors::table_samples::{
+        document_monitors, masked, p12, p3, random_events, random_small_monitor,
+    };
 
     /// A desk, its table and what has happened at it.
     struct Driven<'a> {
@@ -124,7 +159,8 @@ mod tests {
         fn new(monitor: &'a Monitor, bytes: &'a [u8], row: usize) -> Self {
             let table = (bytes, counts(monitor.signals, monitor.states.len()));
             let history = History::new(monitor, row);
-            let desk = vec![Tunnel::fresh(); row];
+            let mut desk = vec![Tunnel::fresh(Verdict::Moot); row];
+            desk::fresh(&mut desk, table).unwrap();
             Driven { table, desk, history, last: usize::MAX, refused: 0 }
         }
 
@@ -148,12 +184,17 @@ mod tests {
     fn the_laws_hold_of_random_histories() {
         let mut rng = Rng::new(71);
         let (mut heard, mut refused, mut tight) = (0, 0, 0);
-        for _ in 0..300 {
-            let monitor = random_small_monitor(&mut rng, 9);
+        let (mut at_the_start, mut later, mut never) = (0, 0, 0);
+        for round in 0..300 {
+            let monitor = match round % 4 {
+                0 => rng.pick(&document_monitors()).clone(),
+                _ => random_small_monitor(&mut rng, 9),
+            };
             let monitor = masked(&mut rng, monitor);
             let bytes = monitor.to_bytes();
             let row = rng.between(1, 64);
             let mut driven = Driven::new(&monitor, &bytes, row);
+            driven.history.check_all(&driven.desk).unwrap();
             let posts = *rng.pick(&[30, 50, 80, 97]);
             for _ in 0..400 {
                 if rng.chance(posts) {
@@ -167,8 +208,17 @@ mod tests {
             }
             refused += driven.refused;
             tight += usize::from(driven.history.longest_wait() == row);
+            for tunnel in driven.desk.iter().filter(|tunnel| tunnel.heard > 0) {
+                match tunnel.first_verdict() {
+                    Some(0) => at_the_start += 1,
+                    Some(_) => later += 1,
+                    None => never += 1,
+                }
+            }
         }
         assert!(heard > 10_000 && refused > 1_000 && tight > 20, "{heard} {refused} {tight}");
+        let remembered = [at_the_start, later, never];
+        assert!(remembered.iter().all(|&tunnels| tunnels > 500), "{remembered:?}");
     }
 
     #[test]
@@ -235,20 +285,75 @@ mod tests {
         let monitor = p12();
         let mut history = with_events(&monitor, &[1, 2]);
         history.turned(heard(0, 1, 1, Verdict::Undecided)).unwrap();
+        let fresh = Tunnel::fresh(Verdict::Undecided);
         let tunnel = |state, waiting, first| {
-            let mut tunnel = Tunnel { state, waiting, ..Tunnel::fresh() };
+            let mut tunnel = Tunnel { state, waiting, heard: 1, ..fresh.clone() };
             tunnel.slots[0] = first;
             tunnel
         };
-        assert_eq!(history.check_all(&[tunnel(1, 1, 2), Tunnel::fresh()]), Ok(()));
+        assert_eq!(history.check_all(&[tunnel(1, 1, 2), fresh.clone()]), Ok(()));
         let not_the_queue = Err("the accepted events are not those heard and then those that wait");
         for wrong in [tunnel(1, 0, 2), tunnel(1, 2, 2), tunnel(1, 1, 1)] {
             assert_eq!(history.check(0, &wrong), not_the_queue);
         }
-        let not_the_state = Err("the state is not the end of a run over the events heard");
-        assert_eq!(history.check(0, &tunnel(0, 1, 2)), not_the_state);
+        assert_eq!(history.check(0, &tunnel(0, 1, 2)), Err(NOT_THE_STATE));
         let second_wrong = [tunnel(1, 1, 2), tunnel(1, 0, 0)];
-        assert_eq!(history.check_all(&second_wrong), not_the_state);
+        assert_eq!(history.check_all(&second_wrong), Err(NOT_THE_STATE));
         assert_eq!(history.check_all(&second_wrong[..1]), Err("the row has another length"));
+        let second_heard = [tunnel(1, 1, 2), Tunnel { state: 0, ..tunnel(1, 0, 0) }];
+        assert_eq!(history.check_all(&second_heard), Err(NOT_AS_MANY));
+        assert_eq!(history.check(0, &Tunnel { heard: 2, ..tunnel(1, 1, 2) }), Err(NOT_AS_MANY));
+    }
+
+    /// One tunnel over a table in which event 1 leads to satisfied, after two events.
+    fn remembered(monitor: &Monitor, filled: u32, first: u32) -> Result<(), Broken> {
+        let mut history = History::new(monitor, 1);
+        let mut tunnel = Tunnel::fresh(Verdict::Undecided);
+        for event in [1, 0] {
+            history.posted(0, event);
+            tunnel.state = monitor.run(tunnel.state, &[event]).unwrap().end_state;
+            let verdict = monitor.states[usize::from(tunnel.state)].verdict;
+            history.turned(heard(0, event, tunnel.state, verdict)).unwrap();
+        }
+        history.check(0, &Tunnel { filled, first, heard: 2, ..tunnel })
+    }
+
+    #[test]
+    fn what_is_remembered_wrongly_is_told() {
+        let lasting = p3();
+        assert_eq!(remembered(&lasting, 1, 1), Ok(()));
+        assert_eq!(remembered(&lasting, 7, 1), Ok(()));
+        assert_eq!(remembered(&lasting, 0, 1), Err(NOT_WHILE_IT_STANDS));
+        for first in [0, 2, u32::MAX] {
+            assert_eq!(remembered(&lasting, 1, first), Err(NOT_THE_COUNT), "{first}");
+        }
+        let mut passing = p3();
+        passing.states[2].successors = vec![0, 0];
+        assert_eq!(remembered(&passing, 1, 1), Ok(()));
+        assert_eq!(remembered(&passing, 0, 0), Err(NOT_THE_COUNT));
+        let fresh = |start| History::new(&p3(), 1).check(0, &Tunnel::fresh(start));
+        assert_eq!(fresh(Verdict::Undecided), Ok(()));
+        assert_eq!(fresh(Verdict::Satisfied), Err(NOT_WHILE_IT_STANDS));
+    }
+
+    #[test]
+    fn verdicts_of_built_tables_last() {
+        let mut rng = Rng::new(79);
+        let random = (0..200).map(|_| random_short_rule(&mut rng, 9));
+        let rules: Vec<_> = document_rules().into_iter().chain(random).collect();
+        let mut decided = 0;
+        for rule in rules {
+            let mut table = vec![0; 9479];
+            let Ok(length) = builder::build(&rule.to_bytes(), &mut table) else {
+                continue;
+            };
+            let monitor = Monitor::open(&table[..length]).unwrap();
+            assert!(History::new(&monitor, 1).verdicts_last());
+            decided += monitor.states.iter().filter(|state| is_decided(state)).count();
+        }
+        assert!(decided > 100, "{decided}");
+        let mut passing = p3();
+        passing.states[2].successors[1] = 0;
+        assert!(!History::new(&passing, 1).verdicts_last());
     }
 }

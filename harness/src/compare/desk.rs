@@ -47,7 +47,7 @@ impl<'a> Both<'a> {
     pub fn call(&mut self, call: Call, tally: &mut Tally) -> Result<Served, Difference> {
         let mut wrapped_desk = self.library.clone();
         let before = self.library.clone();
-        let is_remade = matches!(call, Call::Fresh) && self.is_wrong();
+        let is_remade = matches!(call, Call::Fresh { .. }) && self.is_wrong();
         let (code, expected) = self.both_sides(call);
         same_code(call.kind(), code, answer::served(expected))?;
         self.same_desk("the desk afterwards")?;
@@ -60,15 +60,25 @@ impl<'a> Both<'a> {
             same("the desk after the wrapper's call", &wrapped_desk, &self.library)?;
         }
         tally.add_answer(call.kind(), refused_by(code));
-        let (table, counts, desk) = (self.table, self.counts(), self.oracle.as_slice());
-        tally.desks.add(&Seen { table, counts, desk, call, is_remade, answer: expected });
+        tally.desks.add(&Seen {
+            table: self.table,
+            counts: self.counts(),
+            before: &before,
+            desk: &self.oracle,
+            call,
+            is_remade,
+            answer: expected,
+        });
         Ok(expected)
     }
 
     fn both_sides(&mut self, call: Call) -> (u64, Served) {
         let (table, ours, theirs) = (self.table, &mut self.library, &mut self.oracle);
         match call {
-            Call::Fresh => (library::fresh(ours), desk::fresh(theirs).map(|()| None)),
+            Call::Fresh { counts } => {
+                let expected = desk::fresh(theirs, (table, counts));
+                (library::fresh(ours, table, counts), expected.map(|()| None))
+            }
             Call::Post { counts, number, event } => {
                 let expected = desk::post(theirs, (table, counts), number, event);
                 (library::post(ours, table, counts, number, event), expected.map(|()| None))
@@ -86,17 +96,12 @@ impl<'a> Both<'a> {
         call: Call,
         desk: &mut [Watch],
     ) -> Option<Result<Option<tefuji::Heard>, tefuji::Refusal>> {
-        let with = |counts: u64| {
-            let opened = self.opened.as_ref().filter(|_| self.counts() == Some(counts));
-            opened.map(|(opened, _)| opened)
-        };
-        match call {
-            Call::Fresh => Some(tefuji::fresh(desk).map(|()| None)),
-            Call::Post { counts, number, event } => {
-                with(counts).map(|opened| opened.post(desk, number, event).map(|()| None))
-            }
-            Call::Turn { counts, last } => with(counts).map(|opened| opened.turn(desk, last)),
-        }
+        let (opened, _) = self.opened.as_ref().filter(|_| self.counts() == Some(call.counts()))?;
+        Some(match call {
+            Call::Fresh { .. } => opened.fresh(desk).map(|()| None),
+            Call::Post { number, event, .. } => opened.post(desk, number, event).map(|()| None),
+            Call::Turn { last, .. } => opened.turn(desk, last),
+        })
     }
 
     /// Whether a watch is none of a desk over the table.
@@ -116,6 +121,8 @@ impl<'a> Both<'a> {
     fn same_desk(&self, what: &'static str) -> Compared {
         let is_same = |(ours, theirs): (&Watch, &Tunnel)| {
             (ours.state, ours.waiting) == (theirs.state, theirs.waiting)
+                && (ours.filled, ours.heard, ours.first)
+                    == (theirs.filled, theirs.heard, theirs.first)
                 && theirs.slots == ours.events
         };
         if self.library.iter().zip(&self.oracle).all(is_same) {

@@ -1,4 +1,4 @@
-//! Histories from a fresh desk, with the laws of C-15 asserted all the way.
+//! Histories from a fresh desk, with the laws of C-15 and C-16 asserted all the way.
 
 use oracle::desk::{Heard, Tunnel};
 use oracle::history::{Broken, History};
@@ -25,12 +25,15 @@ pub fn compare(
         counts: answer::counts(&monitor),
         last,
     };
-    course.both.call(Call::Fresh, tally).map(drop)?;
+    let counts = course.counts;
+    let is_fresh = course.both.call(Call::Fresh { counts }, tally)?.is_ok();
+    lawful(is_fresh.then_some(()).ok_or("a fresh desk over a good table is refused"))?;
+    lawful(course.history.check_all(course.both.desk()))?;
     for step in moves {
         course.follow(*step, tally)?;
     }
     lawful(course.history.check_all(course.both.desk()))?;
-    tally.desks.add_history(desk.len(), course.history.longest_wait());
+    tally.desks.add_history(&course.history, course.both.desk());
     same_bytes("the table that was read", &lent_table, table)
 }
 

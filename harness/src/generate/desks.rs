@@ -15,6 +15,11 @@ use crate::case::{Call, Case, Input, Move};
 const WRONG_ROWS: [usize; 6] = [0, 0, 65, 65, 66, 257];
 /// Rows of which every number is asked for sooner or later, and those at the limit.
 const ROWS: [usize; 9] = [1, 2, 3, 5, 31, 63, 64, 64, 64];
+/// What may say that a verdict is remembered; all but 0 do, also where the low bytes are 0.
+const FILLED: [u32; 13] = [0, 0, 0, 0, 0, 1, 1, 1, 2, 7, 256, 1 << 16, 1 << 31];
+
+/// Bytes that stand where a verdict should.
+const NO_VERDICTS: [u8; 4] = [4, 5, 128, 255];
 
 /// A table, the counts that its check answered, and what they say.
 struct Held {
@@ -43,9 +48,9 @@ impl Held {
         self
     }
 
-    /// The table's counts, or now and then others.
-    fn counts(&self, rng: &mut Rng) -> u64 {
-        match rng.below(8) {
+    /// The table's counts, or others, once in so many.
+    fn counts(&self, rng: &mut Rng, others: usize) -> u64 {
+        match rng.below(others) {
             0 => events::stray_counts(rng, &self.table),
             _ => self.counts,
         }
@@ -60,7 +65,8 @@ impl Held {
         }
     }
 
-    /// A watch of a desk, with so many events waiting and any bytes, or none, in the free slots.
+    /// A watch of a desk, with so many events waiting and any bytes, or none, in the free slots;
+    /// of the events heard and the first verdict it remembers anything.
     fn tunnel(&self, rng: &mut Rng, waiting: usize, has_noise: bool) -> Tunnel {
         let state = rng.below(self.states.into()) as u16;
         let mut slot = |place: usize| match place < waiting {
@@ -69,7 +75,9 @@ impl Held {
             false => 0,
         };
         let slots = (0..QUEUE_LIMIT).map(&mut slot).collect();
-        Tunnel { state, waiting: waiting as u16, slots }
+        let heard = heard(rng, waiting as u32);
+        let (filled, first) = (*rng.pick(&FILLED), first(rng, heard));
+        Tunnel { state, waiting: waiting as u16, filled, heard, first, slots }
     }
 
     fn desk(&self, rng: &mut Rng, row: usize) -> Vec<Tunnel> {
@@ -85,7 +93,7 @@ impl Held {
     /// Makes one watch wrong, or writes what would be wrong among the waiting into its free slots.
     fn spoil(&self, rng: &mut Rng, tunnel: &mut Tunnel) {
         let bad = self.events.bad(rng);
-        match rng.below(8) {
+        match rng.below(10) {
             0..=1 => tunnel.state = *rng.pick(&[self.states, self.states + 1, 256, 65535]),
             2..=3 => tunnel.waiting = *rng.pick(&[33, 34, 256, 32768, 65535]),
             4..=6 => {
@@ -94,18 +102,35 @@ impl Held {
                 tunnel.waiting = waiting as u16;
                 tunnel.slots[*rng.pick(&[0, waiting - 1, any])] = bad;
             }
-            _ => {
+            7 => {
                 let waiting = usize::from(tunnel.waiting).min(QUEUE_LIMIT);
                 tunnel.slots.iter_mut().skip(waiting).for_each(|slot| *slot = bad);
             }
+            _ => self.make_old(rng, tunnel),
         }
     }
 
+    /// Makes the events heard too many beside those that wait, by one or more.
+    fn make_old(&self, rng: &mut Rng, tunnel: &mut Tunnel) {
+        let were_waiting = usize::from(tunnel.waiting).min(QUEUE_LIMIT);
+        let waiting = *rng.pick(&[were_waiting.max(1), 1, QUEUE_LIMIT, QUEUE_LIMIT, QUEUE_LIMIT]);
+        for slot in tunnel.slots.iter_mut().take(waiting).skip(were_waiting) {
+            *slot = self.events.good(rng);
+        }
+        tunnel.waiting = waiting as u16;
+        let any = rng.below(waiting);
+        let more = *rng.pick(&[0, waiting - 1, waiting.saturating_sub(2), any]);
+        tunnel.heard = u32::MAX - (waiting - 1 - more) as u32;
+    }
+
     fn call(&self, rng: &mut Rng, row: usize) -> Call {
-        let counts = self.counts(rng);
-        match rng.below(20) {
-            0..=1 => Call::Fresh,
-            2..=11 => Call::Post { counts, number: number(rng, row), event: self.event(rng) },
+        let call = rng.below(20);
+        if call < 3 {
+            return Call::Fresh { counts: self.counts(rng, 4) };
+        }
+        let counts = self.counts(rng, 8);
+        match call {
+            3..=12 => Call::Post { counts, number: number(rng, row), event: self.event(rng) },
             _ => Call::Turn { counts, last: number(rng, row) },
         }
     }
@@ -115,6 +140,7 @@ impl Held {
 #[derive(Clone, Copy)]
 enum Filling {
     Nothing,
+    AtMost1,
     Few,
     Any,
     About32,
@@ -122,18 +148,51 @@ enum Filling {
 }
 
 impl Filling {
-    const EACH: [Filling; 5] =
-        [Filling::Nothing, Filling::Few, Filling::Any, Filling::About32, Filling::All];
+    const EACH: [Filling; 6] = [
+        Filling::Nothing,
+        Filling::AtMost1,
+        Filling::Few,
+        Filling::Any,
+        Filling::About32,
+        Filling::All,
+    ];
 
     fn waiting(self, rng: &mut Rng) -> usize {
         match self {
             Filling::Nothing => 0,
+            Filling::AtMost1 => rng.between(0, 1),
             Filling::Few if rng.chance(90) => 0,
             Filling::Few => rng.between(1, 3),
             Filling::Any => rng.between(0, QUEUE_LIMIT),
             Filling::About32 => rng.between(QUEUE_LIMIT - 1, QUEUE_LIMIT),
             Filling::All => QUEUE_LIMIT,
         }
+    }
+}
+
+/// How many events a tunnel has heard for which so many wait: none, few, any number, with those
+/// about 2^16 or 2^31, or about as many as can be counted, which is never passed.
+fn heard(rng: &mut Rng, waiting: u32) -> u32 {
+    let most = u32::MAX - waiting;
+    match rng.below(10) {
+        0..=1 => 0,
+        2..=3 => rng.below(40) as u32,
+        4 => most.min(rng.below(1 << 32) as u32),
+        5 => *rng.pick(&[1 << 16, 1 << 31]) - waiting - rng.below(3) as u32,
+        6..=7 => most - rng.below(4) as u32,
+        _ => most,
+    }
+}
+
+/// The event with which a verdict came, or what may stand there otherwise.
+fn first(rng: &mut Rng, heard: u32) -> u32 {
+    match rng.below(6) {
+        0 => 0,
+        1 => heard,
+        2 => heard.saturating_add(1),
+        3 => heard.saturating_sub(1),
+        4 => u32::MAX,
+        _ => rng.below(1 << 32) as u32,
     }
 }
 
@@ -209,15 +268,18 @@ fn number(rng: &mut Rng, row: usize) -> usize {
     }
 }
 
-/// Writes what no table has into some of its rows: verdict bytes above 3, successors that are no
-/// state, or missing ones.
+/// Writes what no table has into some of its rows, often into the first: verdict bytes above 3,
+/// successors that are no state, or missing ones.
 fn change_rows(rng: &mut Rng, table: &mut [u8], states: u16) {
     let share = *rng.pick(&[3, 20, 60]);
     let no_states = [states, states + 1, 256, 65534, NO_SUCCESSOR];
     let row_length = row_length(table[4]);
+    if rng.chance(60) {
+        table[HEADER_LENGTH + 4] = *rng.pick(&NO_VERDICTS);
+    }
     for row in table[HEADER_LENGTH..].chunks_exact_mut(row_length) {
         if rng.chance(share) {
-            row[4] = *rng.pick(&[4, 5, 128, 255]);
+            row[4] = *rng.pick(&NO_VERDICTS);
         }
         for successor in row[5..].chunks_exact_mut(2) {
             if rng.chance(share) {

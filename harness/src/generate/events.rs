@@ -136,7 +136,7 @@ fn fitting(table: &[u8], signals: u8) -> Option<u64> {
 /// Counts that need not be the table's.
 pub fn stray_counts(rng: &mut Rng, table: &[u8]) -> u64 {
     let any = number(rng);
-    let refusal = rng.below(21) as u64 * (1 << 56) + rng.below(300) as u64;
+    let refusal = rng.below(22) as u64 * (1 << 56) + rng.below(300) as u64;
     let fit: Vec<u64> = (1..=4).filter_map(|signals| fitting(table, signals)).collect();
     match rng.below(13) {
         0 => any,

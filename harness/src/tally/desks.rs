@@ -3,7 +3,8 @@
 use std::collections::BTreeMap;
 use std::fmt;
 
-use oracle::desk::ROW_LIMIT;
+use oracle::desk::{Tunnel, ROW_LIMIT};
+use oracle::history::History;
 
 use super::seen::Seen;
 use super::{is_seldom, named};
@@ -11,12 +12,15 @@ use super::{is_seldom, named};
 /// The least number of each of these.
 const SOME: u64 = 20;
 
-/// The order in which a post is refused; a turn only by the first three.
-const ORDER: [u8; 6] = [14, 18, 13, 19, 12, 20];
+/// The order in which a post is refused; a turn only by the first three, a fresh desk by the first
+/// two.
+const ORDER: [u8; 7] = [14, 18, 13, 19, 12, 20, 21];
+/// A tunnel outside the row has no queue, and has heard nothing.
+const APART: [(u8, u8); 2] = [(19, 20), (19, 21)];
 
 const BY_ROW: [&str; 2] = ["18 empty", "18 above 64"];
 /// What a post and a turn have in common.
-const BY_BOTH: [&str; 9] = [
+const BY_BOTH: [&str; 22] = [
     "14 by counts or length",
     "13 by a state",
     "13 by over 32 waiting",
@@ -24,20 +28,41 @@ const BY_BOTH: [&str; 9] = [
     "13 by an impossible event",
     "13 with a later wrong watch",
     "13 at the row's end",
+    "13 by the sum",
+    "13 by the sum, one too large",
+    "13 by 4294967295 heard, 1 waiting",
+    "13 by 4294967264 heard, 32 waiting",
+    "13 by 4294967294 heard, 32 waiting",
+    "13 by 4294967295 heard, 32 waiting",
+    "13 by the sum and more",
+    "13 by the sum, later by another",
+    "13 by another, later by the sum",
     "with other bytes in free slots",
     "with impossible events",
+    "with 4294967295 heard, 0 waiting",
+    "with 4294967294 heard, 0 waiting",
+    "with 4294967294 heard, 1 waiting",
+    "with 4294967263 heard, 32 waiting",
 ];
-const BY_POST: [&str; 8] = [
+const BY_POST: [&str; 16] = [
     "19 at the row's end",
     "19 past 2^56",
     "12 by a byte that is no event",
+    "19 where the last tunnel had its last event",
+    "19 where the tunnel of the low byte had its last event",
     "12 by an impossible event",
     "20",
+    "21",
+    "21 with 0 waiting",
+    "21 with 1 waiting",
+    "21 with 31 waiting",
     "to the last of 64",
     "to an empty queue",
     "to the last slot",
+    "of the last event",
+    "to a filled watch",
 ];
-const BY_TURN: [&str; 8] = [
+const BY_TURN: [&str; 19] = [
     "14 by what it reads",
     "none waits",
     "heard with 32 waiting",
@@ -46,9 +71,40 @@ const BY_TURN: [&str; 8] = [
     "heard at the given number itself",
     "heard after a number outside",
     "heard of 64",
+    "heard the last event",
+    "filled by satisfied",
+    "filled by violated",
+    "filled by moot",
+    "left unfilled",
+    "left unfilled, first not 0",
+    "kept at a verdict",
+    "kept where undecided",
+    "kept filled by more than 1",
+    "kept filled in the high bytes",
+    "kept first above heard",
 ];
-const BY_FRESH: [&str; 2] = ["over a wrong watch", "of 64"];
-const BY_HISTORY: [&str; 3] = ["of 64", "waits as long as the row", "waits as long as 64"];
+const BY_FRESH: [&str; 11] = [
+    "14 by counts or length",
+    "14 by what it reads",
+    "14 by counts or length, also 18",
+    "14 by what it reads, also 18",
+    "over a wrong watch",
+    "of 64",
+    "over what is no table",
+    "with the start undecided",
+    "with the start satisfied",
+    "with the start violated",
+    "with the start moot",
+];
+const BY_HISTORY: [&str; 7] = [
+    "of 64",
+    "waits as long as the row",
+    "waits as long as 64",
+    "where verdicts last, remembered from the start",
+    "where verdicts last, remembered from an event",
+    "where verdicts last, none remembered",
+    "where verdicts pass, remembered",
+];
 
 #[derive(Default)]
 pub struct Desks {
@@ -63,17 +119,28 @@ impl Desks {
     pub fn add(&mut self, seen: &Seen) {
         let kind = seen.call.kind();
         seen.words().into_iter().for_each(|words| self.meet(kind, words));
-        if let (Err(refusal), "post" | "turn") = (seen.answer, kind) {
+        if let Err(refusal) = seen.answer {
             let pairs = self.pairs.entry(kind).or_default();
             let later = seen.applying().into_iter().filter(|&number| number != refusal.number);
             later.for_each(|later| *pairs.entry((refusal.number, later)).or_default() += 1);
         }
     }
 
-    /// Adds a history over a row, with the most turns within which an event was heard.
-    pub fn add_history(&mut self, row: usize, longest_wait: usize) {
-        let (is_full, is_tight) = (row == ROW_LIMIT, row > 1 && longest_wait == row);
-        let words = BY_HISTORY.into_iter().zip([is_full, is_tight, is_full && is_tight]);
+    /// Adds a history that has come to an end, with the desk as it stands then.
+    pub fn add_history(&mut self, history: &History, desk: &[Tunnel]) {
+        let row = desk.len();
+        let (is_full, is_tight) = (row == ROW_LIMIT, row > 1 && history.longest_wait() == row);
+        let lasts = history.verdicts_last();
+        let firsts = || desk.iter().filter(|tunnel| tunnel.heard > 0).map(Tunnel::first_verdict);
+        let words = BY_HISTORY.into_iter().zip([
+            is_full,
+            is_tight,
+            is_full && is_tight,
+            lasts && firsts().any(|first| first == Some(0)),
+            lasts && firsts().any(|first| first > Some(0)),
+            lasts && firsts().any(|first| first.is_none()),
+            !lasts && firsts().any(|first| first.is_some()),
+        ]);
         words.filter(|(_, is_so)| *is_so).for_each(|(words, _)| self.meet("history", words));
         self.histories += 1;
     }
@@ -96,8 +163,9 @@ impl Desks {
             let few = words.iter().filter(move |words| is_seldom(met, words, SOME));
             few.map(move |words| format!("{SOME} times {kind}: {words}"))
         });
-        let post_pairs = self.missing_pairs("post", &ORDER);
-        words.chain(post_pairs).chain(self.missing_pairs("turn", &ORDER[..3])).collect()
+        let orders = [("fresh", &ORDER[..2]), ("post", &ORDER), ("turn", &ORDER[..3])];
+        let pairs = orders.iter().flat_map(|(kind, order)| self.missing_pairs(kind, order));
+        words.chain(pairs).collect()
     }
 
     /// The pairs of refusals in one call, neighbours and others, that were met too seldom.
@@ -108,8 +176,7 @@ impl Desks {
         };
         let later =
             |place: usize| order[place + 1..].iter().map(move |&later| (order[place], later));
-        // A tunnel outside the row has no queue.
-        let pairs = (0..order.len()).flat_map(later).filter(|&pair| pair != (19, 20));
+        let pairs = (0..order.len()).flat_map(later).filter(|pair| !APART.contains(pair));
         let few = pairs.filter(is_seldom);
         few.map(|(first, later)| format!("{SOME} times {kind}: {first} before {later}")).collect()
     }

@@ -1,7 +1,10 @@
 use super::*;
 use crate::counted::counts;
 use crate::rng::Rng;
-use crate::vectors::table_samples::{p12, p12_apart};
+use crate::table::Monitor;
+use crate::vectors::table_samples::{document_monitors, p12, p12_apart};
+
+use Verdict::{Moot, Satisfied, Undecided, Violated};
 
 /// P12 with its counts; `Apart` where p and q never come together.
 fn with_table<T>(is_apart: bool, call: impl FnOnce((&[u8], u64)) -> T) -> T {
@@ -9,8 +12,13 @@ fn with_table<T>(is_apart: bool, call: impl FnOnce((&[u8], u64)) -> T) -> T {
     call((&monitor.to_bytes(), counts(2, 3)))
 }
 
+/// In state 0, undecided, with nothing waiting and nothing heard.
+fn blank() -> Tunnel {
+    Tunnel::fresh(Undecided)
+}
+
 fn tunnel(state: u16, queue: &[u8]) -> Tunnel {
-    let mut tunnel = Tunnel { state, ..Tunnel::fresh() };
+    let mut tunnel = Tunnel { state, ..blank() };
     queue.iter().for_each(|&event| tunnel.push(event));
     tunnel
 }
@@ -31,16 +39,34 @@ fn refused<T>(number: u8, place: usize) -> Result<T, Refusal> {
     Err(Refusal::new(number, place))
 }
 
+/// What is remembered: filled, heard and first.
+fn memory(tunnel: &Tunnel) -> (u32, u32, u32) {
+    (tunnel.filled, tunnel.heard, tunnel.first)
+}
+
+fn remembering((filled, heard, first): (u32, u32, u32), tunnel: Tunnel) -> Tunnel {
+    Tunnel { filled, heard, first, ..tunnel }
+}
+
+/// With so many events heard.
+fn aged(heard: u32, tunnel: Tunnel) -> Tunnel {
+    Tunnel { heard, ..tunnel }
+}
+
 #[test]
-fn a_fresh_tunnel_has_state_0_and_nothing_waiting() {
-    let fresh = Tunnel::fresh();
-    assert_eq!((fresh.state, fresh.waiting, fresh.queue().count()), (0, 0, 0));
-    assert!(fresh.free().eq([0; 32]));
+fn a_fresh_tunnel_has_state_0_with_nothing_waiting_and_nothing_heard() {
+    for (start, filled) in [(Undecided, 0), (Satisfied, 1), (Violated, 1), (Moot, 1)] {
+        let fresh = Tunnel::fresh(start);
+        assert_eq!((fresh.state, fresh.waiting, fresh.queue().count()), (0, 0, 0));
+        assert_eq!(memory(&fresh), (filled, 0, 0));
+        assert_eq!(fresh.first_verdict(), (filled == 1).then_some(0));
+        assert!(fresh.free().eq([0; 32]));
+    }
 }
 
 #[test]
 fn a_queue_is_the_first_slots_and_the_others_are_free() {
-    let tunnel = Tunnel { waiting: 2, slots: (7..39).collect(), ..Tunnel::fresh() };
+    let tunnel = Tunnel { waiting: 2, slots: (7..39).collect(), ..blank() };
     assert!(tunnel.queue().eq([7, 8]) && tunnel.free().eq(9..39));
     let over = Tunnel { waiting: 33, ..tunnel };
     assert!(over.queue().eq(7..39) && over.free().count() == 0);
@@ -48,12 +74,13 @@ fn a_queue_is_the_first_slots_and_the_others_are_free() {
 
 #[test]
 fn posts_stand_oldest_first_and_change_nothing_else() {
-    let noise = Tunnel { slots: (100..132).collect(), ..Tunnel::fresh() };
+    let noise = Tunnel { slots: (100..132).collect(), ..remembering((7, 9, 11), blank()) };
     let mut desk = vec![noise; 3];
     assert_eq!(posted(&mut desk, 1, 2), Ok(()));
     assert_eq!(posted(&mut desk, 1, 1), Ok(()));
     assert!(desk[1].slots.iter().copied().eq([2, 1].into_iter().chain(102..132)));
     assert_eq!((desk[1].waiting, desk[1].state), (2, 0));
+    assert!(desk.iter().all(|tunnel| memory(tunnel) == (7, 9, 11)));
     for other in [&desk[0], &desk[2]] {
         assert!(other.waiting == 0 && other.slots.iter().copied().eq(100..132));
     }
@@ -62,29 +89,30 @@ fn posts_stand_oldest_first_and_change_nothing_else() {
 #[test]
 fn hearing_takes_the_oldest_out_and_moves_the_state() {
     let slots: VecDeque<u8> = [1, 2].into_iter().chain(100..130).collect();
-    let mut desk = [Tunnel { state: 1, waiting: 2, slots }, tunnel(0, &[])];
-    assert_eq!(turned(&mut desk, 1), heard(0, 1, 2, Verdict::Violated));
+    let mut desk = [Tunnel { state: 1, waiting: 2, slots, ..blank() }, tunnel(0, &[])];
+    assert_eq!(turned(&mut desk, 1), heard(0, 1, 2, Violated));
     assert_eq!((desk[0].state, desk[0].waiting), (2, 1));
     assert!(desk[0].slots.iter().copied().eq([2].into_iter().chain(100..130).chain([0])));
-    assert_eq!(desk[1], Tunnel::fresh());
+    assert_eq!(desk[1], blank());
 }
 
 #[test]
 fn turns_go_round_and_end_at_the_given_tunnel() {
-    let undecided = Verdict::Undecided;
     let mut desk = [tunnel(0, &[1, 2]), tunnel(0, &[]), tunnel(1, &[0]), tunnel(0, &[])];
-    assert_eq!(turned(&mut desk, 0), heard(2, 0, 1, undecided));
-    assert_eq!(turned(&mut desk, 2), heard(0, 1, 1, undecided));
-    assert_eq!(turned(&mut desk, 0), heard(0, 2, 0, undecided));
+    assert_eq!(turned(&mut desk, 0), heard(2, 0, 1, Undecided));
+    assert_eq!(turned(&mut desk, 2), heard(0, 1, 1, Undecided));
+    assert_eq!(turned(&mut desk, 0), heard(0, 2, 0, Undecided));
+    let before = desk.clone();
     assert_eq!(turned(&mut desk, 0), Ok(None));
-    assert_eq!(turned(&mut [tunnel(0, &[1])], 0), heard(0, 1, 1, undecided));
+    assert_eq!(desk, before);
+    assert_eq!(turned(&mut [tunnel(0, &[1])], 0), heard(0, 1, 1, Undecided));
 }
 
 #[test]
 fn a_number_outside_the_row_counts_as_the_last_tunnel() {
     for last in [2, 3, 64, usize::MAX] {
         let mut desk = [tunnel(0, &[]), tunnel(0, &[1]), tunnel(0, &[2])];
-        assert_eq!(turned(&mut desk, last), heard(1, 1, 1, Verdict::Undecided));
+        assert_eq!(turned(&mut desk, last), heard(1, 1, 1, Undecided));
     }
 }
 
@@ -108,7 +136,7 @@ fn a_row_is_neither_empty_nor_above_64() {
         let answers = [
             posted(&mut desk, 0, 0).err(),
             turned(&mut desk.clone(), 0).err(),
-            fresh(&mut desk.clone()).err(),
+            with_table(true, |table| fresh(&mut desk.clone(), table)).err(),
         ];
         let expected = (!is_good).then_some(Refusal::new(18, 0));
         assert_eq!(answers, [expected; 3]);
@@ -118,14 +146,130 @@ fn a_row_is_neither_empty_nor_above_64() {
 
 #[test]
 fn fresh_ignores_what_stood_there() {
-    let mut desk = [tunnel(65535, &[255]), Tunnel { waiting: 65535, ..tunnel(1, &[0]) }];
-    assert_eq!(fresh(&mut desk), Ok(()));
-    assert_eq!(desk, [Tunnel::fresh(), Tunnel::fresh()]);
+    for (index, start) in [(0, Satisfied), (1, Violated), (2, Undecided), (5, Moot)] {
+        let monitor = &document_monitors()[index];
+        let table = (&monitor.to_bytes()[..], counts(monitor.signals, monitor.states.len()));
+        let over = Tunnel { waiting: 65535, ..tunnel(1, &[0]) };
+        let mut desk = [tunnel(65535, &[255]), remembering((9, u32::MAX, 9), over), blank()];
+        assert_eq!(fresh(&mut desk, table), Ok(()));
+        let expected = remembering((u32::from(start != Undecided), 0, 0), blank());
+        assert_eq!(desk, [expected.clone(), expected.clone(), expected]);
+    }
+}
+
+#[test]
+fn fresh_refuses_the_table_before_the_row_and_changes_nothing() {
+    let good = p12().to_bytes();
+    let with = |place: usize, byte: u8| {
+        let mut bytes = good.clone();
+        bytes[place] = byte;
+        bytes
+    };
+    // The verdicts of states 0 and 1 stand at 11 and 24.
+    let right = counts(2, 3);
+    let cases = [
+        (good.clone(), 0, true),
+        (good.clone(), right + 1, true),
+        (good.clone(), right | 1 << 40, true),
+        (good[1..].to_vec(), right, true),
+        (with(11, 4), right, true),
+        (with(11, 255), right, true),
+        (with(24, 4), right, false),
+        (with(12, 255), right, false),
+        (with(0, 9), right, false),
+    ];
+    for (bytes, counts, is_refused) in cases {
+        for row in [0, 1, 64, 65] {
+            let mut desk = vec![tunnel(2, &[1]); row];
+            let before = desk.clone();
+            let expected = match row {
+                _ if is_refused => refused(14, 0),
+                0 | 65 => refused(18, 0),
+                _ => Ok(()),
+            };
+            assert_eq!(fresh(&mut desk, (&bytes, counts)), expected);
+            assert_eq!(desk == before, expected.is_err());
+        }
+    }
+}
+
+/// What one tunnel remembers after each event that it hears.
+fn memories(monitor: &Monitor, mut tunnel: Tunnel, events: &[u8]) -> Vec<(u32, u32, u32)> {
+    let table = (&monitor.to_bytes()[..], counts(monitor.signals, monitor.states.len()));
+    let mut all = Vec::new();
+    for &event in events {
+        let desk = std::slice::from_mut(&mut tunnel);
+        assert_eq!(post(desk, table, 0, event), Ok(()));
+        assert!(turn(desk, table, 0).unwrap().is_some());
+        all.push(memory(&tunnel));
+    }
+    all
+}
+
+#[test]
+fn the_first_verdict_is_remembered_with_its_event_counted() {
+    let broken_by_the_third = [(0, 1, 0), (0, 2, 0), (1, 3, 3), (1, 4, 3)];
+    assert_eq!(memories(&p12(), blank(), &[1, 0, 1, 2]), broken_by_the_third);
+    assert_eq!(memories(&p12(), blank(), &[1, 2, 1]), [(0, 1, 0), (0, 2, 0), (0, 3, 0)]);
+    let later = [(0, 101, 0), (1, 102, 102), (1, 103, 102)];
+    assert_eq!(memories(&p12(), aged(100, blank()), &[1, 1, 1]), later);
+    let from_the_start = [(1, 1, 0), (1, 2, 0)];
+    for (index, start) in [(0, Satisfied), (1, Violated), (5, Moot)] {
+        let monitor = &document_monitors()[index];
+        assert_eq!(memories(monitor, Tunnel::fresh(start), &[0, 1]), from_the_start);
+    }
+}
+
+#[test]
+fn a_verdict_that_passes_stays_remembered() {
+    let mut passing = p12();
+    passing.states[2].successors = vec![0; 4];
+    let both = [(0, 1, 0), (1, 2, 2), (1, 3, 2), (1, 4, 2), (1, 5, 2)];
+    assert_eq!(memories(&passing, blank(), &[1, 1, 0, 1, 1]), both);
+}
+
+#[test]
+fn what_a_lent_watch_remembers_is_not_judged() {
+    let kept = [(7, 6, 3), (7, 7, 3)];
+    assert_eq!(memories(&p12(), remembering((7, 5, 3), blank()), &[1, 1]), kept);
+    let larger = [(1 << 31, 6, 99), (1 << 31, 7, 99)];
+    assert_eq!(memories(&p12(), remembering((1 << 31, 5, 99), blank()), &[1, 1]), larger);
+    let unfilled = [(0, 6, 99), (1, 7, 7)];
+    assert_eq!(memories(&p12(), remembering((0, 5, 99), blank()), &[1, 1]), unfilled);
+    // Violated already, and not filled: the next event fills it.
+    assert_eq!(memories(&p12(), aged(5, tunnel(2, &[])), &[0]), [(1, 6, 6)]);
+}
+
+/// All events of a tunnel, heard and waiting, are counted in four bytes.
+#[test]
+fn heard_and_waiting_are_4294967295_at_most() {
+    let (most, full) = (u32::MAX, [2; 32]);
+    let fitting = [
+        aged(most, tunnel(2, &[])),
+        aged(most - 1, tunnel(2, &[2])),
+        aged(4_294_967_263, tunnel(2, &full)),
+    ];
+    for (number, by) in [(0, 21), (1, 21), (2, 20)] {
+        let mut desk = fitting.clone();
+        assert_eq!(posted(&mut desk, number, 2), refused(by, number));
+        assert_eq!(posted(&mut desk, number, 3), refused(12, number));
+        assert_eq!(desk, fitting);
+    }
+    let mut desk = fitting;
+    assert_eq!(turned(&mut desk, 0), heard(1, 2, 2, Violated));
+    assert_eq!(memory(&desk[1]), (1, most, most));
+    assert_eq!(turned(&mut desk, 1), heard(2, 2, 2, Violated));
+    assert_eq!(posted(&mut desk, 2, 2), refused(21, 2));
+    assert_eq!(posted(&mut desk, 3, 2), refused(19, 3));
+    let mut one_left = [aged(most - 1, blank())];
+    assert_eq!(posted(&mut one_left, 0, 2), Ok(()));
+    assert_eq!(posted(&mut one_left, 0, 2), refused(21, 0));
 }
 
 /// Each watch that is wrong, with all that is wrong with it.
 fn wrong() -> Vec<(Tunnel, Vec<Fault>)> {
-    let over = |waiting| Tunnel { waiting, ..Tunnel::fresh() };
+    let over = |waiting| Tunnel { waiting, ..blank() };
+    let full = tunnel(0, &[0; 32]);
     vec![
         (tunnel(3, &[]), vec![Fault::StateTooLarge]),
         (tunnel(65535, &[]), vec![Fault::StateTooLarge]),
@@ -135,6 +279,13 @@ fn wrong() -> Vec<(Tunnel, Vec<Fault>)> {
         (tunnel(0, &[255]), vec![Fault::NoEvent]),
         (tunnel(0, &[3]), vec![Fault::ImpossibleEvent]),
         (tunnel(0, &[[0; 31].as_slice(), &[3]].concat()), vec![Fault::ImpossibleEvent]),
+        (aged(u32::MAX, tunnel(0, &[0])), vec![Fault::TooManyEvents]),
+        (aged(u32::MAX - 1, tunnel(0, &[0, 0])), vec![Fault::TooManyEvents]),
+        (aged(4_294_967_264, full.clone()), vec![Fault::TooManyEvents]),
+        (aged(u32::MAX, full), vec![Fault::TooManyEvents]),
+        (aged(4_294_967_262, over(33)), vec![Fault::OverTheLimit]),
+        (aged(u32::MAX, over(65535)), vec![Fault::OverTheLimit, Fault::TooManyEvents]),
+        (aged(u32::MAX, tunnel(3, &[])), vec![Fault::StateTooLarge]),
         (tunnel(3, &[3, 16]), vec![Fault::StateTooLarge, Fault::NoEvent, Fault::ImpossibleEvent]),
     ]
 }
@@ -164,10 +315,10 @@ fn limits_and_free_slots_are_no_faults() {
     free.slots[31] = 255;
     let mut desk = [free, tunnel(2, &[2; 32])];
     assert_eq!(posted(&mut desk, 0, 2), Ok(()));
-    assert_eq!(turned(&mut desk, 0), heard(1, 2, 2, Verdict::Violated));
+    assert_eq!(turned(&mut desk, 0), heard(1, 2, 2, Violated));
     let mut with_all_events = [tunnel(0, &[3])];
     let answer = with_table(false, |table| turn(&mut with_all_events, table, 0));
-    assert_eq!(answer, heard(0, 3, 1, Verdict::Undecided));
+    assert_eq!(answer, heard(0, 3, 1, Undecided));
 }
 
 /// Posts to two tunnels with queues as said, the second one's state perhaps wrong.
@@ -203,6 +354,7 @@ fn the_refused_table_comes_before_all_else() {
     for counts in [0, counts(2, 2), counts(2, 4), counts(3, 3), u64::MAX] {
         assert_eq!(post(&mut desk, (&table, counts), 99, 9), refused(14, 0));
         assert_eq!(turn(&mut desk, (&table, counts), 99), refused(14, 0));
+        assert_eq!(fresh(&mut desk, (&table, counts)), refused(14, 0));
     }
     assert_eq!(desk, before);
 }
@@ -219,7 +371,7 @@ fn a_turn_that_leaves_the_table_is_refused_behind_the_watches() {
         let before = desk.clone();
         assert_eq!(turn(&mut desk, spoilt, 1), refused(14, 0));
         assert_eq!(desk, before);
-        assert_eq!(turn(&mut desk, spoilt, 0), heard(1, 1, 2, Verdict::Violated));
+        assert_eq!(turn(&mut desk, spoilt, 0), heard(1, 1, 2, Violated));
         desk[1].state = 3;
         assert_eq!(turn(&mut desk, spoilt, 1), refused(13, 1));
     }
@@ -236,15 +388,29 @@ fn of_an_emptied_first_row_no_event_can_happen() {
     assert_eq!(turn(&mut [tunnel(1, &[0])], table, 0), refused(13, 0));
 }
 
-/// Against lists that are searched and shifted by hand.
+/// The event, counted from 1, that is a second dose before an acknowledgement, which is P12's.
+fn broken(events: &[u8]) -> Option<u32> {
+    let mut is_dosed = false;
+    for (count, event) in (1..).zip(events) {
+        let (dose, acknowledged) = (event & 1 == 1, event & 2 == 2);
+        if is_dosed && dose && !acknowledged {
+            return Some(count);
+        }
+        is_dosed = dose || is_dosed && !acknowledged;
+    }
+    None
+}
+
+/// Against lists that are searched and shifted by hand, and a second list of what was heard.
 #[test]
 fn random_calls_do_what_plain_lists_do() {
     let mut rng = Rng::new(73);
     let table = p12().to_bytes();
     for _ in 0..200 {
         let row = rng.between(1, 64);
-        let mut desk = vec![Tunnel::fresh(); row];
+        let mut desk = vec![blank(); row];
         let mut lists: Vec<Vec<u8>> = vec![Vec::new(); row];
+        let mut pasts = lists.clone();
         let mut last = rng.below(70);
         for _ in 0..100 {
             if rng.chance(60) {
@@ -260,8 +426,12 @@ fn random_calls_do_what_plain_lists_do() {
                 let expected = next.map(|number| (number, lists[number].remove(0)));
                 let heard = turn(&mut desk, (&table, counts(2, 3)), last).unwrap();
                 assert_eq!(heard.map(|heard| (heard.number, heard.event)), expected);
+                expected.iter().for_each(|&(number, event)| pasts[number].push(event));
                 last = next.unwrap_or(last);
             }
+        }
+        for (tunnel, past) in desk.iter().zip(&pasts) {
+            assert_eq!((tunnel.heard as usize, tunnel.first_verdict()), (past.len(), broken(past)));
         }
     }
 }
