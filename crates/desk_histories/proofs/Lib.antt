@@ -5,3 +5,4 @@ pub mod Moves
 pub mod Turns
 pub mod Histories
 pub mod Sharp
+pub mod Edges
