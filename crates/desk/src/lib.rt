@@ -68,7 +68,7 @@ fn filling_of(t: &[u8], signals: u8, states: u16, length: usize) -> Filling
 }
 
 // Stores a watch at every number below `upto`, from the last to the first.
-pub fn fill(desk: &mut [Watch], upto: usize, watch: Watch)
+fn fill(desk: &mut [Watch], upto: usize, watch: Watch)
     requires { ⌜ upto ≤ length (now desk) ⌝ }
     ensures { λ _. ⌜ now (desk .exit) ≡ filled watch (now (desk .entry)) upto ⌝ }
 {
