@@ -8,7 +8,6 @@ use lib.ListN.{length, getD, set, take, drop, replicate}
 use lib.Dec.{ltb, leb, eqb}
 use Rattle.sequences.specs.Tabulate.{every, leastBelow}
 use Rattle.meaning.specs.Traces.{Alphabet, isEvent}
-use Rattle.meaning.specs.Monitors.{Monitor}
 use Rattle.meaning.specs.TableFiles.{isTable, alphabetIn, signalsIn, statesIn, monitorIn, monitorOf}
 use Rattle.meaning.specs.RuleFiles.{firstOf}
 use Rattle.meaning.specs.Runs.{decides, runOf, ranIn, countsFit, inTable}

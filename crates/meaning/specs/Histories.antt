@@ -4,7 +4,6 @@ use mathlib.Core.Bool.{Bool, cond}
 use Prim.Native.Nat.{ℕ, suc}
 use lib.ListN.{replicate}
 use lib.Dec.{eqb}
-use Rattle.meaning.specs.Monitors.{Monitor}
 use Rattle.meaning.specs.TableFiles.{monitorOf}
 use Rattle.meaning.specs.Desks.{Outcome, freshWatch, postOf, turnOf}
 use Rattle.meaning.specs.declared.Watch.{Watch}
