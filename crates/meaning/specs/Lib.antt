@@ -12,3 +12,4 @@ pub mod Runs
 pub mod Demands
 pub mod Desks
 pub mod Histories
+pub mod Recordings

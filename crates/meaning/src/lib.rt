@@ -34,6 +34,8 @@ pub enum Refusal {
     WrongNumber(usize),
     QueueFull(usize),
     CountFull(usize),
+    WrongRecordings,
+    Contradiction(usize),
 }
 
 impl Refusal {
@@ -63,6 +65,8 @@ impl Refusal {
             Refusal::WrongNumber(_) => 19,
             Refusal::QueueFull(_) => 20,
             Refusal::CountFull(_) => 21,
+            Refusal::WrongRecordings => 22,
+            Refusal::Contradiction(_) => 23,
         }
     }
 
@@ -92,6 +96,8 @@ impl Refusal {
             Refusal::WrongNumber(p) => p,
             Refusal::QueueFull(p) => p,
             Refusal::CountFull(p) => p,
+            Refusal::WrongRecordings => 0,
+            Refusal::Contradiction(p) => p,
         }
     }
 }
@@ -163,7 +169,7 @@ pub enum Ran {
     Refused(Refusal),
 }
 
-// What a state of a table shows.
+// What a state of a table shows, or a table over two recordings.
 pub enum Shown {
     Verdict(Verdict),
     Refused(Refusal),
@@ -200,4 +206,10 @@ pub enum Served {
     },
     NoneWaits(usize),
     Refused(Refusal),
+}
+
+// A recorded event: which signals are known, and their values; bit s is signal s.
+pub struct Seen {
+    pub known: u8,
+    pub values: u8,
 }

@@ -69,6 +69,12 @@ enum-known-self-13 c = search needs
 enum-known-self-14 : tie.Need-enum-known-self-14
 enum-known-self-14 c = search needs
 
+enum-told-9 : tie.Need-enum-told-9
+enum-told-9 c = search needs
+
+enum-known-self-15 : tie.Need-enum-known-self-15
+enum-known-self-15 c = search needs
+
 returns : tie.Need-returns
 returns c = rw (c .before .self .given .1)
 
@@ -135,6 +141,12 @@ returns-21 c = rw (c .before .self13 .given .1)
 returns-22 : tie.Need-returns-22
 returns-22 c = rw (c .before .self14 .given .1)
 
+returns-23 : tie.Need-returns-23
+returns-23 c = rw (c .enum-told9 .given .1)
+
+returns-24 : tie.Need-returns-24
+returns-24 c = rw (c .before .self15 .given .1)
+
 pub place-spec : {M : Type 1} → statement M
 place-spec =
     tie.close
@@ -161,6 +173,8 @@ place-spec =
     enum-known-self-12
     enum-known-self-13
     enum-known-self-14
+    enum-told-9
+    enum-known-self-15
     returns
     returns-2
     returns-3
@@ -182,4 +196,6 @@ place-spec =
     returns-19
     returns-20
     returns-21
-    returns-22)
+    returns-22
+    returns-23
+    returns-24)
