@@ -74,7 +74,7 @@ module _ (t : List ℕ) where
     abbrev Σ : Alphabet
     Σ = alphabetIn t P
 
-    on-way : (s : ℕ) (es : List ℕ) → s < S → ((i : ℕ) → i < length es → isEvent Σ (getD es i 0) ≡ true) → onTable t P S s es ≡ true
+    pub on-way : (s : ℕ) (es : List ℕ) → s < S → ((i : ℕ) → i < length es → isEvent Σ (getD es i 0) ≡ true) → onTable t P S s es ≡ true
     unfolding onTable
     on-way s [] l all = rw (lt-ltb s S l, table-verdict t h s l)
     on-way s (e ∷ es) l all =
