@@ -1,0 +1,4 @@
+pub mod Unrefused
+pub mod Answers
+pub mod Laws
+pub mod Examples
