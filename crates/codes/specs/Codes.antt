@@ -16,10 +16,13 @@ use Rattle.meaning.specs.declared.Decided.{Decided}
 use Rattle.meaning.specs.declared.Decided.the-variants.{After, Never}
 use Rattle.meaning.specs.declared.Ran.{Ran}
 use Rattle.meaning.specs.declared.Ran.the-variants as Ran
+use Rattle.meaning.specs.declared.Shown.{Shown}
+use Rattle.meaning.specs.declared.Shown.the-variants as Shown
 use Rattle.meaning.specs.declared.Served.{Served}
 use Rattle.meaning.specs.declared.Served.the-variants as Served
 use Rattle.meaning.specs.declared.Watch.{Watch}
 use Rattle.meaning.specs.Runs.{ranIn}
+use Rattle.meaning.specs.Recordings.{judgedIn}
 use Rattle.meaning.specs.Desks.{Outcome, freshIn, postIn, turnIn}
 use Rattle.codes.specs.declared.Counts.{Counts}
 use Rattle.text_pieces.specs.declared.Text.{Text}
@@ -65,6 +68,15 @@ countAfter (Ran.Refused r) was = was
 -- one event from a state of the table whose counts are c: what a run over that event alone answers
 abbrev pub stepOf : List ℕ → ℕ → ℕ → ℕ → Ran
 stepOf t c s e = ranIn t (c / 65536) (c % 65536) s (e ∷ [])
+
+-- the verdict times 65,536
+abbrev pub shownCode : Shown → ℕ
+shownCode (Shown.Verdict v) = verdictNumber v * 65536
+shownCode (Shown.Refused r) = refusalCode r
+
+-- two recordings with gaps, over the table whose counts are c
+abbrev pub judgeAt : List ℕ → ℕ → List ℕ → List ℕ → Shown
+judgeAt t c a b = judgedIn t (c / 65536) (c % 65536) a b
 
 -- the length of the text in bytes
 abbrev pub textCode : Text → ℕ

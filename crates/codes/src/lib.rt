@@ -3,13 +3,14 @@ ghost use mathlib.Core.Path.{_≡_};
 ghost use Prim.Native.Nat.{_<_, _^_};
 ghost use Rattle.meaning.specs.TableFiles.{verdictNumber};
 ghost use Rattle.meaning.specs.declared.Served.the-variants.{Heard};
-ghost use Rattle.codes.specs.Codes.{placeCode, refusalCode, writtenCode, builtCode, countsCode, ranCode, countCode, countAfter, textCode, numberCode, servedCode, countsIn};
+ghost use Rattle.codes.specs.Codes.{placeCode, refusalCode, writtenCode, builtCode, countsCode, ranCode, countCode, countAfter, shownCode, textCode, numberCode, servedCode, countsIn};
 use meaning::Built;
 use meaning::Checked;
 use meaning::Decided;
 use meaning::Ran;
 use meaning::Refusal;
 use meaning::Served;
+use meaning::Shown;
 use meaning::Verdict;
 use meaning::Written;
 use text_pieces::Text;
@@ -101,6 +102,15 @@ pub fn count_after(ran: Ran, was: u64) -> u64
             decided,
         } => count_code(decided),
         Ran::Refused(_) => was,
+    }
+}
+
+pub fn shown_code(shown: Shown) -> u64
+    ensures { λ r. ⌜ r ≡ shownCode shown ⌝ }
+{
+    match shown {
+        Shown::Verdict(verdict) => verdict_number(verdict) * 65536,
+        Shown::Refused(why) => refusal_code(why),
     }
 }
 

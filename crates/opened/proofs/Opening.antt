@@ -1,4 +1,4 @@
--- An opened table tells what checking its bytes finds, and runs, steps, shows its rows and serves a desk as its bytes do; a refused opening does nothing else than refuse.
+-- An opened table tells what checking its bytes finds, and runs, steps, shows its rows, judges recordings and serves a desk as its bytes do; a refused opening does nothing else than refuse.
 -- Stepping through a list of events follows the table's monitor.
 use mathlib.Core.Path.{_≡_, refl, sym, ap, _∙_}
 use mathlib.Core.List.{List, [], _∷_}
@@ -11,6 +11,7 @@ use Rattle.meaning.specs.Monitors.{follow}
 use Rattle.meaning.specs.TableFiles.{isTable, alphabetIn, signalsIn, statesIn, successor, checkedOf, monitorOf}
 use Rattle.meaning.specs.Runs.{runOf, ranIn, rowRead, rowIn}
 use Rattle.meaning.specs.Desks.{Outcome, freshIn, freshOf, postOf, turnOf}
+use Rattle.meaning.specs.Recordings.{judgedIn, judgedOf}
 use Rattle.meaning.specs.declared.Ran.{Ran}
 use Rattle.meaning.specs.declared.Watch.{Watch}
 use Rattle.meaning.specs.declared.Checked.{Checked}
@@ -21,7 +22,8 @@ use Rattle.desk_tasks.specs.Surveys.{servedIn, servedOf}
 use Rattle.desk_tasks.specs.declared.Request.{Request}
 use Rattle.desk_tasks.specs.declared.Request.the-variants.{Post, Turn}
 use Rattle.desk_tasks.proofs.Tables.{Agrees, served-agrees, fresh-agrees}
-use Rattle.opened.specs.OpenedTables.{countsOf, openedOf, outcomeBy, ranBy, rowBy, steppedBy, stateAfter, steppedAll, freshenedBy, postedBy, turnedBy}
+use Rattle.recordings.proofs.Answers.{judged-table, judged-none, judged-refused}
+use Rattle.opened.specs.OpenedTables.{countsOf, openedOf, outcomeBy, ranBy, rowBy, steppedBy, stateAfter, steppedAll, judgedBy, freshenedBy, postedBy, turnedBy}
 
 module _ (x : RefT (List ℕ)) where
   -- "Opening checks the bytes and refuses by 14"
@@ -47,6 +49,14 @@ module _ (x : RefT (List ℕ)) where
       go : (c : Checked) → checkedOf (now x) ≡ c → rowIn (now x) (countsOf c .signals) (countsOf c .states) s ≡ rowRead (now x) s
       go (Checked.Table P S) h = row-table (now x) s P S h
       go (Checked.Refused r) h = row-refused (now x) s r h
+
+  -- "Join two recordings, each filling the other's gaps, and run the table from state 0 over all possible completions."
+  pub opened-judges : (a b : List ℕ) → judgedBy (openedOf x) a b ≡ judgedOf (now x) a b
+  opened-judges a b = go (checkedOf (now x)) refl
+    where
+      go : (c : Checked) → checkedOf (now x) ≡ c → judgedIn (now x) (countsOf c .signals) (countsOf c .states) a b ≡ judgedOf (now x) a b
+      go (Checked.Table P S) h = judged-table (now x) a b P S h
+      go (Checked.Refused r) h = judged-none (now x) a b 0 0 refl ∙ sym (judged-refused (now x) a b r h)
 
   -- "A site runs up to 64 tunnels on one table"
   opened-agrees : (d : List Watch) (by : ℕ → ℕ → Outcome) (of : Outcome) → Agrees (now x) d by of → by (openedOf x .signals) (openedOf x .states) ≡ of

@@ -7,11 +7,13 @@ use denote.Ref.{RefT, now}
 use Rattle.meaning.specs.TableFiles.{checkedOf}
 use Rattle.meaning.specs.Runs.{ranIn, rowIn}
 use Rattle.meaning.specs.Desks.{Outcome, freshIn, postIn, turnIn}
+use Rattle.meaning.specs.Recordings.{judgedIn}
 use Rattle.meaning.specs.declared.Refusal.the-variants.{WrongTable}
 use Rattle.meaning.specs.declared.Checked.{Checked}
 use Rattle.meaning.specs.declared.Checked.the-variants as Checked
 use Rattle.meaning.specs.declared.Ran.{Ran}
 use Rattle.meaning.specs.declared.Ran.the-variants as Ran
+use Rattle.meaning.specs.declared.Shown.{Shown}
 use Rattle.meaning.specs.declared.StateRow.{StateRow}
 use Rattle.meaning.specs.declared.Watch.{Watch}
 use Rattle.opened.specs.declared.Counts.{Counts}
@@ -54,6 +56,10 @@ stateAfter (Ran.Refused x) s = s
 abbrev pub steppedAll : Opened → ℕ → List ℕ → ℕ
 steppedAll t s [] = s
 steppedAll t s (e ∷ es) = steppedAll t (stateAfter (steppedBy t s e) s) es
+
+-- document 02, C-17: "Join two recordings, each filling the other's gaps, and run the table from state 0 over all possible completions."
+abbrev pub judgedBy : Opened → List ℕ → List ℕ → Shown
+judgedBy t a b = judgedIn (now (t .bytes)) (t .signals) (t .states) a b
 
 -- "A fresh desk", "made with C-15's one table"
 abbrev pub freshenedBy : Opened → List Watch → Outcome

@@ -3,7 +3,8 @@ ghost use mathlib.Core.Path.{_≡_};
 ghost use mathlib.Core.List.{_∷_, []};
 ghost use Rattle.meaning.specs.TableFiles.{checkedOf};
 ghost use Rattle.meaning.specs.Runs.{runOf, rowRead};
-ghost use Rattle.opened.specs.OpenedTables.{countsOf, openedOf, outcomeIn, outcomeBy, steppedBy, ranBy, rowBy, stateAfter, steppedAll, freshenedBy, postedBy, turnedBy};
+ghost use Rattle.meaning.specs.Recordings.{judgedOf};
+ghost use Rattle.opened.specs.OpenedTables.{countsOf, openedOf, outcomeIn, outcomeBy, steppedBy, ranBy, rowBy, stateAfter, steppedAll, judgedBy, freshenedBy, postedBy, turnedBy};
 use desk::serve;
 use desk_tasks::post_request;
 use desk_tasks::turn_request;
@@ -11,6 +12,7 @@ use meaning::Checked;
 use meaning::Ran;
 use meaning::Refusal;
 use meaning::Served;
+use meaning::Shown;
 use meaning::StateRow;
 use meaning::Watch;
 
@@ -122,6 +124,13 @@ pub fn step_all<'a, 'e>(t: Opened<'a>, state: u16, events: &'e [u8]) -> u16
     s
 }
 
+// Judges two recordings over all completions from state 0: 14 where opening refused, then 22, then event by event 12, 23 and 12.
+pub fn judge_recordings<'a, 'x, 'y>(t: Opened<'a>, first: &'x [u8], second: &'y [u8]) -> Shown
+    ensures { λ r. ⌜ r ≡ judgedBy (t .entry) (now (first .entry)) (now (second .entry)) ⌝ }
+{
+    recordings::judge_in(t.bytes, t.signals, t.states, first, second)
+}
+
 // ---- a desk
 
 // Makes a fresh desk of the row, whatever stood there: 14 where opening refused, then 18.
@@ -179,4 +188,11 @@ pub fn open_and_step_all(bytes: &[u8], state: u16, events: &[u8]) -> u16
     ensures { λ r. ⌜ r ≡ steppedAll (openedOf (bytes .entry)) state (now (events .entry)) ⌝ }
 {
     step_all(open(bytes), state, events)
+}
+
+// Opens and judges two recordings, for callers that hold no opened table.
+pub fn open_and_judge(bytes: &[u8], first: &[u8], second: &[u8]) -> Shown
+    ensures { λ r. ⌜ r ≡ judgedOf (now (bytes .entry)) (now (first .entry)) (now (second .entry)) ⌝ }
+{
+    judge_recordings(open(bytes), first, second)
 }

@@ -5,7 +5,7 @@ ghost use Rattle.meaning.specs.RuleFiles.{judge};
 ghost use Rattle.meaning.specs.TableFiles.{checkedOf};
 ghost use Rattle.meaning.specs.Runs.{runOf};
 ghost use Rattle.building.specs.Build.{answerOf, outputAfter, Right};
-ghost use Rattle.codes.specs.Codes.{builtCode, countsCode, ranCode, countAfter, stepOf, textCode, servedCode, freshAt, postAt, turnAt};
+ghost use Rattle.codes.specs.Codes.{builtCode, countsCode, ranCode, countAfter, stepOf, shownCode, judgeAt, textCode, servedCode, freshAt, postAt, turnAt};
 ghost use Rattle.table_text.specs.Text.{textAnswer, textAfter};
 ghost use Rattle.tefuji.specs.Writing.{Written};
 use codes::built_code;
@@ -15,6 +15,7 @@ use codes::counts_in;
 use codes::ran_code;
 use codes::refusal_code;
 use codes::served_code;
+use codes::shown_code;
 use codes::text_code;
 use codes::written_code;
 use desk::fresh;
@@ -81,6 +82,15 @@ pub extern "C" fn tefuji_text(table: &[u8], text: &mut [u8]) -> u64
     ensures { λ _. ⌜ now (text .exit) ≡ textAfter (now (table .entry)) (now (text .entry)) ⌝ }
 {
     text_code(table_text::table_text(table, text))
+}
+
+// Judges two recordings with gaps over a table that was checked, whose counts the check answered. Answers the verdict.
+#[no_mangle]
+pub extern "C" fn tefuji_judge(table: &[u8], counts: u64, first: &[u8], second: &[u8]) -> u64
+    ensures { λ r. ⌜ r ≡ shownCode (judgeAt (now (table .entry)) counts (now (first .entry)) (now (second .entry))) ⌝ }
+{
+    let c = counts_in(counts);
+    shown_code(recordings::judge_in(table, c.signals, c.states, first, second))
 }
 
 // ---- a desk of watches
