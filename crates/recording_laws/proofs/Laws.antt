@@ -3,6 +3,7 @@
 --     join-agrees        an event agrees with the join exactly if it agrees with both
 --     complete-run       with nothing unknown the answer is the run's verdict
 --     more-knowledge     recordings that know more do not take a verdict other than undecided back
+--     empty-start        recordings of no event show the start's verdict
 use mathlib.Core.Path.{_≡_, refl, sym, ap, ap₂, subst, _∙_}
 use mathlib.Core.List.{List, [], _∷_, _++_}
 use mathlib.Core.Bool.{Bool, true, false, cond, not, _&&_}
@@ -18,11 +19,11 @@ use Rattle.sequences.proofs.Pointwise.{all-same, all-is, is-true, tabulate-same
 use Rattle.sequences.proofs.Tests.{holds}
 use Rattle.meaning.specs.Bytes.{bit}
 use Rattle.meaning.specs.Traces.{Alphabet, Event}
-use Rattle.meaning.specs.Monitors.{follow}
+use Rattle.meaning.specs.Monitors.{Monitor, follow}
 use Rattle.meaning.specs.RuleFiles.{firstOf}
 use Rattle.meaning.specs.TableFiles.{isTable, alphabetIn, signalsIn, monitorOf}
 use Rattle.meaning.specs.Runs.{decides, runOf}
-use Rattle.meaning.specs.Recordings.{seenAt, knows, join, joinedAt, joinedList, agrees, choices, Completion, completions, verdictOver, lengthsFit, seenFits, contradict, eventChecks, recordingChecks, judgedOf}
+use Rattle.meaning.specs.Recordings.{seenAt, knows, join, joinedAt, joinedList, agrees, choices, Completion, completions, allEnd, verdictOver, lengthsFit, seenFits, contradict, eventChecks, recordingChecks, judgedOf}
 use Rattle.meaning.specs.declared.Verdict.{Verdict}
 use Rattle.meaning.specs.declared.Verdict.the-variants.{Undecided, Satisfied, Violated, Moot}
 use Rattle.meaning.specs.declared.Refusal.{Refusal}
@@ -288,3 +289,17 @@ module _ (t a b a′ b′ : List ℕ) (v u : Verdict) (h : judgedOf t a b ≡ Sh
       (λ w c. answer-ends t a b v (unrefused t a b v h) d w
       (subst (λ (n : ℕ). Completion (Σ t) (signalsIn t) (tabulate (n / 2) (joinedAt a b)) w) (sym (m .long))
       (completion-mono (Σ t) (signalsIn t) (length a′ / 2) (joinedAt a′ b′) (joinedAt a b) poorer w c)))
+
+-- ---- nothing recorded
+
+over-one : (m : Monitor) (v : Verdict) → m .verdict 0 ≡ v → verdictOver m ([] ∷ []) ≡ v
+unfolding allEnd
+over-one m Undecided e = rw e
+over-one m Satisfied e = rw e
+over-one m Violated e = rw e
+over-one m Moot e = rw e
+
+-- whose one completion is the empty list
+pub empty-start : (t : List ℕ) → isTable t ≡ true → judgedOf t [] [] ≡ Shown.Verdict (monitorOf t .verdict 0)
+unfolding judgedOf completions
+empty-start t h = rw h (ap Shown.Verdict (over-one (monitorOf t) (monitorOf t .verdict 0) refl))
