@@ -1,7 +1,7 @@
 //! A second reading of document 01 and of the requests for rule texts, for counts between
-//! two bounds, for events that cannot happen and for a desk of many tunnels, written apart from
-//! the watcher: readers, a search for traces, a builder of tables, a desk and the laws of its
-//! histories, and the maker of the test vectors.
+//! two bounds, for events that cannot happen, for a desk of many tunnels and for recordings with
+//! gaps, written apart from the watcher: readers, a search for traces, a builder of tables, a desk
+//! and the laws of its histories, two recordings joined, and the maker of the test vectors.
 
 pub mod builder;
 pub mod certify;
@@ -12,8 +12,10 @@ pub mod lasso;
 pub mod mask;
 pub mod prints;
 pub mod random_masks;
+pub mod random_recordings;
 pub mod random_rules;
 pub mod record;
+pub mod recordings;
 pub mod refusal;
 pub mod rng;
 pub mod rule;
