@@ -41,6 +41,11 @@ pub fn ran(result: Result<RunResult, Refusal>) -> u64 {
     code(result.map(|end| u64::from(end.verdict.to_byte()) << 16 | u64::from(end.end_state)))
 }
 
+/// What `tefuji_judge` answers; there is no end state.
+pub fn judged(result: Result<Verdict, Refusal>) -> u64 {
+    code(result.map(|verdict| u64::from(verdict.to_byte()) << 16))
+}
+
 /// What a run leaves in the cell of its count, in which `before` was.
 pub fn counted(result: Result<RunResult, Refusal>, before: u64) -> u64 {
     match result {
@@ -77,14 +82,17 @@ pub fn reached(end: RunResult) -> tefuji::Reached {
     reached_state(end.end_state, end.verdict)
 }
 
-fn reached_state(state: u16, verdict: Verdict) -> tefuji::Reached {
-    let verdict = match verdict {
+fn reached_state(state: u16, shown: Verdict) -> tefuji::Reached {
+    tefuji::Reached { state, verdict: verdict(shown) }
+}
+
+pub fn verdict(verdict: Verdict) -> tefuji::Verdict {
+    match verdict {
         Verdict::Undecided => tefuji::Verdict::Undecided,
         Verdict::Satisfied => tefuji::Verdict::Satisfied,
         Verdict::Violated => tefuji::Verdict::Violated,
         Verdict::Moot => tefuji::Verdict::Moot,
-    };
-    tefuji::Reached { state, verdict }
+    }
 }
 
 pub fn ended(end: RunResult) -> tefuji::Ended {

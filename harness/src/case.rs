@@ -55,6 +55,18 @@ pub enum Input {
         last: usize,
         moves: Vec<Move>,
     },
+    /// Pairs of recordings, each judged by itself over one table.
+    Judge {
+        table: Vec<u8>,
+        pairs: Vec<Recordings>,
+    },
+}
+
+/// Two recordings, and counts that need not be the table's.
+pub struct Recordings {
+    pub counts: u64,
+    pub first: Vec<u8>,
+    pub second: Vec<u8>,
 }
 
 /// A call over a desk. The counts need not be the table's.
@@ -142,6 +154,7 @@ impl Input {
             Input::Text { .. } => "text",
             Input::Desk { .. } => "desk",
             Input::History { .. } => "history",
+            Input::Judge { .. } => "judge",
         }
     }
 }
@@ -176,7 +189,18 @@ impl fmt::Display for Case {
                 write!(out, "table {}\n{}", Hex(table), Row(desk))?;
                 write!(out, "fresh, last heard {last}, then {moves:?}")
             }
+            Input::Judge { table, pairs } => {
+                write!(out, "table {}", Hex(table))?;
+                pairs.iter().try_for_each(|pair| write!(out, "\n{pair}"))
+            }
         }
+    }
+}
+
+impl fmt::Display for Recordings {
+    fn fmt(&self, out: &mut fmt::Formatter<'_>) -> fmt::Result {
+        let Recordings { counts, first, second } = self;
+        write!(out, "counts {counts}, first {}, second {}", Hex(first), Hex(second))
     }
 }
 

@@ -6,6 +6,7 @@
 mod build;
 mod desk;
 mod history;
+mod judge;
 mod run;
 mod step;
 mod text;
@@ -54,6 +55,7 @@ pub fn case(case: &Case, tally: &mut Tally) -> Compared {
         Input::History { table, desk, last, moves } => {
             history::compare(table, desk, *last, moves, tally)
         }
+        Input::Judge { table, pairs } => judge::compare(table, pairs, tally),
     }
 }
 

@@ -4,6 +4,7 @@ mod desks;
 mod edge;
 mod events;
 mod planned;
+mod recordings;
 mod rules;
 mod spoil;
 mod tables;
@@ -24,7 +25,7 @@ pub struct Made {
 }
 
 /// The sum of the weights in `case`.
-const CASE_WEIGHTS: usize = 134;
+const CASE_WEIGHTS: usize = 150;
 
 impl Made {
     fn new(origin: &'static str, bytes: Vec<u8>) -> Self {
@@ -56,7 +57,8 @@ impl Generator {
             90..=99 => self.text(rng),
             100..=111 => self.write(rng),
             112..=129 => desks::case(&self.tables, rng),
-            _ => desks::history(&self.tables, rng),
+            130..=133 => desks::history(&self.tables, rng),
+            _ => recordings::case(&self.tables, rng),
         }
     }
 

@@ -20,6 +20,13 @@ pub fn step(table: &[u8], counts: u64, state: u16, event: u8) -> u64 {
     unsafe { declared::tefuji_step(table.as_ptr(), table.len(), counts, state, event) }
 }
 
+pub fn judge(table: &[u8], counts: u64, first: &[u8], second: &[u8]) -> u64 {
+    let (bytes, length) = (table.as_ptr(), table.len());
+    let (one, other) = (first.as_ptr(), second.as_ptr());
+    // All three are lent for the call, and the library takes any counts.
+    unsafe { declared::tefuji_judge(bytes, length, counts, one, first.len(), other, second.len()) }
+}
+
 pub fn fresh(desk: &mut [Watch], table: &[u8], counts: u64) -> u64 {
     let (row, watches, length) = (desk.as_mut_ptr(), desk.len(), table.len());
     // Both are lent for the call, a `&mut` overlaps nothing, and the library takes any counts.

@@ -1,6 +1,8 @@
 //! What the cases met: how many of each kind and origin, how many answers and refusals.
 
 mod desks;
+pub mod judged;
+mod recordings;
 pub mod seen;
 
 use std::collections::BTreeMap;
@@ -11,11 +13,12 @@ use oracle::refusal::Refusal;
 use oracle::table::{Monitor, RunResult};
 
 use desks::Desks;
+use recordings::Recordings;
 
-const KINDS: [&str; 6] = ["write", "build", "check", "run", "step", "text"];
+const KINDS: [&str; 7] = ["write", "build", "check", "run", "step", "text", "judge"];
 /// What is called in the cases of desks and histories.
 const DESK_KINDS: [&str; 3] = ["fresh", "post", "turn"];
-const REFUSALS: std::ops::RangeInclusive<u8> = 1..=21;
+const REFUSALS: std::ops::RangeInclusive<u8> = 1..=23;
 /// The refusals of write, which have others' numbers and places of its own.
 const WRITE_REFUSALS: [u8; 6] = [15, 4, 16, 7, 8, 10];
 
@@ -60,6 +63,7 @@ pub struct Tally {
     masked: BTreeMap<&'static str, u64>,
     brought_by_masks: BTreeMap<&'static str, u64>,
     pub desks: Desks,
+    pub recordings: Recordings,
 }
 
 impl Tally {
@@ -146,7 +150,8 @@ impl Tally {
         let few = (self.full_tables < FULL_TABLES)
             .then(|| format!("{FULL_TABLES} tables with {FULL} states"));
         let all = kinds.chain(numbers).chain(written).chain(strays).chain(few);
-        all.chain(self.missing_of_masks()).chain(self.desks.missing()).collect()
+        let all = all.chain(self.missing_of_masks()).chain(self.desks.missing());
+        all.chain(self.recordings.missing()).collect()
     }
 
     /// The same of impossible events, each at least so often.
@@ -190,7 +195,8 @@ impl fmt::Display for Tally {
         write!(out, "tables with {FULL} states: {}, ", self.full_tables)?;
         write!(out, "{} of them with impossible events; ", self.full_masked_tables)?;
         write!(out, "steps with other counts: {}; ", named(&self.stray_steps))?;
-        write!(out, "desks: {}", self.desks)
+        write!(out, "desks: {}; ", self.desks)?;
+        write!(out, "recordings: {}", self.recordings)
     }
 }
 

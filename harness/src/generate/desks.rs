@@ -270,7 +270,7 @@ fn number(rng: &mut Rng, row: usize) -> usize {
 
 /// Writes what no table has into some of its rows, often into the first: verdict bytes above 3,
 /// successors that are no state, or missing ones.
-fn change_rows(rng: &mut Rng, table: &mut [u8], states: u16) {
+pub fn change_rows(rng: &mut Rng, table: &mut [u8], states: u16) {
     let share = *rng.pick(&[3, 20, 60]);
     let no_states = [states, states + 1, 256, 65534, NO_SUCCESSOR];
     let row_length = row_length(table[4]);

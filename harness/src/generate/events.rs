@@ -69,6 +69,11 @@ impl Events {
         }
     }
 
+    /// One that cannot happen, if there is such.
+    pub fn impossible(&self, rng: &mut Rng) -> Option<&u8> {
+        (!self.impossible.is_empty()).then(|| rng.pick(&self.impossible))
+    }
+
     /// A byte that is no event, or an event that cannot happen.
     pub fn bad(&self, rng: &mut Rng) -> u8 {
         if !self.impossible.is_empty() && rng.chance(60) {
@@ -136,7 +141,7 @@ fn fitting(table: &[u8], signals: u8) -> Option<u64> {
 /// Counts that need not be the table's.
 pub fn stray_counts(rng: &mut Rng, table: &[u8]) -> u64 {
     let any = number(rng);
-    let refusal = rng.below(22) as u64 * (1 << 56) + rng.below(300) as u64;
+    let refusal = rng.below(24) as u64 * (1 << 56) + rng.below(300) as u64;
     let fit: Vec<u64> = (1..=4).filter_map(|signals| fitting(table, signals)).collect();
     match rng.below(13) {
         0 => any,

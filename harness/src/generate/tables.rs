@@ -104,7 +104,7 @@ fn large(rng: &mut Rng) -> Vec<u8> {
 }
 
 /// The table, one in three with only the events of a mask.
-fn perhaps_masked(rng: &mut Rng, monitor: Monitor) -> Vec<u8> {
+pub fn perhaps_masked(rng: &mut Rng, monitor: Monitor) -> Vec<u8> {
     let mask = if rng.below(3) == 0 { any_mask(rng, monitor.signals) } else { Mask::MAX };
     samples::leaving(monitor, mask).to_bytes()
 }
