@@ -69,6 +69,15 @@ pub mod library {
             counts: u64,
             last: usize,
         ) -> u64;
+        pub fn tefuji_judge(
+            table: *const u8,
+            table_length: usize,
+            counts: u64,
+            first: *const u8,
+            first_length: usize,
+            second: *const u8,
+            second_length: usize,
+        ) -> u64;
     }
 }
 
@@ -87,7 +96,7 @@ pub const DESK_MAX: usize = 64;
 /// The most events that wait for one tunnel.
 pub const QUEUE_MAX: usize = 32;
 
-/// A refusal: its number, 1 to 21, and its place. What was lent keeps every byte.
+/// A refusal: its number, 1 to 23, and its place. What was lent keeps every byte.
 #[derive(Clone, Copy, Debug, PartialEq, Eq)]
 pub struct Refusal {
     pub number: u8,
@@ -179,14 +188,17 @@ fn answered(answer: u64) -> Result<u64, Refusal> {
     }
 }
 
-fn reached(answer: u64) -> Reached {
-    let verdict = match (answer >> 16) as u8 {
+fn verdict(answer: u64) -> Verdict {
+    match (answer >> 16) as u8 {
         0 => Verdict::Undecided,
         1 => Verdict::Satisfied,
         2 => Verdict::Violated,
         _ => Verdict::Moot,
-    };
-    Reached { state: answer as u16, verdict }
+    }
+}
+
+fn reached(answer: u64) -> Reached {
+    Reached { state: answer as u16, verdict: verdict(answer) }
 }
 
 /// Nothing where a turn's answer says that none waits.
@@ -312,5 +324,23 @@ impl<'a> Opened<'a> {
             )
         };
         answered(answer).map(heard)
+    }
+
+    /// Joins two recordings of the same events, two bytes an event, which signals are known and their values, and runs the table from state 0 over all
+    /// possible completions. A verdict other than undecided is that of all of them. 23 says at which event the recordings contradict each other.
+    pub fn judge_recordings(self, first: &[u8], second: &[u8]) -> Result<Verdict, Refusal> {
+        // All three slices are lent for the call.
+        let answer = unsafe {
+            library::tefuji_judge(
+                self.bytes.as_ptr(),
+                self.bytes.len(),
+                self.counts,
+                first.as_ptr(),
+                first.len(),
+                second.as_ptr(),
+                second.len(),
+            )
+        };
+        answered(answer).map(verdict)
     }
 }

@@ -7,7 +7,7 @@
  * Pointers. Each goes with its length, in bytes, or in watches where it is a desk, and must be good for that many; it must not be null, not even
  * where the length is 0. A buffer that is written must not overlap one that is read. A buffer that is only read is not changed.
  *
- * Answers. An answer is one number. Below 2^56 it is what was asked for. From there on it is a refusal: the top byte is its number, 1 to 21,
+ * Answers. An answer is one number. Below 2^56 it is what was asked for. From there on it is a refusal: the top byte is its number, 1 to 23,
  * and the lower 56 bits are its place; a place of 2^56 or more is shown as 2^56 - 1. On a refusal every byte that was lent keeps its value.
  *
  *   number  when                                                          place
@@ -26,7 +26,9 @@
  *           room that tefuji_text needs
  *   11      more than 256 different remaining properties                  0
  *   12      an event is not below 2^signals, or cannot happen             its index, from 0; of a
- *                                                                         post the tunnel's number
+ *           in recordings: either has a bit at or above the signals,      post the tunnel's number
+ *           or a value of a signal that is unknown, or no possible
+ *           event has all that the two know
  *   13      a state is not below the number of states                     0
  *           in a desk: a watch has such a state, over 32 events waiting,  the first such watch
  *           a waiting one that is none or cannot happen, or heard and
@@ -41,6 +43,8 @@
  *   19      the tunnel's number is outside the row                        the number
  *   20      32 events already wait for the tunnel                         the number
  *   21      the tunnel's heard and waiting events are 4,294,967,295       the number
+ *   22      the lengths of two recordings differ, or are odd              0
+ *   23      two recordings contradict each other                          the event's index
  *
  * tefuji_write refuses by 4, 7 and 8 as well, for the signals it is given, a signal of the text that is not below them, and an eighth
  * temporal sign; there every place but that of 15 is 0.
@@ -167,6 +171,20 @@ uint64_t tefuji_post(tefuji_watch *desk, size_t watches, const uint8_t *table, s
  * `filled` is 0 where that is TEFUJI_NONE. With a table that tefuji_build built, `filled` is not 0 exactly while the verdict of the tunnel's state is not
  * undecided. */
 uint64_t tefuji_turn(tefuji_watch *desk, size_t watches, const uint8_t *table, size_t table_length, uint64_t counts, size_t last);
+
+/* Joins two recordings of the same events, each of which knows only some signals, and runs the table from state 0 over all that may have happened.
+ * A recording has two bytes for each event: which signals are known, bit s for signal s, and their values, with 0 for a signal that is unknown. Joined, a
+ * signal is known where either recording knows it. A completion is a list of possible events that have the recorded value at each known signal.
+ * `counts` is what tefuji_check answered for the table, as for tefuji_step.
+ * Answers verdict * 65536, which tefuji_verdict reads: satisfied, violated or moot exactly if the run over every completion ends with it, otherwise
+ * undecided. Recordings of no event show the verdict of state 0. There is no end state in the answer.
+ * Refuses by 14, then 22, then for each event by 12, 23, 12, and last by 14; all refusals of one event come before those of the next.
+ * 14: as for tefuji_step, the counts are no table's or the bytes have not its length. 22: the lengths in bytes differ, or are odd. 12: in either recording
+ * a bit at or above the signals, in either byte, or a value bit of a signal that is unknown. 23: both know a signal, with different values. 12: no event
+ * for which the row of state 0 has a successor other than 65,535 has all that is known. The place of 12 and 23 is the event's index, from 0. 14, at last:
+ * on the way of a completion stands a state that is not below the number of states, or one with a verdict byte above 3, the first and the last too.
+ * The time grows with the events, whatever the number of completions. */
+uint64_t tefuji_judge(const uint8_t *table, size_t table_length, uint64_t counts, const uint8_t *first, size_t first_length, const uint8_t *second, size_t second_length);
 
 /* The parts of an answer. */
 static inline unsigned tefuji_refusal(uint64_t answer) { return (unsigned)(answer >> 56); } /* 0: not a refusal */
