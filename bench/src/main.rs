@@ -1,7 +1,9 @@
-//! What writing, building, opening, running and serving a desk cost in the proved library, beside plain Rust that does the same job. `bench/run` builds and runs it.
+//! What writing, building, opening, running, serving a desk and judging recordings cost in the proved library, beside plain Rust that does the same job. `bench/run` builds and runs it.
 mod building;
 mod clock;
+mod judging;
 mod plain_desk;
+mod plain_recordings;
 mod plain_writer;
 mod running;
 mod serving;
@@ -19,5 +21,6 @@ fn main() {
     building::report(&work);
     running::report(&work);
     serving::report(&work);
+    judging::report(&work);
     stack::report();
 }

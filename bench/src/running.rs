@@ -13,7 +13,7 @@ use crate::tefuji::{self, Opened};
 const SEED: u64 = 0x5eed_0000_0000_0009;
 
 /// A table whose states are all undecided, so that a run looks at every verdict.
-fn random_table(rng: &mut Rng, signals: u8, states: u16) -> Monitor {
+pub fn random_table(rng: &mut Rng, signals: u8, states: u16) -> Monitor {
     let successors =
         |rng: &mut Rng| (0..1 << signals).map(|_| rng.below(states.into()) as u16).collect();
     let states = (0..states)

@@ -23,14 +23,16 @@ const SERVED: usize = LAST + 1;
 /// The calls of one look at the clock.
 const BATCH: usize = 64;
 
+/// The table of a rule.
+pub fn built(rule: Rule) -> Vec<u8> {
+    let mut table = vec![0; tefuji::TABLE_MAX];
+    let length = tefuji::build(&rule.to_bytes(), &mut table).expect("the rule is good");
+    table.truncate(length);
+    table
+}
+
 /// The tables of a desk: the table and its name.
 pub fn tables() -> [(&'static str, Vec<u8>); 2] {
-    let built = |rule: Rule| {
-        let mut table = vec![0; tefuji::TABLE_MAX];
-        let length = tefuji::build(&rule.to_bytes(), &mut table).expect("the rule is good");
-        table.truncate(length);
-        table
-    };
     [
         ("244 states", built(shared_nexts(5))),
         ("256 states, 15 of 16 events", built(one_too_many().with_mask(NOT_ALONE))),

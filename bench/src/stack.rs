@@ -8,6 +8,7 @@ use oracle::vectors::mask_samples::NOT_ALONE;
 use oracle::vectors::rule_samples::{one_too_many, shared_nexts};
 
 use crate::building;
+use crate::judging;
 use crate::serving;
 use crate::tefuji::{self, Opened, DESK_MAX, QUEUE_MAX};
 use crate::writing;
@@ -68,6 +69,9 @@ fn measure() {
     for (name, table) in serving::tables() {
         measure_serving(name, &table);
     }
+    for (name, table) in judging::tables() {
+        measure_judging(name, &table);
+    }
 }
 
 fn measure_making() {
@@ -120,6 +124,16 @@ fn measure_serving(which: &str, table: &[u8]) {
         let mut desk = serving::desk(table, waiting);
         let name = format!("turn, {waiting} waiting for each, {which}");
         print(&name, OTHERS, || _ = black_box(opened.turn(&mut desk, 0)));
+    }
+}
+
+/// A short pair of recordings and a long one.
+fn measure_judging(which: &str, table: &[u8]) {
+    let opened = Opened::open(table).expect("a table");
+    for count in judging::LENGTHS {
+        let [first, second] = judging::recordings(table, count);
+        let name = format!("judge, {count} events, {which}");
+        print(&name, OTHERS, || _ = black_box(opened.judge_recordings(&first, &second)));
     }
 }
 
