@@ -116,11 +116,11 @@ pub fn all_show(t: &[u8], signals: u8, states: u16, members: &[bool; 256], verdi
     requires { ⌜ (signals ≤ 4) × (states ≤ 256) × (length (now members) ≡ 256) ⌝ }
     ensures { λ r. ⌜ r ≡ allShow (now (t .entry)) signals states (now (members .entry)) verdict ⌝ }
 {
-    let mut s: u16 = 0;
-    while s < states {
-        let member = members[wide16(s)];
-        if shows_byte(t, signals, member, s, verdict) {
-            s += 1;
+    let mut state: u16 = 0;
+    while state < states {
+        let member = members[wide16(state)];
+        if shows_byte(t, signals, member, state, verdict) {
+            state += 1;
         } else {
             return false;
         }

@@ -14,10 +14,10 @@ use Rattle.state_sets.proofs.all_show.Statement.{statement}
 use Rattle.state_sets.proofs.all_show.Tie as tie
 
 abbrev Inv-loop : tie.InvT-loop
-Inv-loop t signals states members verdict s₀ s = (s ≤ states) × Passed s (showsByte t signals members verdict)
+Inv-loop t signals states members verdict state₀ state = (state ≤ states) × Passed state (showsByte t signals members verdict)
 
 abbrev μ-loop : tie.MeasureT-loop
-μ-loop t signals states members verdict s₀ s = states - s
+μ-loop t signals states members verdict state₀ state = states - state
 
 loop-holds : tie.Need-loop-holds Inv-loop μ-loop
 loop-holds c = (omega arith, passed-none)
@@ -31,8 +31,8 @@ element-copy-out-member c = omega (arith, c .wide16 .ensures .0)
 shows-byte-requires : tie.Need-shows-byte-requires Inv-loop μ-loop
 shows-byte-requires c κs = search needs
 
-add-s : tie.Need-add-s Inv-loop μ-loop
-add-s c = search needs
+add-state : tie.Need-add-state Inv-loop μ-loop
+add-state c = search needs
 
 loop-less : tie.Need-loop-less Inv-loop μ-loop
 loop-less c = search needs
@@ -42,7 +42,7 @@ loop-again c =
     let copied = c .before .before in
     let loop = copied .before .before .before in
     let a = loop .before .before .args in
-    let s = loop .loop .s in
+    let s = loop .loop .state in
     let here : showsByte (now (a .t)) (a .signals) (now (a .members)) (a .verdict) s ≡ true =
     ap (λ (n : ℕ). cond (getD (now (a .members)) n false) (eqb (verdictByte (now (a .t)) (a .signals) s) (a .verdict)) true) (sym (copied .before .wide16 .ensures .0))
     ∙ sym (c .before .shows-byte .ensures) ∙ c .if1 .taken in
@@ -53,7 +53,7 @@ returns c =
     let copied = c .before .before in
     let loop = copied .before .before .before in
     let a = loop .before .before .args in
-    let s = loop .loop .s in
+    let s = loop .loop .state in
     let here : showsByte (now (a .t)) (a .signals) (now (a .members)) (a .verdict) s ≡ false =
     ap (λ (n : ℕ). cond (getD (now (a .members)) n false) (eqb (verdictByte (now (a .t)) (a .signals) s) (a .verdict)) true) (sym (copied .before .wide16 .ensures .0))
     ∙ sym (c .before .shows-byte .ensures) ∙ c .if1 .left in
@@ -72,7 +72,7 @@ all-show-spec =
     wide16-requires
     element-copy-out-member
     shows-byte-requires
-    add-s
+    add-state
     loop-less
     loop-again
     returns
