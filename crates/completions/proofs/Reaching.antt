@@ -3,35 +3,33 @@
 --     reached-start, -more                           the states that completions reach
 --     concluded-right                                what they tell at the end
 use mathlib.Core.Path.{_≡_, refl, sym, ap, subst, _∙_}
-use mathlib.Core.Logic.{_⊎_, inl, inr}
 use mathlib.Core.List.{List, [], _∷_, _++_, map}
 use mathlib.Core.Bool.{Bool, true, false, cond, _&&_}
 use Prim.Native.Nat.{ℕ, zero, suc, _+_, _≤_, _<_}
 use native.Mathlib.Omega.{arith}
 use native.Mathlib.Numerals.{add-one}
-use native.Mathlib.Decide.{ℕ-discrete, decLt}
-use borrow.Author.Tests.{ltb-true, leb-true, eqb-true, eq-eqb}
-use lib.Dec.{T, ltb, leb, eqb}
+use native.Mathlib.Decide.{decLt}
+use borrow.Author.Tests.{ltb-true, leb-true}
+use lib.Dec.{ltb, leb, eqb}
 use lib.ListN.{length, getD, set, replicate}
-use lib.Seq.{getD-set-same}
-use Rattle.sequences.specs.Tabulate.{every, allBelow, joined}
+use Rattle.sequences.specs.Tabulate.{every, joined}
 use Rattle.sequences.proofs.Loops.{all-at}
 use Rattle.sequences.proofs.Pointwise.{all-is}
-use Rattle.meaning.specs.Traces.{Alphabet, Event}
+use Rattle.meaning.specs.Traces.{Alphabet}
 use Rattle.meaning.specs.Monitors.{Monitor, follow}
 use Rattle.meaning.specs.RuleFiles.{firstOf}
 use Rattle.meaning.specs.TableFiles.{alphabetIn, monitorIn, successor, verdictByte, verdictOf, verdictNumber}
 use Rattle.meaning.specs.Runs.{inTable, onTable}
-use Rattle.meaning.specs.Recordings.{agrees, Completion, completions, allEnd, verdictOver}
+use Rattle.meaning.specs.Recordings.{Completion, completions, allEnd, verdictOver}
 use Rattle.meaning.specs.declared.Verdict.{Verdict}
-use Rattle.meaning.specs.declared.Verdict.the-variants.{Undecided, Satisfied, Violated, Moot}
+use Rattle.meaning.specs.declared.Verdict.the-variants.{Satisfied, Violated, Moot}
 use Rattle.meaning.specs.declared.Refusal.{Refusal}
 use Rattle.meaning.specs.declared.Refusal.the-variants.{WrongTable}
 use Rattle.meaning.specs.declared.Seen.{Seen}
 use Rattle.meaning.specs.declared.Shown.{Shown}
 use Rattle.meaning.specs.declared.Shown.the-variants as Shown
 use Rattle.moore.proofs.Words.{follow-append}
-use Rattle.state_sets.specs.Sets.{Has, Among, Moved, showsByte, allShow}
+use Rattle.state_sets.specs.Sets.{Has, Among, showsByte, allShow}
 use Rattle.completions.specs.Passing.{Cleared, Fault, Steps, Reached, concluded}
 use Rattle.completions.proofs.Members.{Last, completion-snoc, completion-unsnoc, all-complete, complete-all, not-all}
 

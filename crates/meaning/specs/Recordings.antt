@@ -1,6 +1,5 @@
 -- Document 02, C-17: "Two recordings with gaps". In the field's terms a recorded event is a partial valuation of the signals, and a completion a list of
 -- total ones that extend it. An answer is defined by completions alone.
-use mathlib.Core.Path.{_≡_}
 use mathlib.Core.List.{List, [], _∷_, _++_, map}
 use mathlib.Core.Bool.{Bool, true, cond, not, _&&_}
 use Prim.Native.Nat.{ℕ, _+_, _*_, _/_, _%_, _^_}
@@ -26,6 +25,7 @@ use Rattle.meaning.specs.declared.Shown.the-variants as Shown
 abbrev pub seenAt : List ℕ → ℕ → Seen
 seenAt a i = record { known = getD a (2 * i) 0; values = getD a (2 * i + 1) 0 }
 
+-- signal s is known
 abbrev pub knows : Seen → ℕ → Bool
 knows r s = eqb (bit s (r .known)) 1
 
@@ -53,14 +53,16 @@ Completion Σ P [] (e ∷ w) = ⊥
 Completion Σ P (r ∷ rs) [] = ⊥
 Completion Σ P (r ∷ rs) (e ∷ w) = Event Σ e × T (agrees P r e) × Completion Σ P rs w
 
--- the possible events that agree with one recorded event, and all completions as a list
+-- the possible events that agree with one recorded event
 abbrev pub choices : Alphabet → ℕ → Seen → List ℕ
 choices Σ P r = keep (agrees P r) (events Σ)
 
+-- each of the events before each of the lists
 abbrev pub before : List ℕ → List (List ℕ) → List (List ℕ)
 before [] ws = []
 before (e ∷ es) ws = map (λ w. e ∷ w) ws ++ before es ws
 
+-- and all completions, as a list
 unfoldable pub completions : Alphabet → ℕ → List Seen → List (List ℕ)
 completions Σ P [] = [] ∷ []
 completions Σ P (r ∷ rs) = before (choices Σ P r) (completions Σ P rs)

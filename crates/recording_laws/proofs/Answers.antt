@@ -10,11 +10,10 @@ use native.Mathlib.Omega.{arith}
 use borrow.Author.Tests.{eqb-true, eq-eqb, ne-eqb}
 use lib.Dec.{eqb}
 use lib.ListN.{length}
-use Rattle.meaning.specs.Traces.{Alphabet, Event, isEvent, Word}
-use Rattle.meaning.specs.Verdicts.{Judged}
-use Rattle.meaning.specs.Monitors.{Monitor, follow, shows}
-use Rattle.meaning.specs.RuleFiles.{Rule, alphabetOf, propertyOf}
-use Rattle.meaning.specs.TableFiles.{isTable, alphabetIn, signalsIn, monitorOf, verdictNumber}
+use Rattle.meaning.specs.Traces.{Alphabet, isEvent, Word}
+use Rattle.meaning.specs.Monitors.{Monitor, follow}
+use Rattle.meaning.specs.RuleFiles.{Rule, alphabetOf}
+use Rattle.meaning.specs.TableFiles.{alphabetIn, signalsIn, monitorOf, verdictNumber}
 use Rattle.meaning.specs.Runs.{decides, runOf, endOf}
 use Rattle.meaning.specs.Recordings.{joinedAt, joinedList, Completion, completions, allEnd, verdictOver, judgedOf}
 use Rattle.meaning.specs.declared.Verdict.{Verdict}

@@ -9,12 +9,12 @@ use mathlib.Core.List.{List, [], _∷_, _++_}
 use mathlib.Core.Bool.{Bool, true, false, cond, not, _&&_}
 use Prim.Native.Nat.{ℕ, zero, suc, _/_, _%_, _^_, _<_}
 use native.Mathlib.Omega.{arith}
-use borrow.Author.Tests.{eqb-true, eq-eqb, ne-eqb, not-true, not-false, ltb-true}
+use borrow.Author.Tests.{eqb-true, eq-eqb, ne-eqb, not-false, ltb-true}
 use lib.Bits.{bitOr, or-comm, or-shr, or-mod, or-lt}
 use lib.Dec.{T, eqb, ltb}
 use lib.ListN.{length}
-use Rattle.sequences.specs.Tabulate.{every, allBelow, tabulate, joined}
-use Rattle.sequences.proofs.Loops.{all-at, tabulate-snoc}
+use Rattle.sequences.specs.Tabulate.{allBelow, tabulate, joined}
+use Rattle.sequences.proofs.Loops.{all-at}
 use Rattle.sequences.proofs.Pointwise.{all-same, all-is, is-true, tabulate-same}
 use Rattle.sequences.proofs.Tests.{holds}
 use Rattle.meaning.specs.Bytes.{bit}
@@ -23,11 +23,11 @@ use Rattle.meaning.specs.Monitors.{Monitor, follow}
 use Rattle.meaning.specs.RuleFiles.{firstOf}
 use Rattle.meaning.specs.TableFiles.{isTable, alphabetIn, signalsIn, monitorOf}
 use Rattle.meaning.specs.Runs.{decides, runOf}
-use Rattle.meaning.specs.Recordings.{seenAt, knows, join, joinedAt, joinedList, agrees, choices, Completion, completions, allEnd, verdictOver, lengthsFit, seenFits, contradict, eventChecks, recordingChecks, judgedOf}
+use Rattle.meaning.specs.Recordings.{seenAt, knows, join, joinedAt, joinedList, agrees, Completion, completions, allEnd, verdictOver, lengthsFit, seenFits, contradict, eventChecks, judgedOf}
 use Rattle.meaning.specs.declared.Verdict.{Verdict}
 use Rattle.meaning.specs.declared.Verdict.the-variants.{Undecided, Satisfied, Violated, Moot}
 use Rattle.meaning.specs.declared.Refusal.{Refusal}
-use Rattle.meaning.specs.declared.Refusal.the-variants.{WrongTable, WrongRecordings, WrongEvent, Contradiction}
+use Rattle.meaning.specs.declared.Refusal.the-variants.{WrongTable, WrongRecordings}
 use Rattle.meaning.specs.declared.Seen.{Seen}
 use Rattle.meaning.specs.declared.Shown.{Shown}
 use Rattle.meaning.specs.declared.Shown.the-variants as Shown

@@ -1,15 +1,14 @@
 -- What is so of two recordings that are not refused.
 --     Unrefused, unrefused      the bytes are a table, the lengths fit, each event fits, agrees with the other and has a choice
 --     some-completion           so there is a completion
-use mathlib.Core.Path.{_≡_, refl, sym, ap, subst, _∙_}
-use mathlib.Core.Logic.{_⊎_, inl, inr}
+use mathlib.Core.Path.{_≡_, refl, sym, subst}
+use mathlib.Core.Logic.{inl}
 use mathlib.Core.List.{List, [], _∷_, _++_}
-use mathlib.Core.Bool.{Bool, true, false, cond, not, _&&_}
+use mathlib.Core.Bool.{Bool, true, false, cond, _&&_}
 use Prim.Native.Nat.{ℕ, zero, suc, _+_, _/_, _≤_, _<_}
 use native.Mathlib.Omega.{arith}
 use native.Mathlib.Decide.{decLt}
-use borrow.Author.Tests.{not-false, eqb-true, eqb-false}
-use lib.Dec.{eqb}
+use borrow.Author.Tests.{not-false, eqb-false}
 use lib.ListN.{length}
 use Rattle.sequences.specs.Tabulate.{tabulate, joined}
 use Rattle.meaning.specs.Traces.{Alphabet}
@@ -18,7 +17,7 @@ use Rattle.meaning.specs.TableFiles.{isTable, alphabetIn, signalsIn, monitorOf}
 use Rattle.meaning.specs.Recordings.{seenAt, joinedAt, joinedList, choices, Completion, completions, verdictOver, lengthsFit, seenFits, contradict, eventChecks, recordingChecks, judgedOf}
 use Rattle.meaning.specs.declared.Verdict.{Verdict}
 use Rattle.meaning.specs.declared.Refusal.{Refusal}
-use Rattle.meaning.specs.declared.Refusal.the-variants.{WrongTable, WrongRecordings}
+use Rattle.meaning.specs.declared.Refusal.the-variants.{WrongTable}
 use Rattle.meaning.specs.declared.Seen.{Seen}
 use Rattle.meaning.specs.declared.Shown.{Shown}
 use Rattle.meaning.specs.declared.Shown.the-variants as Shown

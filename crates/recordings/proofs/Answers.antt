@@ -1,5 +1,5 @@
 -- What judging recordings answers with the counts of checked bytes, with counts that fit no table, and of bytes that are none.
-use mathlib.Core.Path.{_≡_, refl, ap}
+use mathlib.Core.Path.{_≡_, refl}
 use mathlib.Core.List.{List, [], _∷_, map}
 use mathlib.Core.Bool.{Bool, true, false, cond}
 use Prim.Native.Nat.{ℕ, zero, suc, _<_}
@@ -7,10 +7,9 @@ use native.Mathlib.Omega.{arith}
 use lib.ListN.{length, getD}
 use Rattle.sequences.specs.Tabulate.{every}
 use Rattle.meaning.specs.Traces.{Alphabet, isEvent, Word}
-use Rattle.meaning.specs.RuleFiles.{firstOf}
-use Rattle.meaning.specs.TableFiles.{isTable, alphabetIn, signalsIn, statesIn, monitorOf, checkedOf}
+use Rattle.meaning.specs.TableFiles.{isTable, alphabetIn, signalsIn, statesIn, checkedOf}
 use Rattle.meaning.specs.Runs.{countsFit, onTable}
-use Rattle.meaning.specs.Recordings.{joinedList, completions, verdictOver, recordingChecks, judgedIn, judgedOf}
+use Rattle.meaning.specs.Recordings.{joinedList, completions, judgedIn, judgedOf}
 use Rattle.meaning.specs.declared.Refusal.{Refusal}
 use Rattle.meaning.specs.declared.Refusal.the-variants.{WrongTable}
 use Rattle.meaning.specs.declared.Checked.the-variants as Checked

@@ -4,9 +4,9 @@
 --     fault-form, fault-both, hears    of both events: 12, 23, and what the joined one says
 --     pass-fault, pass-end             of the pass: the first refusal, and the end
 use mathlib.Core.Path.{_≡_, refl, sym, ap, ap₂, subst, _∙_}
-use mathlib.Core.Logic.{_⊎_, inl, inr}
-use mathlib.Core.List.{List, [], _∷_, _++_, map}
-use mathlib.Core.Bool.{Bool, true, false, cond, not, _&&_}
+use mathlib.Core.Logic.{inl, inr}
+use mathlib.Core.List.{List, [], _∷_}
+use mathlib.Core.Bool.{Bool, true, false, cond, _&&_}
 use Prim.Native.Nat.{ℕ, zero, suc, _+_, _/_, _^_, _≤_, _<_}
 use native.Mathlib.Omega.{arith}
 use native.Mathlib.Numerals.{add-one}
@@ -21,12 +21,11 @@ use Rattle.sequences.proofs.Tests.{holds}
 use Rattle.meaning.specs.Bytes.{bit}
 use Rattle.meaning.specs.Traces.{Alphabet, Event, masked}
 use Rattle.meaning.specs.Monitors.{keep, events}
-use Rattle.meaning.specs.RuleFiles.{firstOf}
 use Rattle.meaning.specs.TableFiles.{alphabetIn, countsTests, rowAt}
 use Rattle.meaning.specs.Runs.{inTable, countsFit}
 use Rattle.meaning.specs.Recordings.{lengthsFit, seenAt, knows, join, joinedAt, joinedList, agrees, choices, seenFits, contradict, eventChecks}
 use Rattle.meaning.specs.declared.Refusal.{Refusal}
-use Rattle.meaning.specs.declared.Refusal.the-variants.{WrongEvent, WrongTable, Contradiction}
+use Rattle.meaning.specs.declared.Refusal.the-variants.{WrongEvent, Contradiction}
 use Rattle.meaning.specs.declared.Seen.{Seen}
 use Rattle.meaning.specs.declared.Shown.{Shown}
 use Rattle.meaning.specs.declared.Shown.the-variants as Shown

@@ -1,10 +1,9 @@
 -- `recordings::hear` meets its contract.
-use mathlib.Core.Path.{_≡_, sym, ap, ap₂, subst, _∙_}
-use mathlib.Core.Bool.{Bool, true, false, _&&_}
+use mathlib.Core.Path.{_≡_, sym, ap₂, subst, _∙_}
 use Prim.Native.Nat.{_^_, _<_}
 use borrow.Author.Needs.{needs}
 use denote.Ref.{now}
-use Rattle.meaning.specs.Recordings.{seenAt, join, joinedAt, seenFits, contradict}
+use Rattle.meaning.specs.Recordings.{join, joinedAt}
 use Rattle.meaning.specs.TableFiles.{alphabetIn}
 use Rattle.meaning.specs.declared.Seen.{Seen}
 use Rattle.recordings.specs.Hearings.{HearsJoined}

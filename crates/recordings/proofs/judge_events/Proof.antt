@@ -1,11 +1,9 @@
 -- `recordings::judge_events` meets its contract. The loop's invariant: the checks of the events passed refuse nothing, and the members are the states that their completions reach.
-use mathlib.Core.Path.{_≡_, refl, sym, ap, subst, _∙_}
-use mathlib.Core.Bool.{Bool, true, false, _&&_}
-use Prim.Native.Nat.{ℕ, _-_, _/_, _≤_}
+use mathlib.Core.Path.{ap, subst, _∙_}
+use Prim.Native.Nat.{_-_, _≤_}
 use native.Mathlib.Omega.{arith}
 use borrow.Author.Needs.{needs}
 use denote.Ref.{now}
-use lib.ListN.{length}
 use Rattle.recordings.specs.Hearings.{Hears, handedOn}
 use Rattle.recordings.specs.declared.Hearing.{Hearing}
 use Rattle.recordings.proofs.Laws.{given, Passed, passed-none, passed-more, pass-fault, pass-end}

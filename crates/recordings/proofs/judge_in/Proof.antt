@@ -1,5 +1,5 @@
 -- `recordings::judge_in` meets its contract.
-use mathlib.Core.Path.{_≡_, sym, _∙_}
+use mathlib.Core.Path.{sym, _∙_}
 use borrow.Author.Needs.{needs}
 use Rattle.meaning.specs.Recordings.{judgedIn}
 use Rattle.completions.specs.Passing.{eventsJudged}

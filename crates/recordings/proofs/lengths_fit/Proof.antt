@@ -1,6 +1,5 @@
 -- `recordings::lengths_fit` meets its contract.
 use mathlib.Core.Path.{refl}
-use borrow.Author.Needs.{needs}
 use Rattle.recordings.proofs.lengths_fit.Statement.{statement}
 use Rattle.recordings.proofs.lengths_fit.Tie as tie
 

@@ -1,12 +1,11 @@
 -- `state_sets::advance` meets its contract. The loop's invariant: the successors of the members passed are in the set, no others are, and each is in the table.
-use mathlib.Core.Path.{_≡_, refl, sym, ap, subst, _∙_}
+use mathlib.Core.Path.{_≡_, ap, subst}
 use mathlib.Core.Bool.{Bool, true, false, cond}
-use mathlib.Core.List.{List}
 use Prim.Native.Nat.{ℕ, _-_, _≤_}
 use native.Mathlib.Omega.{arith}
 use borrow.Author.Needs.{needs}
 use denote.Ref.{now}
-use lib.ListN.{length, getD}
+use lib.ListN.{getD}
 use Rattle.state_sets.specs.Sets.{Spread, Moved}
 use Rattle.state_sets.proofs.Laws.{moved-none, moved-more, moved-out, moved-to}
 use Rattle.state_sets.proofs.advance.Statement.{statement}

@@ -1,12 +1,10 @@
 -- `state_sets::shows_byte` meets its contract.
-use mathlib.Core.Path.{_≡_, sym, ap, _∙_}
-use mathlib.Core.Bool.{Bool, true, cond}
+use mathlib.Core.Path.{ap, _∙_}
 use Prim.Native.Nat.{ℕ, _+_}
 use borrow.Author.Needs.{needs}
 use lib.Dec.{eqb}
 use lib.ListN.{getD}
 use denote.Ref.{now}
-use Rattle.meaning.specs.TableFiles.{verdictByte}
 use Rattle.state_sets.proofs.shows_byte.Statement.{statement}
 use Rattle.state_sets.proofs.shows_byte.Tie as tie
 

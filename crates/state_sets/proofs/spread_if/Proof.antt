@@ -1,9 +1,6 @@
 -- `state_sets::spread_if` meets its contract.
-use mathlib.Core.Path.{_≡_, sym, subst}
-use mathlib.Core.Bool.{Bool, true, cond}
 use borrow.Author.Needs.{needs}
 use denote.Ref.{now}
-use Rattle.state_sets.specs.Sets.{Spread}
 use Rattle.state_sets.proofs.Laws.{spread-none}
 use Rattle.state_sets.proofs.spread_if.Statement.{statement}
 use Rattle.state_sets.proofs.spread_if.Tie as tie
