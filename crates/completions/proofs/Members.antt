@@ -14,13 +14,11 @@ use native.Mathlib.Omega.{arith}
 use lib.Dec.{T}
 use Rattle.sequences.specs.Tabulate.{every, tabulate, upTo}
 use Rattle.sequences.proofs.Pointwise.{is-true}
+use Rattle.sequences.proofs.Tests.{never}
 use Rattle.meaning.specs.Traces.{Alphabet, Event, Word}
 use Rattle.meaning.specs.Monitors.{keep, events}
 use Rattle.meaning.specs.Recordings.{agrees, choices, before, completions, Completion}
 use Rattle.meaning.specs.declared.Seen.{Seen}
-
-never : {A : Type 0} → true ≡ false → A
-never q = let z : _≡_ {A = ℕ} 0 1 = cc in absurd (omega arith)
 
 holds : (b : Bool) → b ≡ true → T b
 holds true e = tt

@@ -10,6 +10,7 @@ use native.Mathlib.Omega.{arith}
 use borrow.Author.Tests.{eqb-true, eq-eqb, ne-eqb}
 use lib.Dec.{eqb}
 use lib.ListN.{length}
+use Rattle.sequences.proofs.Tests.{never}
 use Rattle.meaning.specs.Traces.{Alphabet, isEvent, Word}
 use Rattle.meaning.specs.Monitors.{Monitor, follow}
 use Rattle.meaning.specs.RuleFiles.{Rule, alphabetOf}
@@ -26,7 +27,7 @@ use Rattle.building.specs.Build.{BuiltRight}
 use Rattle.building.proofs.Running.{word-run}
 use Rattle.completions.proofs.Members.{all-complete, complete-all, not-all, completion-word}
 use Rattle.recording_laws.specs.Laws.{EndsWith, AnswerRight, BuiltAnswer}
-use Rattle.recording_laws.proofs.Unrefused.{never, Unrefused, unrefused, some-completion}
+use Rattle.recording_laws.proofs.Unrefused.{Unrefused, unrefused, some-completion}
 
 -- verdicts with the same number are the same
 number-same : (u v : Verdict) → verdictNumber u ≡ verdictNumber v → u ≡ v

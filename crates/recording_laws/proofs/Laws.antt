@@ -16,7 +16,7 @@ use lib.ListN.{length}
 use Rattle.sequences.specs.Tabulate.{allBelow, tabulate, joined}
 use Rattle.sequences.proofs.Loops.{all-at}
 use Rattle.sequences.proofs.Pointwise.{all-same, all-is, is-true, tabulate-same}
-use Rattle.sequences.proofs.Tests.{holds}
+use Rattle.sequences.proofs.Tests.{holds, never, both}
 use Rattle.meaning.specs.Bytes.{bit}
 use Rattle.meaning.specs.Traces.{Alphabet, Event}
 use Rattle.meaning.specs.Monitors.{Monitor, follow}
@@ -33,7 +33,7 @@ use Rattle.meaning.specs.declared.Shown.{Shown}
 use Rattle.meaning.specs.declared.Shown.the-variants as Shown
 use Rattle.recorded_events.proofs.Laws.{digit, same-bits}
 use Rattle.recording_laws.specs.Laws.{EndsWith, NothingUnknown, recordedEvents, KnowsMore, Richer}
-use Rattle.recording_laws.proofs.Unrefused.{never, Unrefused, unrefused}
+use Rattle.recording_laws.proofs.Unrefused.{Unrefused, unrefused}
 use Rattle.recording_laws.proofs.Answers.{completion, ends-with, answer-is, answer-ends}
 
 and-comm : (x y : Bool) → (x && y) ≡ (y && x)
@@ -41,10 +41,6 @@ and-comm true true = refl
 and-comm true false = refl
 and-comm false true = refl
 and-comm false false = refl
-
-both : (a b : Bool) → (a && b) ≡ true → (a ≡ true) × (b ≡ true)
-both true b h = (refl, h)
-both false b h = never (sym h)
 
 -- ---- exchanged
 

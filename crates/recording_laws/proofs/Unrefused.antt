@@ -23,9 +23,6 @@ use Rattle.meaning.specs.declared.Shown.{Shown}
 use Rattle.meaning.specs.declared.Shown.the-variants as Shown
 use Rattle.completions.proofs.Members.{In, choices-in}
 
-pub never : {A : Type 0} → true ≡ false → A
-never q = let z : _≡_ {A = ℕ} 0 1 = cc in absurd (omega arith)
-
 -- ---- checks that all pass
 
 abbrev Clear : List (Bool × Refusal) → Type 0

@@ -17,7 +17,7 @@ use lib.ListN.{length, getD, set, take, replicate}
 use lib.Seq.{getD-take, length-take-le}
 use Rattle.sequences.specs.Tabulate.{allBelow, tabulate, joined}
 use Rattle.sequences.proofs.Loops.{tabulate-snoc}
-use Rattle.sequences.proofs.Tests.{holds}
+use Rattle.sequences.proofs.Tests.{holds, both}
 use Rattle.meaning.specs.Bytes.{bit}
 use Rattle.meaning.specs.Traces.{Alphabet, Event, masked}
 use Rattle.meaning.specs.Monitors.{keep, events}
@@ -120,10 +120,6 @@ fit-is P a b i r q x y e f k l = ap₂ (λ (c d : Bool). c && d) (sym (k ∙ ap 
 
 pub contra-is : (P : ℕ) (a b : List ℕ) (i : ℕ) (r q : Seen) (x : Bool) → r ≡ seenAt a i → q ≡ seenAt b i → x ≡ contradict P r q → contradict P (seenAt a i) (seenAt b i) ≡ x
 contra-is P a b i r q x e f k = sym (k ∙ ap₂ (contradict P) e f)
-
-pub both : (a b : Bool) → (a && b) ≡ true → (a ≡ true) × (b ≡ true)
-both true b h = (refl, h)
-both false b h = let z : _≡_ {A = ℕ} 0 1 = cc in absurd (omega arith)
 
 -- an event that fits has no bit too high, and neither has the join of two
 pub known-low : (P : ℕ) (r q : Seen) → seenFits P r ≡ true → seenFits P q ≡ true → join r q .known < 2 ^ P

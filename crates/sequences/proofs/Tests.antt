@@ -2,8 +2,10 @@
 --     fails       the list fails where one of its tests, by index, fails
 --     holds       each test of a list that holds
 --     last        the last test decides where the others hold
-use mathlib.Core.Path.{_≡_, refl, ap}
-use mathlib.Core.Bool.{Bool, true, false, cond}
+--     never       no test both holds and fails
+--     both        two tests that hold together
+use mathlib.Core.Path.{_≡_, refl, sym, ap}
+use mathlib.Core.Bool.{Bool, true, false, cond, _&&_}
 use mathlib.Core.List.{List, [], _∷_}
 use Prim.Native.Nat.{ℕ, zero, suc}
 use native.Mathlib.Omega.{arith}
@@ -26,3 +28,10 @@ holds (false ∷ bs) e i = let h : _≡_ {A = ℕ} 0 1 = ap (λ (b : Bool). cond
 pub last : (b : Bool) → b ≡ cond b true false
 last true = refl
 last false = refl
+
+pub never : {A : Type 0} → true ≡ false → A
+never q = let z : _≡_ {A = ℕ} 0 1 = cc in absurd (omega arith)
+
+pub both : (a b : Bool) → (a && b) ≡ true → (a ≡ true) × (b ≡ true)
+both true b h = (refl, h)
+both false b h = never (sym h)

@@ -12,12 +12,10 @@ use lib.ListN.{length, getD, set, replicate, length-set, getD-replicate, List·g
 use lib.Seq.{getD-set-same, getD-set-other}
 use lib.Dec.{ltb, leb}
 use borrow.Author.Tests.{ltb-true}
+use Rattle.sequences.proofs.Tests.{never}
 use Rattle.meaning.specs.TableFiles.{successor, verdictByte}
 use Rattle.meaning.specs.Runs.{inTable}
 use Rattle.state_sets.specs.Sets.{Has, Among, Spread, Moved}
-
-never : {A : Type 0} → true ≡ false → A
-never q = let z : _≡_ {A = ℕ} 0 1 = cc in absurd (omega arith)
 
 -- one event more is the one at n
 among-more : (n : ℕ) (es : List ℕ) (e : ℕ) → Among (n + 1) es e → Among n es e ⊎ (getD es n 0 ≡ e)

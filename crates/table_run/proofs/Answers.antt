@@ -4,13 +4,14 @@
 --     run-refused, row-refused  counts of 0, as a refused opening has them, are refused by 14
 use mathlib.Core.Path.{_≡_, refl}
 use mathlib.Core.List.{List, [], _∷_}
-use mathlib.Core.Bool.{Bool, true, false, cond, _&&_}
+use mathlib.Core.Bool.{Bool, true, false, cond}
 use Prim.Native.Nat.{ℕ, suc, _≤_, _<_}
 use native.Mathlib.Omega.{arith}
 use borrow.Author.Tests.{lt-ltb, leb-true, ltb-true, ltb-false}
 use lib.Dec.{leb, ltb}
 use lib.ListN.{length, getD}
 use Rattle.sequences.specs.Tabulate.{every}
+use Rattle.sequences.proofs.Tests.{both}
 use Rattle.meaning.specs.Traces.{Alphabet, isEvent}
 use Rattle.meaning.specs.Monitors.{Monitor, follow}
 use Rattle.meaning.specs.TableFiles.{isTable, alphabetIn, signalsIn, statesIn, checkedOf, verdictOf, verdictByte, successor, monitorIn, contentTests}
@@ -25,17 +26,13 @@ use Rattle.meaning.specs.declared.Ran.the-variants as Ran
 use Rattle.table_layout.proofs.Form.{test-event, table-counts, table-verdict, table-inside, table-content}
 use Rattle.event_lists.proofs.Laws.{all-events}
 
-both : (a b : Bool) → (a && b) ≡ true → (a ≡ true) × (b ≡ true)
-both true true h = (refl, refl)
-both true false h = let z : _≡_ {A = ℕ} 0 1 = cc in absurd (omega arith)
-both false b h = let z : _≡_ {A = ℕ} 0 1 = cc in absurd (omega arith)
-
 -- ---- any bytes and counts
 module _ (t : List ℕ) (P S : ℕ) where
   abbrev m : Monitor
   m = monitorIn t P S
 
-  on-end : (s : ℕ) (es : List ℕ) → onTable t P S s es ≡ true → inTable t P S (follow m s es) ≡ true
+  -- a way on the table ends in it
+  pub on-end : (s : ℕ) (es : List ℕ) → onTable t P S s es ≡ true → inTable t P S (follow m s es) ≡ true
   unfolding onTable
   on-end s [] h = h
   on-end s (e ∷ es) h = on-end (successor t P s e) es (both (inTable t P S s) (onTable t P S (successor t P s e) es) h .1)

@@ -3,11 +3,12 @@ use mathlib.Core.Path.{_≡_, sym, ap₂, subst, _∙_}
 use Prim.Native.Nat.{_^_, _<_}
 use borrow.Author.Needs.{needs}
 use denote.Ref.{now}
+use Rattle.sequences.proofs.Tests.{both}
 use Rattle.meaning.specs.Recordings.{join, joinedAt}
 use Rattle.meaning.specs.TableFiles.{alphabetIn}
 use Rattle.meaning.specs.declared.Seen.{Seen}
 use Rattle.recordings.specs.Hearings.{HearsJoined}
-use Rattle.recordings.proofs.Laws.{fault-form, fault-both, hears, known-low, fit-is, contra-is, both}
+use Rattle.recordings.proofs.Laws.{fault-form, fault-both, hears, known-low, fit-is, contra-is}
 use Rattle.recordings.proofs.hear.Statement.{statement}
 use Rattle.recordings.proofs.hear.Tie as tie
 
