@@ -21,7 +21,7 @@ use Rattle.text_pieces.specs.declared.Text.the-variants as Text
 use Rattle.text_pieces.proofs.Decimal.{decimal-u16, decimal-u64}
 use Rattle.meaning.specs.Refusals.{codeOf}
 use Rattle.meaning.specs.declared.Refusal.{Refusal}
-use Rattle.meaning.specs.declared.Refusal.the-variants.{Truncated, WrongLength, WrongKind, WrongSignals, WrongCount, WrongOperand, OutOfRange, EighthTemporal, TrailingBytes, ShortOutput, TooManyResiduals, WrongEvent, WrongState, WrongWatch, WrongTable, WrongText, TooManyNodes, NoEvent, WrongDesk, WrongNumber, QueueFull, CountFull, WrongRecordings, Contradiction}
+use Rattle.meaning.specs.declared.Refusal.the-variants.{Truncated, WrongLength, WrongKind, WrongSignals, WrongCount, WrongOperand, OutOfRange, EighthTemporal, TrailingBytes, ShortOutput, TooManyResiduals, WrongEvent, WrongState, WrongWatch, WrongTable, WrongText, TooManyNodes, NoEvent, WrongDesk, WrongNumber, QueueFull, CountFull, WrongRecordings, Contradiction, WrongOpening}
 use Rattle.fault_text.specs.Fault.{shown}
 
 map-append : (f : ℕ → ℕ) (a b : List ℕ) → map f (a ++ b) ≡ map f a ++ map f b
@@ -98,6 +98,7 @@ code-few (QueueFull p) = omega arith
 code-few (CountFull p) = omega arith
 code-few WrongRecordings = omega arith
 code-few (Contradiction p) = omega arith
+code-few (WrongOpening p) = omega arith
 
 pub line-length : (r : Refusal) → codeOf r .1 < 2 ^ 64 → length (refusalText r) ≤ 64
 unfolding refusalText

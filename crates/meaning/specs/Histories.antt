@@ -5,6 +5,7 @@ use Prim.Native.Nat.{ℕ, suc}
 use lib.ListN.{replicate}
 use lib.Dec.{eqb}
 use Rattle.meaning.specs.TableFiles.{monitorOf}
+use Rattle.meaning.specs.Openings.{Opening}
 use Rattle.meaning.specs.Desks.{Outcome, freshWatch, postOf, turnOf}
 use Rattle.meaning.specs.declared.Watch.{Watch}
 use Rattle.meaning.specs.declared.Served.{Served}
@@ -20,9 +21,9 @@ pub record Standing : Type 0 where
   pub desk : List Watch
   pub last : ℕ
 
--- a fresh desk of n watches, made with the table t, whose first turn takes l
-abbrev pub begun : List ℕ → ℕ → ℕ → Standing
-begun t n l = record { desk = replicate n (freshWatch (monitorOf t .verdict 0)); last = l }
+-- a fresh desk of n watches, made with the opening o, whose first turn takes l
+abbrev pub begun : Opening → ℕ → ℕ → Standing
+begun o n l = record { desk = replicate n (freshWatch (o .number) (monitorOf (o .table) .verdict 0)); last = l }
 
 -- the number that an answer returns, and l where it returns none
 abbrev pub lastAfter : Served → ℕ → ℕ
@@ -31,18 +32,18 @@ lastAfter (Served.Heard i e s v) l = i
 lastAfter (Served.NoneWaits k) l = k
 lastAfter (Served.Refused x) l = l
 
--- what an action comes to, with the table t
-abbrev pub asked : List ℕ → Standing → Action → Outcome
-asked t c (Post i e) = postOf t (c .desk) i e
-asked t c Turn = turnOf t (c .desk) (c .last)
+-- what an action comes to, with the opening o
+abbrev pub asked : Opening → Standing → Action → Outcome
+asked o c (Post i e) = postOf o (c .desk) i e
+asked o c Turn = turnOf o (c .desk) (c .last)
 
-abbrev pub onward : List ℕ → Standing → Action → Standing
-onward t c a = record { desk = asked t c a .desk; last = lastAfter (asked t c a .answer) (c .last) }
+abbrev pub onward : Opening → Standing → Action → Standing
+onward o c a = record { desk = asked o c a .desk; last = lastAfter (asked o c a .answer) (c .last) }
 
 -- after a list of actions
-abbrev pub reached : List ℕ → Standing → List Action → Standing
-reached t c [] = c
-reached t c (a ∷ rest) = reached t (onward t c a) rest
+abbrev pub reached : Opening → Standing → List Action → Standing
+reached o c [] = c
+reached o c (a ∷ rest) = reached o (onward o c a) rest
 
 -- the event that an action adds to tunnel i, if its answer takes it
 abbrev pub takes : ℕ → Action → Served → List ℕ
@@ -60,13 +61,13 @@ hears i (Served.NoneWaits k) = []
 hears i (Served.Refused x) = []
 
 -- the "accepted events" of tunnel i, and those that were heard, in order
-abbrev pub accepted : List ℕ → Standing → ℕ → List Action → List ℕ
-accepted t c i [] = []
-accepted t c i (a ∷ rest) = takes i a (asked t c a .answer) ++ accepted t (onward t c a) i rest
+abbrev pub accepted : Opening → Standing → ℕ → List Action → List ℕ
+accepted o c i [] = []
+accepted o c i (a ∷ rest) = takes i a (asked o c a .answer) ++ accepted o (onward o c a) i rest
 
-abbrev pub heard : List ℕ → Standing → ℕ → List Action → List ℕ
-heard t c i [] = []
-heard t c i (a ∷ rest) = hears i (asked t c a .answer) ++ heard t (onward t c a) i rest
+abbrev pub heard : Opening → Standing → ℕ → List Action → List ℕ
+heard o c i [] = []
+heard o c i (a ∷ rest) = hears i (asked o c a .answer) ++ heard o (onward o c a) i rest
 
 -- how many turns there are among the actions
 abbrev pub turns : List Action → ℕ

@@ -9,6 +9,7 @@ pub mod Grammar
 pub mod RuleTexts
 pub mod TableFiles
 pub mod Runs
+pub mod Openings
 pub mod Demands
 pub mod Desks
 pub mod Histories

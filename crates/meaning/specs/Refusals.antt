@@ -1,7 +1,7 @@
 -- Document 01's table "Refusing", and the numbers that document 02 adds.
 use Prim.Native.Nat.{ℕ}
 use Rattle.meaning.specs.declared.Refusal.{Refusal}
-use Rattle.meaning.specs.declared.Refusal.the-variants.{Truncated, WrongLength, WrongKind, WrongSignals, WrongCount, WrongOperand, OutOfRange, EighthTemporal, TrailingBytes, ShortOutput, TooManyResiduals, WrongEvent, WrongState, WrongWatch, WrongTable, WrongText, TooManyNodes, NoEvent, WrongDesk, WrongNumber, QueueFull, CountFull, WrongRecordings, Contradiction}
+use Rattle.meaning.specs.declared.Refusal.the-variants.{Truncated, WrongLength, WrongKind, WrongSignals, WrongCount, WrongOperand, OutOfRange, EighthTemporal, TrailingBytes, ShortOutput, TooManyResiduals, WrongEvent, WrongState, WrongWatch, WrongTable, WrongText, TooManyNodes, NoEvent, WrongDesk, WrongNumber, QueueFull, CountFull, WrongRecordings, Contradiction, WrongOpening}
 
 -- "Returned" and "Place", of each case
 abbrev pub codeOf : Refusal → ℕ × ℕ
@@ -29,3 +29,4 @@ codeOf (QueueFull p) = (20, p)
 codeOf (CountFull p) = (21, p)
 codeOf WrongRecordings = (22, 0)
 codeOf (Contradiction p) = (23, p)
+codeOf (WrongOpening p) = (24, p)

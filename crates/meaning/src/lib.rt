@@ -36,6 +36,7 @@ pub enum Refusal {
     CountFull(usize),
     WrongRecordings,
     Contradiction(usize),
+    WrongOpening(usize),
 }
 
 impl Refusal {
@@ -67,6 +68,7 @@ impl Refusal {
             Refusal::CountFull(_) => 21,
             Refusal::WrongRecordings => 22,
             Refusal::Contradiction(_) => 23,
+            Refusal::WrongOpening(_) => 24,
         }
     }
 
@@ -98,6 +100,7 @@ impl Refusal {
             Refusal::CountFull(p) => p,
             Refusal::WrongRecordings => 0,
             Refusal::Contradiction(p) => p,
+            Refusal::WrongOpening(p) => p,
         }
     }
 }
@@ -159,7 +162,23 @@ pub enum Decided {
     Never,
 }
 
-// What a run returns.
+// A state of an opened table: the number of its opening, and the state's own number in the table.
+pub struct State {
+    pub opening: u16,
+    pub number: u16,
+}
+
+// What a run of an opened table returns.
+pub enum Arrived {
+    At {
+        state: State,
+        verdict: Verdict,
+        decided: Decided,
+    },
+    Refused(Refusal),
+}
+
+// The same of a table's bytes, by the numbers of its states: what is left when the opening is not asked.
 pub enum Ran {
     Ended {
         state: u16,
@@ -181,14 +200,16 @@ pub struct StateRow {
     pub successors: [u16; 16],
 }
 
-// A watch of a desk: where the monitor of one tunnel stands, how many events it has heard, after how many of them a verdict other than undecided first
-// stood, and the events that wait for it. `first` counts where `filled` is not 0, and otherwise there is none yet. Of the 32 slots the first `waiting`
-// count, the oldest event in front; the others are free. It passes to other languages as it is, and whatever its bytes are, it is a watch.
+// A watch of a desk: where the monitor of one tunnel stands and of which opening that state is, how many events it has heard, after how many of them a
+// verdict other than undecided first stood, and the events that wait for it. `first` counts where `filled` is not 0, and otherwise there is none yet. Of
+// the 32 slots the first `waiting` count, the oldest event in front; the others are free. It passes to other languages as it is, and whatever its bytes
+// are, it is a watch.
 #[repr(C)]
 pub struct Watch {
     pub state: u16,
+    pub opening: u16,
     pub waiting: u16,
-    pub filled: u32,
+    pub filled: u16,
     pub heard: u32,
     pub first: u32,
     pub events: [u8; 32],
@@ -201,7 +222,7 @@ pub enum Served {
     Heard {
         number: usize,
         event: u8,
-        state: u16,
+        state: State,
         verdict: Verdict,
     },
     NoneWaits(usize),

@@ -75,6 +75,9 @@ enum-told-9 c = search needs
 enum-known-self-15 : tie.Need-enum-known-self-15
 enum-known-self-15 c = search needs
 
+enum-known-self-16 : tie.Need-enum-known-self-16
+enum-known-self-16 c = search needs
+
 returns : tie.Need-returns
 returns c = rw (c .before .self .given .1)
 
@@ -147,6 +150,9 @@ returns-23 c = rw (c .enum-told9 .given .1)
 returns-24 : tie.Need-returns-24
 returns-24 c = rw (c .before .self15 .given .1)
 
+returns-25 : tie.Need-returns-25
+returns-25 c = rw (c .before .self16 .given .1)
+
 pub place-spec : {M : Type 1} → statement M
 place-spec =
     tie.close
@@ -175,6 +181,7 @@ place-spec =
     enum-known-self-14
     enum-told-9
     enum-known-self-15
+    enum-known-self-16
     returns
     returns-2
     returns-3
@@ -198,4 +205,5 @@ place-spec =
     returns-21
     returns-22
     returns-23
-    returns-24)
+    returns-24
+    returns-25)
