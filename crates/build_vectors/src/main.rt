@@ -1,5 +1,5 @@
 // Builds the rule files of a stream of cases on standard input: a two-byte length and the rule file, a two-byte length of the output, a two-byte
-// count and the events of a run. Writes a line for each case.
+// count and the events of a run. Writes a line for each case. A table is opened with its length as the number.
 ghost use Prim.Native.Nat.{_≤_};
 ghost use lib.ListN.{length};
 use console::fill;
@@ -13,6 +13,7 @@ use console::say_run;
 use console::say_verdict;
 use meaning::Built;
 use meaning::Checked;
+use meaning::State;
 
 // Fills the buffer with one value.
 fn paint(buffer: &mut [u8]) {
@@ -83,7 +84,9 @@ fn say_table(t: &[u8], events: &[u8]) {
                 say_rows(t, signals, states);
             }
             say(b" run ");
-            say_run(opened::open_and_run(t, 0, events));
+            let opening = (t.len() % 65536) as u16;
+            let start = State { opening, number: 0 };
+            say_run(opened::open_and_run(t, opening, start, events));
         }
     }
 }

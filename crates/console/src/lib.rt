@@ -4,8 +4,8 @@ ghost use mathlib.Core.Path.{_≡_};
 ghost use Prim.Native.Nat.{_≤_};
 ghost use lib.ListN.{length, take, replicate};
 ghost use Rattle.console.specs.Input.{Filled};
+use meaning::Arrived;
 use meaning::Decided;
-use meaning::Ran;
 use meaning::Refusal;
 use meaning::Verdict;
 
@@ -49,17 +49,17 @@ pub fn say_verdict(v: Verdict) {
     }
 }
 
-// Only writes: the end state, its verdict and the count, or the refusal.
-pub fn say_run(r: Ran) {
-    match r {
-        Ran::Refused(why) => say_refusal(why),
-        Ran::Ended {
+// Only writes: the end state's own number, its verdict and the count, or the refusal.
+pub fn say_run(a: Arrived) {
+    match a {
+        Arrived::Refused(why) => say_refusal(why),
+        Arrived::At {
             state,
             verdict,
             decided,
         } => {
             say(b"state ");
-            say_number(wire::wide16(state));
+            say_number(wire::wide16(state.number));
             say(b" ");
             say_verdict(verdict);
             match decided {

@@ -48,26 +48,27 @@ module _ (t : List ℕ) (P S : ℕ) where
       go false q k = absurd (false≢true k)
   few-signals {r = false} e h = absurd (true≢false h)
 
+module _ (k : ℕ) (t : List ℕ) (P S : ℕ) where
   -- what a filling makes of a row
   abbrev made : List Watch → Filling → List Watch
   made d f = filled (f .watch) d (f .upto)
 
   -- what the filling gives is a fresh desk
-  pub fresh-is : (d : List Watch) → (fillingOf t P S (length d) .answer ≡ freshIn t P S d .answer) × (made d (fillingOf t P S (length d)) ≡ freshIn t P S d .desk)
+  pub fresh-is : (d : List Watch) → (fillingOf k t P S (length d) .answer ≡ freshIn k t P S d .answer) × (made d (fillingOf k t P S (length d)) ≡ freshIn k t P S d .desk)
   unfolding freshIn
   fresh-is d = go (countsFit t P S && inTable t P S 0) (leb 1 (length d) && leb (length d) 64) refl refl
     where
       go : (a b : Bool) → (countsFit t P S && inTable t P S 0) ≡ a → (leb 1 (length d) && leb (length d) 64) ≡ b
-          → (fillingOf t P S (length d) .answer ≡ freshIn t P S d .answer) × (made d (fillingOf t P S (length d)) ≡ freshIn t P S d .desk)
+          → (fillingOf k t P S (length d) .answer ≡ freshIn k t P S d .answer) × (made d (fillingOf k t P S (length d)) ≡ freshIn k t P S d .desk)
       go false b p q = (rw p refl, rw p (filled-none _ d))
       go true false p q = (rw (p, q) refl, rw (p, q) (filled-none _ d))
       go true true p q = (rw (p, q) refl, rw (p, q) (filled-all _ d))
 
   -- no more watches are filled than the row has
-  pub upto-in : (n : ℕ) → fillingOf t P S n .upto ≤ n
+  pub upto-in : (n : ℕ) → fillingOf k t P S n .upto ≤ n
   upto-in n = go (countsFit t P S && inTable t P S 0) (leb 1 n && leb n 64) refl refl
     where
-      go : (a b : Bool) → (countsFit t P S && inTable t P S 0) ≡ a → (leb 1 n && leb n 64) ≡ b → fillingOf t P S n .upto ≤ n
+      go : (a b : Bool) → (countsFit t P S && inTable t P S 0) ≡ a → (leb 1 n && leb n 64) ≡ b → fillingOf k t P S n .upto ≤ n
       go false b p q = rw p (omega arith)
       go true false p q = rw (p, q) (omega arith)
       go true true p q = rw (p, q) (omega arith)

@@ -18,12 +18,12 @@ use Rattle.desk.specs.declared.Filling.{Filling}
 abbrev pub unfilled : Refusal → Filling
 unfilled x = record { upto = 0; watch = noWatch; answer = Served.Refused x }
 
--- over the bytes t with counts P and S: how many watches of a row of n are filled, with which, and the answer
-abbrev pub fillingOf : List ℕ → ℕ → ℕ → ℕ → Filling
-fillingOf t P S n =
+-- over the bytes t with counts P and S and the opening's number k: how many watches of a row of n are filled, with which, and the answer
+abbrev pub fillingOf : ℕ → List ℕ → ℕ → ℕ → ℕ → Filling
+fillingOf k t P S n =
     firstOf unfilled
     ((not (countsFit t P S && inTable t P S 0), WrongTable) ∷ (not (leb 1 n && leb n 64), WrongDesk) ∷ [])
-    (record { upto = n; watch = freshWatch (verdictOf (verdictByte t P 0)); answer = Served.Done })
+    (record { upto = n; watch = freshWatch k (verdictOf (verdictByte t P 0)); answer = Served.Done })
 
 -- the first k watches are w
 unfoldable pub filled : Watch → List Watch → ℕ → List Watch

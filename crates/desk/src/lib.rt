@@ -49,8 +49,8 @@ fn starts(t: &[u8], signals: u8, states: u16) -> bool
 }
 
 // 14 and 18, or the whole row is filled.
-fn filling_of(t: &[u8], signals: u8, states: u16, length: usize) -> Filling
-    ensures { λ r. ⌜ r ≡ fillingOf (now (t .entry)) signals states length ⌝ }
+fn filling_of(t: &[u8], signals: u8, states: u16, opening: u16, length: usize) -> Filling
+    ensures { λ r. ⌜ r ≡ fillingOf opening (now (t .entry)) signals states length ⌝ }
 {
     if !starts(t, signals, states) {
         return no_filling(Refusal::WrongTable);
@@ -59,7 +59,7 @@ fn filling_of(t: &[u8], signals: u8, states: u16, length: usize) -> Filling
         return no_filling(Refusal::WrongDesk);
     }
     let verdict = verdict_at(t, signals, 0);
-    let watch = fresh_watch(verdict);
+    let watch = fresh_watch(opening, verdict);
     Filling {
         upto: length,
         watch,
@@ -79,11 +79,17 @@ fn fill(desk: &mut [Watch], upto: usize, watch: Watch)
     }
 }
 
-// Makes a fresh desk of the whole row, over the bytes of a table and its counts, whatever they are and whatever stood there.
-pub fn fresh<'d, 't>(desk: &'d mut [Watch], t: &'t [u8], signals: u8, states: u16) -> Served
-    ensures { λ r. ⌜ (r ≡ freshIn (now (t .entry)) signals states (now (desk .entry)) .answer) × (now (desk .exit) ≡ freshIn (now (t .entry)) signals states (now (desk .entry)) .desk) ⌝ }
+// Makes a fresh desk of the whole row, over the bytes of a table, its counts and the number of its opening, whatever they are and whatever stood there.
+pub fn fresh<'d, 't>(
+    desk: &'d mut [Watch],
+    t: &'t [u8],
+    signals: u8,
+    states: u16,
+    opening: u16,
+) -> Served
+    ensures { λ r. ⌜ (r ≡ freshIn opening (now (t .entry)) signals states (now (desk .entry)) .answer) × (now (desk .exit) ≡ freshIn opening (now (t .entry)) signals states (now (desk .entry)) .desk) ⌝ }
 {
-    let f = filling_of(t, signals, states, desk.len());
+    let f = filling_of(t, signals, states, opening, desk.len());
     fill(desk, f.upto, f.watch);
     f.answer
 }

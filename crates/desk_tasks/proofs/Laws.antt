@@ -15,6 +15,7 @@ use Rattle.meaning.specs.Bytes.{bit}
 use Rattle.meaning.specs.RuleFiles.{firstOf}
 use Rattle.meaning.specs.TableFiles.{successor, verdictByte, verdictOf}
 use Rattle.meaning.specs.Runs.{inTable}
+use Rattle.meaning.specs.Openings.{stateOf}
 use Rattle.meaning.specs.Desks.{oldest, withoutOldest}
 use Rattle.meaning.specs.declared.Refusal.{Refusal}
 use Rattle.meaning.specs.declared.Refusal.the-variants.{WrongEvent, WrongState, WrongWatch, WrongTable}
@@ -72,7 +73,7 @@ module _ (t : List ℕ) (s : Task) (w : Watch) (i : ℕ) where
   wayHere = inTable t (s .signals) (s .states) (w .state) && inTable t (s .signals) (s .states) leads
 
   abbrev pub heardHere : Service
-  heardHere = hearing w i leads (verdictOf (verdictByte t (s .signals) leads))
+  heardHere = hearing (s .opening) w i leads (verdictOf (verdictByte t (s .signals) leads))
 
   pub few-first : s .signals ≤ 4 → heardFrom t s w i ≡ byTests s w heardHere (not (ltb (w .state) (s .states))) (not (eqb (bit (oldest w) (s .mask)) 1)) (not wayHere)
   few-first few =
@@ -108,5 +109,5 @@ module _ (t : List ℕ) (s : Task) (w : Watch) (i : ℕ) where
         hear-off h = sym (passed-to true h)
 
         pub hear-ended : not f ≡ false → {v : Verdict} {u : Watch} → v ≡ verdictOf (verdictByte t (s .signals) to) → u ≡ withoutOldest w to v
-            → record { number = i; watch = u; answer = Served.Heard i e to v } ≡ heardFrom t s w i
+            → record { number = i; watch = u; answer = Served.Heard i e (stateOf (s .opening) to) v } ≡ heardFrom t s w i
         hear-ended h p z = rw (z, p, old, there) (sym (passed-to false h))

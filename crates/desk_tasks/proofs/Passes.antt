@@ -1,6 +1,6 @@
 -- What a pass over a row finds.
---     Kept, pass-kept                      what it keeps
---     pass-wrong, pass-waits, pass-later   the lowest number at which each test holds
+--     Kept, pass-kept    what it keeps
+--     pass-foreign, pass-wrong, pass-waits, pass-later   the lowest number at which each test holds
 use mathlib.Core.Path.{_≡_, refl, ap, _∙_, sym}
 use mathlib.Core.Logic.{_⊎_, inl, inr}
 use mathlib.Core.List.{List}
@@ -8,7 +8,7 @@ use mathlib.Core.Bool.{Bool, true, false, cond, not, _&&_}
 use Prim.Native.Nat.{ℕ, zero, suc, _<_}
 use native.Mathlib.Omega.{arith}
 use native.Mathlib.Decide.{decLt}
-use lib.Dec.{ltb}
+use lib.Dec.{ltb, eqb}
 use Rattle.sequences.specs.Tabulate.{leastBelow}
 use Rattle.sequences.proofs.Loops.{least-is}
 use Rattle.meaning.specs.Desks.{watchAt}
@@ -61,14 +61,20 @@ pub record Kept (s r : Task) : Type 0 where
   pub table : r .table ≡ s .table
   pub mask : r .mask ≡ s .mask
   pub length : r .length ≡ s .length
+  pub opening : r .opening ≡ s .opening
 
 module _ (d : List Watch) where
   pub pass-kept : (k : ℕ) (s : Task) → Kept s (passOver d k s)
   unfolding passOver
-  pass-kept zero s = record { request = refl; signals = refl; states = refl; table = refl; mask = refl; length = refl }
+  pass-kept zero s = record { request = refl; signals = refl; states = refl; table = refl; mask = refl; length = refl; opening = refl }
   pass-kept (suc k) s =
       let h = pass-kept k (lookOf s (watchAt d k) k) in
-      record { request = h .request; signals = h .signals; states = h .states; table = h .table; mask = h .mask; length = h .length }
+      record { request = h .request; signals = h .signals; states = h .states; table = h .table; mask = h .mask; length = h .length; opening = h .opening }
+
+  pub pass-foreign : (k : ℕ) (s : Task) → passOver d k s .foreign ≡ lowest k (λ i. not (eqb (watchAt d i .opening) (s .opening))) (s .foreign)
+  unfolding passOver
+  pass-foreign zero s = refl
+  pass-foreign (suc k) s = pass-foreign k (lookOf s (watchAt d k) k)
 
   pub pass-wrong : (k : ℕ) (s : Task) → passOver d k s .wrong ≡ lowest k (λ i. not (fitsIn (s .mask) (s .states) (watchAt d i))) (s .wrong)
   unfolding passOver

@@ -21,9 +21,9 @@ use Rattle.meaning.specs.Traces.{Alphabet, isEvent}
 use Rattle.meaning.specs.TableFiles.{alphabetIn, monitorIn}
 use Rattle.meaning.specs.RuleFiles.{firstOf}
 use Rattle.meaning.specs.Runs.{endOf, countsFit, onTable, tested, ranIn}
-use Rattle.meaning.specs.Desks.{Outcome, refused, rowFits, watchFits, queue, counted, firstWrong, deskChecks, watchAt, oldest, withEvent, after, passed, heardBy, postBy, turnBy, postIn, turnIn}
+use Rattle.meaning.specs.Desks.{Outcome, refused, rowFits, watchFits, queue, counted, firstWrong, firstForeign, deskChecks, watchAt, oldest, withEvent, after, passed, heardBy, postBy, turnBy, postIn, turnIn}
 use Rattle.meaning.specs.declared.Refusal.{Refusal}
-use Rattle.meaning.specs.declared.Refusal.the-variants.{WrongEvent, WrongState, WrongWatch, WrongTable, WrongDesk, WrongNumber, QueueFull, CountFull}
+use Rattle.meaning.specs.declared.Refusal.the-variants.{WrongEvent, WrongState, WrongWatch, WrongTable, WrongDesk, WrongNumber, QueueFull, CountFull, WrongOpening}
 use Rattle.meaning.specs.declared.Ran.{Ran}
 use Rattle.meaning.specs.declared.Ran.the-variants as Ran
 use Rattle.meaning.specs.declared.Watch.{Watch}
@@ -37,10 +37,10 @@ use Rattle.desk_tasks.specs.declared.Request.the-variants.{Post, Turn}
 use Rattle.desk_tasks.specs.declared.Task.{Task}
 use Rattle.desk_tasks.specs.declared.Service.{Service}
 use Rattle.desk_tasks.specs.declared.Check.the-variants as Check
-use Rattle.desk_tasks.specs.Tasks.{Begun, lastIn, passOver, nextOf, wantedBy, wantedOf, rowChecks, refusing, postChecks, addition, postDecided, hearDecided, heardFrom, turnDecided, requestDecided, checkDecided, decidedOf}
+use Rattle.desk_tasks.specs.Tasks.{Begun, lastIn, openingIn, passOver, nextOf, wantedBy, wantedOf, rowChecks, refusing, postChecks, addition, postDecided, hearDecided, heardFrom, turnDecided, requestDecided, checkDecided, decidedOf}
 use Rattle.desk_tasks.specs.Surveys.{servedIn, Surveyed}
 use Rattle.desk_tasks.proofs.Laws.{byTests, wayHere, heardHere, few-first}
-use Rattle.desk_tasks.proofs.Passes.{Kept, lowest, lowest-least, pass-kept, pass-wrong, pass-waits, pass-later}
+use Rattle.desk_tasks.proofs.Passes.{Kept, lowest, lowest-least, pass-kept, pass-foreign, pass-wrong, pass-waits, pass-later}
 use Rattle.desk_tasks.proofs.Nexts.{next-is}
 
 pub begun-upto : {t : List ℕ} {P S n : ℕ} {r : Request} {s : Task} → Begun t P S r n s → s .upto ≤ n
@@ -87,7 +87,7 @@ module _ (d : List Watch) (s : Task) (w : Watch) (len : s .length ≡ length d) 
   unfolding decidedOf
   applied-decided t = ap (applied d) (checked-first t (rowChecks s)) ∙ applied-first (rowChecks s) (requestDecided t s w (s .request))
 
-  applied-heard : (i : ℕ) → w ≡ watchAt d i → (r : Ran) → applied d (hearDecided s w i r) ≡ heardBy d i r
+  applied-heard : (i : ℕ) → w ≡ watchAt d i → (r : Ran) → applied d (hearDecided s w i r) ≡ heardBy (s .opening) d i r
   applied-heard i e (Ran.Ended to v c) = rw e
   applied-heard i e (Ran.Refused x) = applied-refused x
 
@@ -152,6 +152,9 @@ module _ (t : List ℕ) (P S : ℕ) (r : Request) (d : List Watch) (s₀ s : Tas
   kept : Kept s₀ s
   kept = subst (Kept s₀) (sym pass) (pass-kept d (s₀ .upto) s₀)
 
+  own : s .opening ≡ openingIn r
+  own = kept .opening ∙ begun .opening
+
   long : s .length ≡ n
   long = kept .length ∙ begun .length
 
@@ -173,6 +176,13 @@ module _ (t : List ℕ) (P S : ℕ) (r : Request) (d : List Watch) (s₀ s : Tas
         ∙ lowest-least n (λ i. not (fitsIn (s₀ .mask) (s₀ .states) (watchAt d i)))
         ∙ least-same n _ _ (λ i l. ap (λ (x : ℕ). not (fitsIn (s₀ .mask) x (watchAt d i))) (begun .states) ∙ ap not (fits-so t P (s₀ .mask) bits S (watchAt d i)))
 
+    foreign-is : s .foreign ≡ firstForeign (openingIn r) d
+    foreign-is =
+        ap (λ (x : Task). x .foreign) over-all ∙ pass-foreign d n s₀
+        ∙ ap (λ (x : ℕ). lowest n (λ i. not (eqb (watchAt d i .opening) (s₀ .opening))) x) (begun .foreign)
+        ∙ lowest-least n (λ i. not (eqb (watchAt d i .opening) (s₀ .opening)))
+        ∙ least-same n _ _ (λ i l. ap (λ (x : ℕ). not (eqb (watchAt d i .opening) x)) (begun .opening))
+
     some : 1 ≤ n
     some = go (leb 1 n) refl row
       where
@@ -181,8 +191,8 @@ module _ (t : List ℕ) (P S : ℕ) (r : Request) (d : List Watch) (s₀ s : Tas
         go false e h = leb-true 1 n (e ∙ h)
 
     -- the next to be heard after l
-    next-so : (l : ℕ) → r ≡ Turn l → nextOf s ≡ cond (ltb (passed d l) n) (after n l (passed d l)) n
-    next-so l e =
+    next-so : (k l : ℕ) → r ≡ Turn k l → nextOf s ≡ cond (ltb (passed d l) n) (after n l (passed d l)) n
+    next-so k l e =
         let from : s₀ .last ≡ l = begun .last ∙ ap lastIn e in
         let later : s .later ≡ leastBelow n (λ i. ltb 0 (watchAt d i .waiting) && ltb l i) =
         ap (λ (x : Task). x .later) over-all ∙ pass-later d n s₀ ∙ ap (λ (x : ℕ). lowest n (λ i. ltb 0 (watchAt d i .waiting) && ltb x i) (s₀ .later)) from
@@ -201,7 +211,7 @@ module _ (t : List ℕ) (P S : ℕ) (r : Request) (d : List Watch) (s₀ s : Tas
 
     -- a turn that hears number i, and one that hears none
     abbrev hearing : ℕ → Outcome
-    hearing i = heardBy d i (ranIn t P S (watchAt d i .state) (oldest (watchAt d i) ∷ []))
+    hearing i = heardBy (openingIn r) d i (ranIn t P S (watchAt d i .state) (oldest (watchAt d i) ∷ []))
 
     abbrev silence : ℕ → Outcome
     silence l = record { answer = Served.NoneWaits l; desk = d }
@@ -224,13 +234,13 @@ module _ (t : List ℕ) (P S : ℕ) (r : Request) (d : List Watch) (s₀ s : Tas
           let sum : counted w ≤ 4294967295 = leb-true (counted w) 4294967295 (holds tests (fits-there i (mod-lt _ some)) 2) in
           omega arith
 
-    turn-so : ltb (firstWrong Σ S d) n ≡ false → (l : ℕ) → r ≡ Turn l → (w : Watch) → w ≡ watchAt d (nextOf s) → applied d (turnDecided t s w l) ≡ cond (ltb (passed d l) n) (hearing (after n l (passed d l))) (silence l)
-    turn-so sound l e w q = go (decLt (passed d l) n)
+    turn-so : ltb (firstWrong Σ S d) n ≡ false → (k l : ℕ) → r ≡ Turn k l → (w : Watch) → w ≡ watchAt d (nextOf s) → applied d (turnDecided t s w l) ≡ cond (ltb (passed d l) n) (hearing (after n l (passed d l))) (silence l)
+    turn-so sound k l e w q = go (decLt (passed d l) n)
       where
         go : Dec (passed d l < n) → applied d (turnDecided t s w l) ≡ cond (ltb (passed d l) n) (hearing (after n l (passed d l))) (silence l)
         go (yes p) =
             let i : ℕ = after n l (passed d l) in
-            let at : nextOf s ≡ i = next-so l e ∙ rw (lt-ltb (passed d l) n p) in
+            let at : nextOf s ≡ i = next-so k l e ∙ rw (lt-ltb (passed d l) n p) in
             let inside : i < n = mod-lt _ some in
             let is : w ≡ watchAt d i = q ∙ ap (watchAt d) at in
             let can : eqb (bit (oldest w) (s .mask)) 1 ≡ isEvent Σ (oldest w) = ap (λ (m : ℕ). eqb (bit (oldest w) m) 1) (kept .mask) ∙ bits .bits (oldest w) in
@@ -238,29 +248,35 @@ module _ (t : List ℕ) (P S : ℕ) (r : Request) (d : List Watch) (s₀ s : Tas
             let run : Ran = ranIn t P S (watchAt d i .state) (oldest (watchAt d i) ∷ []) in
             let ran : heardFrom t s w i ≡ hearDecided s w i run = heard-so t s w i P S (kept .signals ∙ begun .signals) (kept .states ∙ begun .states) fit can ∙ ap (λ (x : Watch). hearDecided s w i (ranIn t P S (x .state) (oldest x ∷ []))) is in
             let more : ltb (w .heard) 4294967295 ≡ true = lt-ltb (w .heard) 4294967295 (subst (λ (x : Watch). x .heard < 4294967295) (sym is) (can-count sound l p)) in
-            rw (heard, lt-ltb (passed d l) n p, more) (ap (λ (k : ℕ). applied d (heardFrom t s w k)) at ∙ ap (applied d) ran ∙ applied-heard d s w long i is run)
+            rw (heard, lt-ltb (passed d l) n p, more) (ap (λ (k : ℕ). applied d (heardFrom t s w k)) at ∙ ap (applied d) ran ∙ applied-heard d s w long i is run ∙ ap (λ (x : ℕ). heardBy x d i run) own)
         go (no h) =
-            let at : nextOf s ≡ n = next-so l e ∙ rw (le-ltb (passed d l) n (omega arith)) in
+            let at : nextOf s ≡ n = next-so k l e ∙ rw (le-ltb (passed d l) n (omega arith)) in
             let shut : leb (s .length) (nextOf s) ≡ true = le-leb (s .length) (nextOf s) (omega (arith, at, long)) in
             rw (shut, le-ltb (passed d l) n (omega arith)) (ap (λ (x : List Watch). record { answer = Served.NoneWaits l; desk = x }) (past d s w long))
 
   table-is : (b : Bool) → countsFit t P S ≡ b → s .table ≡ b
   table-is b e = kept .table ∙ begun .table ∙ e
 
-  -- 14, 18 and 13, and then what the request comes to
+  -- 14, 18, 24 and 13, and then what the request comes to
   row-so : (y z : Outcome) → (countsFit t P S ≡ true → (leb 1 n && leb n 64) ≡ true → ltb (firstWrong Σ S d) n ≡ false → y ≡ z)
-      → firstOf (refused d) (rowChecks s) y ≡ cond (countsFit t P S) (firstOf (refused d) (deskChecks Σ S d) z) (refused d WrongTable)
+      → firstOf (refused d) (rowChecks s) y ≡ cond (countsFit t P S) (firstOf (refused d) (deskChecks (openingIn r) Σ S d) z) (refused d WrongTable)
   row-so y z h = go (countsFit t P S) (leb 1 n && leb n 64) refl refl
     where
       go : (b c : Bool) → countsFit t P S ≡ b → (leb 1 n && leb n 64) ≡ c
-          → firstOf (refused d) (rowChecks s) y ≡ cond (countsFit t P S) (firstOf (refused d) (deskChecks Σ S d) z) (refused d WrongTable)
+          → firstOf (refused d) (rowChecks s) y ≡ cond (countsFit t P S) (firstOf (refused d) (deskChecks (openingIn r) Σ S d) z) (refused d WrongTable)
       go false c e q = rw (table-is false e, e)
       go true false e q = rw (table-is true e, e, long, q)
-      go true true e q = rw (table-is true e, e, long, q, wrong-is e q) (last (ltb (firstWrong Σ S d) n) refl)
+      go true true e q = rw (table-is true e, e, long, q, foreign-is e q, wrong-is e q) (own-first (ltb (firstForeign (openingIn r) d) n))
         where
           last : (b : Bool) → ltb (firstWrong Σ S d) n ≡ b → cond b (refused d (WrongWatch (firstWrong Σ S d))) y ≡ cond b (refused d (WrongWatch (firstWrong Σ S d))) z
           last true a = refl
           last false a = h e q a
+
+          own-first : (b : Bool)
+              → cond b (refused d (WrongOpening (firstForeign (openingIn r) d))) (cond (ltb (firstWrong Σ S d) n) (refused d (WrongWatch (firstWrong Σ S d))) y)
+              ≡ cond b (refused d (WrongOpening (firstForeign (openingIn r) d))) (cond (ltb (firstWrong Σ S d) n) (refused d (WrongWatch (firstWrong Σ S d))) z)
+          own-first true = refl
+          own-first false = last (ltb (firstWrong Σ S d) n) refl
 
   served-so : (w : Watch) → w ≡ watchAt d (wantedOf s) → applied d (decidedOf t s w) ≡ servedIn t P S r d
   unfolding postIn postBy turnIn turnBy
@@ -272,9 +288,12 @@ module _ (t : List ℕ) (P S : ℕ) (r : Request) (d : List Watch) (s₀ s : Tas
       wanted : (x : Request) → r ≡ x → w ≡ watchAt d (wantedBy s x)
       wanted x e = q ∙ ap (λ (y : Request). watchAt d (wantedBy s y)) (asked ∙ e)
 
+      own-is : (x : Request) → r ≡ x → (f : ℕ → Outcome) → f (openingIn r) ≡ f (openingIn x)
+      own-is x e f = ap (λ (y : Request). f (openingIn y)) e
+
       go : (x : Request) → r ≡ x → firstOf (refused d) (rowChecks s) (applied d (requestDecided t s w x)) ≡ servedIn t P S x d
-      go (Post i e) h = row-so _ _ (λ fit row sound. post-so fit row i e w (wanted (Post i e) h))
-      go (Turn l) h = row-so _ _ (λ fit row sound. turn-so fit row sound l h w (wanted (Turn l) h))
+      go (Post k i e) h = row-so _ _ (λ fit row sound. post-so fit row i e w (wanted (Post k i e) h)) ∙ own-is (Post k i e) h (λ o. postIn o t P S d i e)
+      go (Turn k l) h = row-so _ _ (λ fit row sound. turn-so fit row sound k l h w (wanted (Turn k l) h)) ∙ own-is (Turn k l) h (λ o. turnIn o t P S d l)
 
 pub surveyed : (t : List ℕ) (P S : ℕ) (r : Request) (d : List Watch) (s₀ s : Task) (i : ℕ) (w : Watch) (v : Service)
     → Begun t P S r (length d) s₀ → s ≡ passOver d (s₀ .upto) s₀ → i ≡ wantedOf s → w ≡ watchAt d i → v ≡ decidedOf t s w → Surveyed t P S r d v

@@ -14,6 +14,7 @@ use lib.ListN.{length}
 use Rattle.meaning.specs.TableFiles.{isTable, alphabetIn, signalsIn, statesIn, checkedOf}
 use Rattle.meaning.specs.RuleFiles.{firstOf}
 use Rattle.meaning.specs.Runs.{countsFit, runOf, ranIn}
+use Rattle.meaning.specs.Openings.{opening}
 use Rattle.meaning.specs.Desks.{Outcome, refused, deskChecks, watchAt, oldest, after, passed, heardBy, postIn, turnIn, freshIn, postOf, turnOf, freshOf, turnBy}
 use Rattle.meaning.specs.declared.Refusal.{Refusal}
 use Rattle.meaning.specs.declared.Refusal.the-variants.{WrongTable}
@@ -39,8 +40,8 @@ module _ (t : List ℕ) (d : List Watch) where
 
   served-none : (P S : ℕ) (r : Request) → countsFit t P S ≡ false → servedIn t P S r d ≡ refused d WrongTable
   unfolding postIn turnIn
-  served-none P S (Post i e) q = rw q
-  served-none P S (Turn l) q = rw q
+  served-none P S (Post n i e) q = rw q
+  served-none P S (Turn n l) q = rw q
 
   no-table : (x : Refusal) → checkedOf t ≡ Checked.Refused x → isTable t ≡ false
   no-table x e = go (isTable t) refl e
@@ -51,44 +52,44 @@ module _ (t : List ℕ) (d : List Watch) where
 
   served-refused : (r : Request) (x : Refusal) → checkedOf t ≡ Checked.Refused x → servedOf t r d ≡ refused d WrongTable
   unfolding postOf turnOf
-  served-refused (Post i e) x q = rw (no-table x q)
-  served-refused (Turn l) x q = rw (no-table x q)
+  served-refused (Post n i e) x q = rw (no-table x q)
+  served-refused (Turn n l) x q = rw (no-table x q)
 
   -- a turn asks of its steps only what the one that it takes answers
-  turn-same : (Q R l : ℕ) → checkedOf t ≡ Checked.Table Q R
-      → turnBy (λ s e. ranIn t Q R s (e ∷ [])) (alphabetIn t Q) R d l ≡ turnBy (λ s e. runOf t s (e ∷ [])) (alphabetIn t Q) R d l
+  turn-same : (n Q R l : ℕ) → checkedOf t ≡ Checked.Table Q R
+      → turnBy n (λ s e. ranIn t Q R s (e ∷ [])) (alphabetIn t Q) R d l ≡ turnBy n (λ s e. runOf t s (e ∷ [])) (alphabetIn t Q) R d l
   unfolding turnBy
-  turn-same Q R l h =
+  turn-same n Q R l h =
       let i : ℕ = after (length d) l (passed d l) in
-      ap (λ (x : Ran). firstOf (refused d) (deskChecks (alphabetIn t Q) R d) (cond (ltb (passed d l) (length d)) (heardBy d i x) (record { answer = Served.NoneWaits l; desk = d })))
+      ap (λ (x : Ran). firstOf (refused d) (deskChecks n (alphabetIn t Q) R d) (cond (ltb (passed d l) (length d)) (heardBy n d i x) (record { answer = Served.NoneWaits l; desk = d })))
       (run-table t (watchAt d i .state) (oldest (watchAt d i) ∷ []) Q R h)
 
   served-table : (Q R : ℕ) (r : Request) → checkedOf t ≡ Checked.Table Q R → servedIn t Q R r d ≡ servedOf t r d
   unfolding postIn turnIn postOf turnOf
-  served-table Q R (Post i e) h = let f = found t Q R h in rw (f .signals, f .states, f .table, table-counts t (f .table))
-  served-table Q R (Turn l) h =
+  served-table Q R (Post n i e) h = let f = found t Q R h in rw (f .signals, f .states, f .table, table-counts t (f .table))
+  served-table Q R (Turn n l) h =
       let f = found t Q R h in
-      ap (λ (o : Outcome). cond (countsFit t Q R) o (refused d WrongTable)) (turn-same Q R l h) ∙ rw (f .signals, f .states, f .table, table-counts t (f .table))
+      ap (λ (o : Outcome). cond (countsFit t Q R) o (refused d WrongTable)) (turn-same n Q R l h) ∙ rw (f .signals, f .states, f .table, table-counts t (f .table))
 
   pub served-agrees : (r : Request) → Agrees (λ P S. servedIn t P S r d) (servedOf t r d)
   served-agrees r = record { none = λ P S. served-none P S r; wrong = served-refused r; table = λ P S. served-table P S r }
 
   -- ---- a fresh desk
 
-  fresh-none : (P S : ℕ) → countsFit t P S ≡ false → freshIn t P S d ≡ refused d WrongTable
+  fresh-none : (n P S : ℕ) → countsFit t P S ≡ false → freshIn n t P S d ≡ refused d WrongTable
   unfolding freshIn
-  fresh-none P S q = rw q
+  fresh-none n P S q = rw q
 
-  fresh-refused : (x : Refusal) → checkedOf t ≡ Checked.Refused x → freshOf t d ≡ refused d WrongTable
+  fresh-refused : (n : ℕ) (x : Refusal) → checkedOf t ≡ Checked.Refused x → freshOf (opening t n) d ≡ refused d WrongTable
   unfolding freshOf
-  fresh-refused x q = rw (no-table x q)
+  fresh-refused n x q = rw (no-table x q)
 
-  fresh-table : (Q R : ℕ) → checkedOf t ≡ Checked.Table Q R → freshIn t Q R d ≡ freshOf t d
+  fresh-table : (n Q R : ℕ) → checkedOf t ≡ Checked.Table Q R → freshIn n t Q R d ≡ freshOf (opening t n) d
   unfolding freshIn freshOf
-  fresh-table Q R h =
+  fresh-table n Q R h =
       let f = found t Q R h in
       let some = states-some t (table-header t (f .table)) in
       rw (f .signals, f .states, f .table, table-counts t (f .table), lt-ltb 0 (statesIn t) some, table-verdict t (f .table) 0 some)
 
-  pub fresh-agrees : Agrees (λ P S. freshIn t P S d) (freshOf t d)
-  fresh-agrees = record { none = fresh-none; wrong = fresh-refused; table = fresh-table }
+  pub fresh-agrees : (n : ℕ) → Agrees (λ P S. freshIn n t P S d) (freshOf (opening t n) d)
+  fresh-agrees n = record { none = fresh-none n; wrong = fresh-refused n; table = fresh-table n }

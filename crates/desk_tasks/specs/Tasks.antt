@@ -8,9 +8,10 @@ use Rattle.meaning.specs.Bytes.{bit}
 use Rattle.meaning.specs.RuleFiles.{firstOf}
 use Rattle.meaning.specs.TableFiles.{successor, verdictByte, verdictOf}
 use Rattle.meaning.specs.Runs.{countsFit, inTable}
+use Rattle.meaning.specs.Openings.{stateOf}
 use Rattle.meaning.specs.Desks.{counted, watchAt, oldest, withEvent, withoutOldest}
 use Rattle.meaning.specs.declared.Refusal.{Refusal}
-use Rattle.meaning.specs.declared.Refusal.the-variants.{WrongEvent, WrongState, WrongWatch, WrongTable, WrongDesk, WrongNumber, QueueFull, CountFull}
+use Rattle.meaning.specs.declared.Refusal.the-variants.{WrongEvent, WrongState, WrongWatch, WrongTable, WrongDesk, WrongNumber, QueueFull, CountFull, WrongOpening}
 use Rattle.meaning.specs.declared.Verdict.{Verdict}
 use Rattle.meaning.specs.declared.Ran.{Ran}
 use Rattle.meaning.specs.declared.Ran.the-variants as Ran
@@ -27,8 +28,13 @@ use Rattle.desk_tasks.specs.declared.Check.the-variants as Check
 
 -- the number after which a turn begins
 abbrev pub lastIn : Request → ℕ
-lastIn (Post i e) = 0
-lastIn (Turn l) = l
+lastIn (Post n i e) = 0
+lastIn (Turn n l) = l
+
+-- the number of the opening that is asked
+abbrev pub openingIn : Request → ℕ
+openingIn (Post n i e) = n
+openingIn (Turn n l) = n
 
 -- The task of a request over the bytes t with counts P and S and a row of n watches, before the pass. Where the counts are a table's, its mask is that of
 -- the table's events.
@@ -41,6 +47,8 @@ pub record Begun (t : List ℕ) (P S : ℕ) (r : Request) (n : ℕ) (s : Task) :
   pub length : s .length ≡ n
   pub upto : s .upto ≡ cond (countsFit t P S && (leb 1 n && leb n 64)) n 0
   pub last : s .last ≡ lastIn r
+  pub opening : s .opening ≡ openingIn r
+  pub foreign : s .foreign ≡ n
   pub wrong : s .wrong ≡ n
   pub waits : s .waits ≡ n
   pub later : s .later ≡ n
@@ -57,6 +65,8 @@ lookOf s w i =
       length = s .length;
       upto = s .upto;
       last = s .last;
+      opening = s .opening;
+      foreign = cond (not (eqb (w .opening) (s .opening))) i (s .foreign);
       wrong = cond (not (fitsIn (s .mask) (s .states) w)) i (s .wrong);
       waits = cond (ltb 0 (w .waiting)) i (s .waits);
       later = cond (ltb 0 (w .waiting) && ltb (s .last) i) i (s .later);
@@ -73,17 +83,18 @@ nextOf s = cond (ltb (s .later) (s .length)) (s .later) (s .waits)
 
 -- the number that the request is about
 abbrev pub wantedBy : Task → Request → ℕ
-wantedBy s (Post i e) = i
-wantedBy s (Turn l) = nextOf s
+wantedBy s (Post n i e) = i
+wantedBy s (Turn n l) = nextOf s
 
 abbrev pub wantedOf : Task → ℕ
 wantedOf s = wantedBy s (s .request)
 
--- 14, 18 and 13
+-- 14, 18, 24 and 13
 abbrev pub rowChecks : Task → List (Bool × Refusal)
 rowChecks s =
     (not (s .table), WrongTable)
     ∷ (not (leb 1 (s .length) && leb (s .length) 64), WrongDesk)
+    ∷ (ltb (s .foreign) (s .length), WrongOpening (s .foreign))
     ∷ (ltb (s .wrong) (s .length), WrongWatch (s .wrong))
     ∷ []
 
@@ -110,13 +121,13 @@ addition w i e = record { number = i; watch = withEvent w e; answer = Served.Don
 abbrev pub postDecided : Task → Watch → ℕ → ℕ → Service
 postDecided s w i e = firstOf (refusing s w) (postChecks s w i e) (addition w i e)
 
--- hearing the oldest event of watch w, which has number i and is led by it to a state with a verdict
-abbrev pub hearing : Watch → ℕ → ℕ → Verdict → Service
-hearing w i to v = record { number = i; watch = withoutOldest w to v; answer = Served.Heard i (oldest w) to v }
+-- hearing, with the opening n, the oldest event of watch w, which has number i and is led by it to a state with a verdict
+abbrev pub hearing : ℕ → Watch → ℕ → ℕ → Verdict → Service
+hearing n w i to v = record { number = i; watch = withoutOldest w to v; answer = Served.Heard i (oldest w) (stateOf n to) v }
 
 -- where the run over it ended so
 abbrev pub hearDecided : Task → Watch → ℕ → Ran → Service
-hearDecided s w i (Ran.Ended to v c) = hearing w i to v
+hearDecided s w i (Ran.Ended to v c) = hearing (s .opening) w i to v
 hearDecided s w i (Ran.Refused x) = refusing s w x
 
 -- the same from what the task knows of the table: 14, 13 and 12 as a run has them, and 14 where the way leaves the table
@@ -129,7 +140,7 @@ heardFrom t s w i =
     ∷ (not (eqb (bit (oldest w) (s .mask)) 1), WrongEvent 0)
     ∷ (not (inTable t (s .signals) (s .states) (w .state) && inTable t (s .signals) (s .states) to), WrongTable)
     ∷ [])
-    (hearing w i to (verdictOf (verdictByte t (s .signals) to)))
+    (hearing (s .opening) w i to (verdictOf (verdictByte t (s .signals) to)))
 
 -- where one event more can be counted: it can for every watch that fits and has one waiting
 abbrev pub countedFrom : List ℕ → Task → Watch → ℕ → Service
@@ -142,8 +153,8 @@ turnDecided t s w l =
     (countedFrom t s w (nextOf s))
 
 abbrev pub requestDecided : List ℕ → Task → Watch → Request → Service
-requestDecided t s w (Post i e) = postDecided s w i e
-requestDecided t s w (Turn l) = turnDecided t s w l
+requestDecided t s w (Post n i e) = postDecided s w i e
+requestDecided t s w (Turn n l) = turnDecided t s w l
 
 abbrev pub checkDecided : List ℕ → Task → Watch → Check → Service
 checkDecided t s w Check.Passed = requestDecided t s w (s .request)

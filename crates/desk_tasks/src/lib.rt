@@ -5,10 +5,11 @@ ghost use Prim.Native.Nat.{_≤_, _<_};
 ghost use lib.Dec.{leb};
 ghost use Rattle.meaning.specs.Runs.{inTable};
 ghost use Rattle.desk_tasks.specs.declared.Request.the-variants.{Post, Turn};
-ghost use Rattle.desk_tasks.specs.Tasks.{lastIn, Begun, lookOf, nextOf, wantedOf, rowChecked, refusing, postDecided, heardFrom, turnDecided, decidedOf};
+ghost use Rattle.desk_tasks.specs.Tasks.{lastIn, openingIn, Begun, lookOf, nextOf, wantedOf, rowChecked, refusing, postDecided, heardFrom, turnDecided, decidedOf};
 use events::can_happen;
 use meaning::Refusal;
 use meaning::Served;
+use meaning::State;
 use meaning::Watch;
 use run_parts::in_table;
 use table_layout::counts_fit;
@@ -23,15 +24,22 @@ use watches::with_event;
 use watches::without_oldest;
 use wire::wide;
 
-// An event posted to a number, or a turn after the number last heard.
+// With the opening that has a number: an event posted to a number, or a turn after the number last heard.
 pub enum Request {
-    Post { number: usize, event: u8 },
-    Turn { last: usize },
+    Post {
+        opening: u16,
+        number: usize,
+        event: u8,
+    },
+    Turn {
+        opening: u16,
+        last: usize,
+    },
 }
 
-// What is asked over a table of these counts, and what a pass over a row of so many watches has found of it: the lowest number of a watch that does not
-// fit, of one with an event waiting, and of one with an event waiting that comes after the number last heard; where there is none, the row's length.
-// A pass looks at the watches below `upto`.
+// What is asked over a table of these counts, and what a pass over a row of so many watches has found of it: the lowest number of a watch that carries
+// another opening's number, of one that does not fit, of one with an event waiting, and of one with an event waiting that comes after the number last
+// heard; where there is none, the row's length. A pass looks at the watches below `upto`.
 pub struct Task {
     pub request: Request,
     pub signals: u8,
@@ -41,6 +49,8 @@ pub struct Task {
     pub length: usize,
     pub upto: usize,
     pub last: usize,
+    pub opening: u16,
+    pub foreign: usize,
     pub wrong: usize,
     pub waits: usize,
     pub later: usize,
@@ -55,16 +65,20 @@ pub struct Service {
 
 // ---- requests
 
-pub fn post_request(number: usize, event: u8) -> Request
-    ensures { λ r. ⌜ r ≡ Post number event ⌝ }
+pub fn post_request(opening: u16, number: usize, event: u8) -> Request
+    ensures { λ r. ⌜ r ≡ Post opening number event ⌝ }
 {
-    Request::Post { number, event }
+    Request::Post {
+        opening,
+        number,
+        event,
+    }
 }
 
-pub fn turn_request(last: usize) -> Request
-    ensures { λ r. ⌜ r ≡ Turn last ⌝ }
+pub fn turn_request(opening: u16, last: usize) -> Request
+    ensures { λ r. ⌜ r ≡ Turn opening last ⌝ }
 {
-    Request::Turn { last }
+    Request::Turn { opening, last }
 }
 
 // ---- before the pass
@@ -75,10 +89,25 @@ fn last_heard(request: Request) -> usize
 {
     match request {
         Request::Post {
+            opening: _,
             number: _,
             event: _,
         } => 0,
-        Request::Turn { last } => last,
+        Request::Turn { opening: _, last } => last,
+    }
+}
+
+// The number of the opening that is asked.
+fn opening_of(request: Request) -> u16
+    ensures { λ r. ⌜ r ≡ openingIn request ⌝ }
+{
+    match request {
+        Request::Post {
+            opening,
+            number: _,
+            event: _,
+        } => opening,
+        Request::Turn { opening, last: _ } => opening,
     }
 }
 
@@ -97,6 +126,7 @@ pub fn begin(t: &[u8], signals: u8, states: u16, request: Request, length: usize
     ensures { λ r. ⌜ Begun (now (t .entry)) signals states request length r ⌝ }
 {
     let last = last_heard(request);
+    let opening = opening_of(request);
     if counts_fit(t, signals, states) {
         let mask = possible_mask(t, signals);
         return Task {
@@ -108,6 +138,8 @@ pub fn begin(t: &[u8], signals: u8, states: u16, request: Request, length: usize
             length,
             upto: upto_of(length),
             last,
+            opening,
+            foreign: length,
             wrong: length,
             waits: length,
             later: length,
@@ -122,6 +154,8 @@ pub fn begin(t: &[u8], signals: u8, states: u16, request: Request, length: usize
         length,
         upto: 0,
         last,
+        opening,
+        foreign: length,
         wrong: length,
         waits: length,
         later: length,
@@ -145,9 +179,12 @@ pub fn look(s: Task, w: Watch, number: usize) -> Task
 {
     let request = s.request;
     let last = s.last;
+    let opening = s.opening;
+    let foreign = s.foreign;
     let wrong = s.wrong;
     let waits = s.waits;
     let later = s.later;
+    let carried = w.opening;
     let fit = fits(w, s.mask, s.states);
     let some = 0 < w.waiting;
     Task {
@@ -159,6 +196,8 @@ pub fn look(s: Task, w: Watch, number: usize) -> Task
         length: s.length,
         upto: s.upto,
         last,
+        opening,
+        foreign: number_if(carried != opening, number, foreign),
         wrong: number_if(!fit, number, wrong),
         waits: number_if(some, number, waits),
         later: number_if(some & (last < number), number, later),
@@ -185,8 +224,15 @@ pub fn wanted(s: Task) -> usize
 {
     let request = s.request;
     match request {
-        Request::Post { number, event: _ } => number,
-        Request::Turn { last: _ } => next_waiting(s),
+        Request::Post {
+            opening: _,
+            number,
+            event: _,
+        } => number,
+        Request::Turn {
+            opening: _,
+            last: _,
+        } => next_waiting(s),
     }
 }
 
@@ -195,18 +241,22 @@ enum Check {
     Refused(Refusal),
 }
 
-// 14, 18 and 13.
+// 14, 18, 24 and 13.
 fn check_row(s: Task) -> Check
     ensures { λ r. ⌜ r ≡ rowChecked s ⌝ }
 {
     let table = s.table;
     let length = s.length;
+    let foreign = s.foreign;
     let wrong = s.wrong;
     if !table {
         return Check::Refused(Refusal::WrongTable);
     }
     if !row_fits(length) {
         return Check::Refused(Refusal::WrongDesk);
+    }
+    if foreign < length {
+        return Check::Refused(Refusal::WrongOpening(foreign));
     }
     if wrong < length {
         return Check::Refused(Refusal::WrongWatch(wrong));
@@ -259,6 +309,7 @@ fn hear(t: &[u8], s: Task, w: Watch, number: usize) -> Service
     let signals = s.signals;
     let states = s.states;
     let mask = s.mask;
+    let opening = s.opening;
     let state = w.state;
     if 4 < signals {
         return refuse(s, w, Refusal::WrongTable);
@@ -282,7 +333,10 @@ fn hear(t: &[u8], s: Task, w: Watch, number: usize) -> Service
         answer: Served::Heard {
             number,
             event,
-            state: to,
+            state: State {
+                opening,
+                number: to,
+            },
             verdict,
         },
     }
@@ -325,7 +379,11 @@ pub fn decide(t: &[u8], s: Task, w: Watch) -> Service
     }
     let request = s.request;
     match request {
-        Request::Post { number, event } => decide_post(s, w, number, event),
-        Request::Turn { last } => decide_turn(t, s, w, last),
+        Request::Post {
+            opening: _,
+            number,
+            event,
+        } => decide_post(s, w, number, event),
+        Request::Turn { opening: _, last } => decide_turn(t, s, w, last),
     }
 }

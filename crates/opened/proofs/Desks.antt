@@ -67,7 +67,7 @@ module _ (κ κ′ : Lft) (d : Opened) where
   the-laws = T′.the-laws (namedLft 2 1 tt (κ, (κ′, tt)))
 
   abbrev fields : Values (the-type .parts)
-  fields = (d .bytes, (d .signals, (d .states, tt)))
+  fields = (d .bytes, (d .signals, (d .states, (d .number, tt))))
 
   pub bytes-out : {M : Type 1} (𝓤 : URA M) (H : Heap 𝓤) (A : Atoms 𝓤) → Given 𝓤 H A → ent 𝓤 (sem 𝓤 H A Own) (sep 𝓤 (sem 𝓤 H A OwnBytes) (sem 𝓤 H A Own))
   bytes-out 𝓤 H A W =

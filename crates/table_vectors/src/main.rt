@@ -1,5 +1,6 @@
 // Checks, runs, steps and rewrites the tables of a stream of cases on standard input: a two-byte length and the table, a two-byte state, a
-// two-byte count and the events. Writes a line for each case.
+// two-byte count and the events. Writes a line for each case. A table is opened with its length as the number; the same state with another number is
+// refused by 24, whatever state and events are.
 ghost use Prim.Native.Nat.{_≤_};
 use console::fill;
 use console::front;
@@ -9,9 +10,10 @@ use console::say;
 use console::say_number;
 use console::say_refusal;
 use console::say_run;
+use meaning::Arrived;
 use meaning::Built;
 use meaning::Checked;
-use meaning::Ran;
+use meaning::State;
 
 // A state's row, read from the table. In a checked table a successor is below 256 where its event can happen; what else is read is not written again.
 fn row_of(t: &[u8], signals: u8, state: u16) -> [u8; 16]
@@ -66,14 +68,44 @@ fn rewritten(t: &[u8], signals: u8, states: u16) -> bool
 }
 
 // Whether the table, opened once and stepped event by event, comes to the state where the run ended; a refused run ends nowhere.
-fn stepped(t: &[u8], state: u16, events: &[u8], ran: Ran) -> bool {
-    match ran {
-        Ran::Ended {
+fn stepped(t: &[u8], opening: u16, state: State, events: &[u8], arrived: Arrived) -> bool {
+    match arrived {
+        Arrived::At {
             state: end,
             verdict: _,
             decided: _,
-        } => opened::open_and_step_all(t, state, events) == end,
-        Ran::Refused(_) => true,
+        } => {
+            let after = opened::open_and_step_all(t, opening, state, events);
+            let of = after.opening;
+            let number = after.number;
+            let end_number = end.number;
+            end.opening == opening && of == opening && number == end_number
+        }
+        Arrived::Refused(_) => true,
+    }
+}
+
+// Another number.
+fn other(number: u16) -> u16 {
+    if number < 65535 {
+        return number + 1;
+    }
+    0
+}
+
+// Whether the state with another number is refused by 24 at 0.
+fn kept_apart(t: &[u8], opening: u16, state: u16, events: &[u8]) -> bool {
+    let foreign = State {
+        opening: other(opening),
+        number: state,
+    };
+    match opened::open_and_run(t, opening, foreign, events) {
+        Arrived::At {
+            state: _,
+            verdict: _,
+            decided: _,
+        } => false,
+        Arrived::Refused(why) => why.number() == 24 && why.place() == 0,
     }
 }
 
@@ -87,10 +119,18 @@ fn say_case(t: &[u8], state: u16, events: &[u8]) {
             say(b" ");
             say_number(wire::wide16(states));
             say(b": ");
-            let ran = opened::open_and_run(t, state, events);
-            say_run(ran);
-            if !stepped(t, state, events, ran) {
+            let opening = (t.len() % 65536) as u16;
+            let from = State {
+                opening,
+                number: state,
+            };
+            let arrived = opened::open_and_run(t, opening, from, events);
+            say_run(arrived);
+            if !stepped(t, opening, from, events, arrived) {
                 say(b" stepped elsewhere");
+            }
+            if !kept_apart(t, opening, state, events) {
+                say(b" taken from another opening");
             }
             if signals <= 4 {
                 if states <= 256 {

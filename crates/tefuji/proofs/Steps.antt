@@ -1,126 +1,161 @@
--- A step, a judgement of recordings, a fresh desk, a post and a turn with counts: those that a check answered, and those that none can.
-use mathlib.Core.Path.{_≡_, refl, sym, subst, _∙_}
+-- A run, a judgement of recordings, a fresh desk, a post and a turn with an opening as one number: those that opening a table answered, and those that none can.
+use mathlib.Core.Path.{_≡_, refl, sym, ap, subst, _∙_}
 use mathlib.Core.List.{List, [], _∷_}
 use mathlib.Core.Bool.{Bool, true, false, cond}
-use Prim.Native.Nat.{ℕ, _+_, _*_, _/_, _%_, _≤_, _<_}
+use Prim.Native.Nat.{ℕ, _+_, _*_, _/_, _%_, _^_, _≤_, _<_}
 use native.Mathlib.Omega.{arith}
-use borrow.Author.Tests.{lt-leb, le-leb, ltb-true}
+use borrow.Author.Tests.{lt-leb, ltb-true}
 use lib.Dec.{ltb}
 use Rattle.sequences.proofs.Tests.{fails}
 use Rattle.meaning.specs.TableFiles.{signalsIn, statesIn, isTable, countsTests, checkedOf}
-use Rattle.meaning.specs.Runs.{countsFit, runOf}
+use Rattle.meaning.specs.Runs.{countsFit}
+use Rattle.meaning.specs.Openings.{opening, stateOf, startOf, runFromIn, runFrom}
 use Rattle.meaning.specs.Desks.{Outcome, refused, freshIn, freshOf}
 use Rattle.meaning.specs.Recordings.{judgedIn, judgedOf}
 use Rattle.meaning.specs.declared.Refusal.{Refusal}
 use Rattle.meaning.specs.declared.Refusal.the-variants.{WrongTable}
 use Rattle.meaning.specs.declared.Checked.{Checked}
 use Rattle.meaning.specs.declared.Checked.the-variants as Checked
-use Rattle.meaning.specs.declared.Ran.the-variants as Ran
+use Rattle.meaning.specs.declared.State.{State}
+use Rattle.meaning.specs.declared.Arrived.{Arrived}
+use Rattle.meaning.specs.declared.Arrived.the-variants as Arrived
 use Rattle.meaning.specs.declared.Shown.the-variants as Shown
 use Rattle.meaning.specs.declared.Watch.{Watch}
 use Rattle.table_layout.proofs.Form.{table-header, states-few}
-use Rattle.table_run.proofs.Answers.{found, run-table, run-refused}
+use Rattle.table_run.proofs.Answers.{found}
+use Rattle.openings.proofs.Answers.{run-from-table, run-from-none, run-from-refused}
 use Rattle.desk_tasks.specs.Surveys.{servedIn, servedOf}
 use Rattle.desk_tasks.specs.declared.Request.{Request}
-use Rattle.desk_tasks.proofs.Tables.{Agrees, served-agrees, fresh-agrees}
+use Rattle.desk_tasks.proofs.Tables.{served-agrees, fresh-agrees}
 use Rattle.recordings.proofs.Answers.{judged-table, judged-none, judged-refused}
-use Rattle.codes.specs.Codes.{refusalCode, countsCode, countsIn, stepOf, judgeAt, freshAt}
+use Rattle.codes.specs.declared.Opening.{Opening as Found}
+use Rattle.codes.specs.Codes.{refusalCode, stateCode, stateIn, openedCode, signalsOf, numberOf, statesOf, startCode, openingIn, runAt, judgeAt, freshAt}
 
--- over more than four signals there is no table
-pub step-none : (t : List ℕ) (c s e : ℕ) → 4 < c / 65536 → Ran.Refused WrongTable ≡ stepOf t c s e
-step-none t c s e h = rw (le-leb 1 (c / 65536) (omega arith), lt-leb (c / 65536) 4 h)
+-- ---- the parts of an opening's number
 
--- a refusal as counts is such a number
-refused-large : 4 < refusalCode WrongTable / 65536
-refused-large = ltb-true 4 (refusalCode WrongTable / 65536) refl
+module _ (P n S : ℕ) (n-fits : n < 65536) (S-fits : S < 65536) where
+  signals-back : signalsOf (P * 2 ^ 32 + n * 65536 + S) ≡ P
+  signals-back = omega (arith, n-fits, S-fits)
 
-module _ (t : List ℕ) (s e : ℕ) where
-  step-refused : checkedOf t ≡ Checked.Refused WrongTable → stepOf t (refusalCode WrongTable) s e ≡ runOf t s (e ∷ [])
-  step-refused k = sym (step-none t (refusalCode WrongTable) s e refused-large) ∙ run-refused t s (e ∷ []) WrongTable k
+  number-back : numberOf (P * 2 ^ 32 + n * 65536 + S) ≡ n
+  number-back = omega (arith, n-fits, S-fits)
 
-  step-table : (P S : ℕ) → S ≤ 256 → checkedOf t ≡ Checked.Table P S → stepOf t (P * 65536 + S) s e ≡ runOf t s (e ∷ [])
-  step-table P S l k =
-      let d : (P * 65536 + S) / 65536 ≡ P = omega (arith, l) in
-      let m : (P * 65536 + S) % 65536 ≡ S = omega (arith, l) in
-      rw (d, m) (run-table t s (e ∷ []) P S k)
+  states-back : statesOf (P * 2 ^ 32 + n * 65536 + S) ≡ S
+  states-back = omega (arith, n-fits, S-fits)
 
-  -- "A checked table is opened once and stepped many times": with the counts that checking the bytes answers, whatever the bytes, a step is a run over
-  -- one event
-  pub step-checked : stepOf t (countsCode (checkedOf t)) s e ≡ runOf t s (e ∷ [])
-  step-checked = go (isTable t) refl
-    where
-      go : (b : Bool) → isTable t ≡ b → stepOf t (countsCode (checkedOf t)) s e ≡ runOf t s (e ∷ [])
-      go true h =
-          let k : checkedOf t ≡ Checked.Table (signalsIn t) (statesIn t) = rw h in
-          subst (λ (c : Checked). stepOf t (countsCode c) s e ≡ runOf t s (e ∷ [])) (sym k) (step-table (signalsIn t) (statesIn t) (states-few t (table-header t h)) k)
-      go false h =
-          let k : checkedOf t ≡ Checked.Refused WrongTable = rw h in
-          subst (λ (c : Checked). stepOf t (countsCode c) s e ≡ runOf t s (e ∷ [])) (sym k) (step-refused k)
+-- a state comes back from its number
+pub state-back : (s : State) → s .number < 65536 → stateIn (stateCode s) ≡ s
+state-back s fits =
+    let a : (s .opening * 65536 + s .number) / 65536 ≡ s .opening = omega (arith, fits) in
+    let b : (s .opening * 65536 + s .number) % 65536 ≡ s .number = omega (arith, fits) in
+    ap (λ (k : ℕ). stateOf k (stateCode s % 65536)) a ∙ ap (stateOf (s .opening)) b
 
--- ---- anything with counts
+-- ---- anything with an opening
 
--- counts of more than four signals fit no table
-many-none : (t : List ℕ) (c : ℕ) → 4 < c / 65536 → countsFit t (c / 65536) (c % 65536) ≡ false
-many-none t c h = fails (countsTests t (c / 65536) (c % 65536)) 1 (lt-leb (c / 65536) 4 h)
+-- more than four signals fit no table
+many-none : (t : List ℕ) (c : ℕ) → 4 < signalsOf c → countsFit t (signalsOf c) (statesOf c) ≡ false
+many-none t c h = fails (countsTests t (signalsOf c) (statesOf c)) 1 (lt-leb (signalsOf c) 4 h)
+
+-- a refusal as an opening is such a number
+refused-large : 4 < signalsOf (refusalCode WrongTable)
+refused-large = ltb-true 4 (signalsOf (refusalCode WrongTable)) refl
 
 -- checking refuses by 14 alone
-large : (t : List ℕ) (x : Refusal) → checkedOf t ≡ Checked.Refused x → 4 < refusalCode x / 65536
+large : (t : List ℕ) (x : Refusal) → checkedOf t ≡ Checked.Refused x → 4 < signalsOf (refusalCode x)
 large t x k = go (isTable t) k
   where
-    go : (b : Bool) → cond b (Checked.Table (signalsIn t) (statesIn t)) (Checked.Refused WrongTable) ≡ Checked.Refused x → 4 < refusalCode x / 65536
+    go : (b : Bool) → cond b (Checked.Table (signalsIn t) (statesIn t)) (Checked.Refused WrongTable) ≡ Checked.Refused x → 4 < signalsOf (refusalCode x)
     go true q = let z : _≡_ {A = ℕ} 0 1 = cc in absurd (omega arith)
     go false q =
         let e : WrongTable ≡ x = cc in
-        subst (λ (y : Refusal). 4 < refusalCode y / 65536) e refused-large
+        subst (λ (y : Refusal). 4 < signalsOf (refusalCode y)) e refused-large
 
--- what is done over bytes and counts, and over the table: w where there is none
-module _ {A : Type 0} (t : List ℕ) (by : ℕ → ℕ → A) (of w : A) (none : (P S : ℕ) → countsFit t P S ≡ false → by P S ≡ w)
-    (wrong : (x : Refusal) → checkedOf t ≡ Checked.Refused x → of ≡ w) (table : (P S : ℕ) → checkedOf t ≡ Checked.Table P S → by P S ≡ of) where
-  -- the counts that are taken out of a number do as the number says
-  by-counts : (c : ℕ) → by (countsIn c .signals) (countsIn c .states) ≡ by (c / 65536) (c % 65536)
-  by-counts c = go (ltb 4 (c / 65536)) refl
+-- what is done with a number over bytes and counts: w where there is no table
+module _ {A : Type 0} (t : List ℕ) (by : ℕ → ℕ → ℕ → A) (w : A) (none : (n P S : ℕ) → countsFit t P S ≡ false → by n P S ≡ w) where
+  -- the opening that is taken out of a number does as the number says
+  by-opening : (c : ℕ) → by (openingIn c .number) (openingIn c .signals) (openingIn c .states) ≡ by (numberOf c) (signalsOf c) (statesOf c)
+  by-opening c = go (ltb 4 (signalsOf c)) refl
     where
-      go : (b : Bool) → ltb 4 (c / 65536) ≡ b → by (countsIn c .signals) (countsIn c .states) ≡ by (c / 65536) (c % 65536)
-      go true h = rw h (none 0 0 refl ∙ sym (none (c / 65536) (c % 65536) (many-none t c (ltb-true 4 (c / 65536) h))))
+      go : (b : Bool) → ltb 4 (signalsOf c) ≡ b → by (openingIn c .number) (openingIn c .signals) (openingIn c .states) ≡ by (numberOf c) (signalsOf c) (statesOf c)
+      go true h = rw h (none (numberOf c) 0 0 refl ∙ sym (none (numberOf c) (signalsOf c) (statesOf c) (many-none t c (ltb-true 4 (signalsOf c) h))))
       go false h = rw h
 
-  -- and those that checking the bytes answers, whatever the bytes, as the table does
-  by-checked : (c : Checked) → checkedOf t ≡ c → by (countsCode c / 65536) (countsCode c % 65536) ≡ of
-  by-checked (Checked.Table P S) k =
-      let few : S ≤ 256 = omega (arith, found t P S k .states, states-few t (table-header t (found t P S k .table))) in
-      let p : (P * 65536 + S) / 65536 ≡ P = omega (arith, few) in
-      let q : (P * 65536 + S) % 65536 ≡ S = omega (arith, few) in
-      rw (p, q) (table P S k)
-  by-checked (Checked.Refused x) k = none (refusalCode x / 65536) (refusalCode x % 65536) (many-none t (refusalCode x) (large t x k)) ∙ sym (wrong x k)
+  -- and the number that opening the bytes with n answers, whatever the bytes, as the opened table does
+  module _ (n : ℕ) (n-fits : n < 65536) (of : A) (wrong : (x : Refusal) → checkedOf t ≡ Checked.Refused x → of ≡ w) (table : (P S : ℕ) → checkedOf t ≡ Checked.Table P S → by n P S ≡ of) where
+    by-checked : (k : Checked) → checkedOf t ≡ k → by (numberOf (openedCode n k)) (signalsOf (openedCode n k)) (statesOf (openedCode n k)) ≡ of
+    by-checked (Checked.Table P S) k =
+        let few : S < 65536 = omega (arith, found t P S k .states, states-few t (table-header t (found t P S k .table))) in
+        ap (λ (x : ℕ). by x (signalsOf (P * 2 ^ 32 + n * 65536 + S)) (statesOf (P * 2 ^ 32 + n * 65536 + S))) (number-back P n S n-fits few)
+        ∙ ap (λ (x : ℕ). by n x (statesOf (P * 2 ^ 32 + n * 65536 + S))) (signals-back P n S n-fits few)
+        ∙ ap (by n P) (states-back P n S n-fits few)
+        ∙ table P S k
+    by-checked (Checked.Refused x) k =
+        none (numberOf (refusalCode x)) (signalsOf (refusalCode x)) (statesOf (refusalCode x)) (many-none t (refusalCode x) (large t x k)) ∙ sym (wrong x k)
+
+-- ---- the start
+
+-- the start of the opening that opening a table with n answered is that opening's start
+pub start-checked : (t : List ℕ) (n : ℕ) → n < 65536 → isTable t ≡ true → stateIn (startCode (openedCode n (checkedOf t))) ≡ startOf (opening t n)
+start-checked t n n-fits h =
+    let k : checkedOf t ≡ Checked.Table (signalsIn t) (statesIn t) = rw h in
+    let few : statesIn t < 65536 = omega (arith, states-few t (table-header t h)) in
+    state-back (stateOf (numberOf (openedCode n (checkedOf t))) 0) (omega arith)
+    ∙ ap (λ (c : Checked). stateOf (numberOf (openedCode n c)) 0) k
+    ∙ ap (λ (x : ℕ). stateOf x 0) (number-back (signalsIn t) n (statesIn t) n-fits few)
+
+-- ---- runs
+
+module _ (t : List ℕ) (s : State) (es : List ℕ) where
+  pub run-opening : (c : ℕ) → runFromIn (openingIn c .number) t (openingIn c .signals) (openingIn c .states) s es ≡ runFromIn (numberOf c) t (signalsOf c) (statesOf c) s es
+  run-opening = by-opening t (λ n P S. runFromIn n t P S s es) (Arrived.Refused WrongTable) (λ n. run-from-none n t s es)
+
+-- a run over the opening in the number c and the state in q, as o and s
+pub run-is : (t : List ℕ) (c q : ℕ) (es : List ℕ) {o : Found} {s : State} {a : Arrived} → o ≡ openingIn c → s ≡ stateIn q
+    → a ≡ runFromIn (o .number) t (o .signals) (o .states) s es → a ≡ runAt t c q es
+run-is t c q es {s = s} oe se e =
+    e ∙ ap (λ (k : Found). runFromIn (k .number) t (k .signals) (k .states) s es) oe
+    ∙ ap (λ (x : State). runFromIn (openingIn c .number) t (openingIn c .signals) (openingIn c .states) x es) se
+    ∙ run-opening t (stateIn q) es c
+
+-- with the number that opening the bytes with n answers, whatever the bytes, a run is that of the opened table, and a step one over its event
+pub run-checked : (t : List ℕ) (n : ℕ) → n < 65536 → (s : ℕ) (es : List ℕ) → runAt t (openedCode n (checkedOf t)) s es ≡ runFrom (opening t n) (stateIn s) es
+run-checked t n n-fits s es =
+    by-checked t (λ n P S. runFromIn n t P S (stateIn s) es) (Arrived.Refused WrongTable) (λ n. run-from-none n t (stateIn s) es)
+    n n-fits (runFrom (opening t n) (stateIn s) es) (run-from-refused n t (stateIn s) es) (run-from-table n t (stateIn s) es) (checkedOf t) refl
 
 -- ---- recordings
 
 module _ (t a b : List ℕ) where
-  pub judge-counts : (c : ℕ) → judgedIn t (countsIn c .signals) (countsIn c .states) a b ≡ judgeAt t c a b
-  judge-counts = by-counts t (λ P S. judgedIn t P S a b) (judgedOf t a b) (Shown.Refused WrongTable) (judged-none t a b) (judged-refused t a b) (judged-table t a b)
+  pub judge-opening : (c : ℕ) → judgedIn t (openingIn c .signals) (openingIn c .states) a b ≡ judgeAt t c a b
+  judge-opening = by-opening t (λ n P S. judgedIn t P S a b) (Shown.Refused WrongTable) (λ n. judged-none t a b)
 
-  -- with the counts that checking the bytes answers, whatever the bytes, recordings are judged over the table
-  pub judge-checked : judgeAt t (countsCode (checkedOf t)) a b ≡ judgedOf t a b
-  judge-checked = by-checked t (λ P S. judgedIn t P S a b) (judgedOf t a b) (Shown.Refused WrongTable) (judged-none t a b) (judged-refused t a b) (judged-table t a b) (checkedOf t) refl
+  -- recordings are judged over the table, whatever its number
+  pub judge-checked : (n : ℕ) → n < 65536 → judgeAt t (openedCode n (checkedOf t)) a b ≡ judgedOf t a b
+  judge-checked n n-fits =
+      by-checked t (λ n P S. judgedIn t P S a b) (Shown.Refused WrongTable) (λ n. judged-none t a b)
+      n n-fits (judgedOf t a b) (judged-refused t a b) (judged-table t a b) (checkedOf t) refl
 
 -- ---- a desk
 
 module _ (t : List ℕ) (d : List Watch) where
-  desk-counts : (by : ℕ → ℕ → Outcome) (of : Outcome) → Agrees t d by of → (c : ℕ) → by (countsIn c .signals) (countsIn c .states) ≡ by (c / 65536) (c % 65536)
-  desk-counts by of a = by-counts t by of (refused d WrongTable) (a .none) (a .wrong) (a .table)
+  pub served-opening : (r : Request) (c : ℕ) → servedIn t (openingIn c .signals) (openingIn c .states) r d ≡ servedIn t (signalsOf c) (statesOf c) r d
+  served-opening r = by-opening t (λ n P S. servedIn t P S r d) (refused d WrongTable) (λ n. served-agrees t d r .none)
 
-  desk-checked : (by : ℕ → ℕ → Outcome) (of : Outcome) → Agrees t d by of → by (countsCode (checkedOf t) / 65536) (countsCode (checkedOf t) % 65536) ≡ of
-  desk-checked by of a = by-checked t by of (refused d WrongTable) (a .none) (a .wrong) (a .table) (checkedOf t) refl
+  pub fresh-opening : (c : ℕ) → freshIn (openingIn c .number) t (openingIn c .signals) (openingIn c .states) d ≡ freshAt t c d
+  fresh-opening = by-opening t (λ n P S. freshIn n t P S d) (refused d WrongTable) (λ n. fresh-agrees t d n .none)
 
-  pub served-counts : (r : Request) (c : ℕ) → servedIn t (countsIn c .signals) (countsIn c .states) r d ≡ servedIn t (c / 65536) (c % 65536) r d
-  served-counts r = desk-counts (λ P S. servedIn t P S r d) (servedOf t r d) (served-agrees t d r)
+  module _ (n : ℕ) (n-fits : n < 65536) where
+    abbrev opened : ℕ
+    opened = openedCode n (checkedOf t)
 
-  pub fresh-counts : (c : ℕ) → freshIn t (countsIn c .signals) (countsIn c .states) d ≡ freshAt t c d
-  fresh-counts = desk-counts (λ P S. freshIn t P S d) (freshOf t d) (fresh-agrees t d)
+    -- a post and a turn are those over the opened table; what is asked has the opening's number
+    pub served-checked : (ask : ℕ → Request) → servedIn t (signalsOf opened) (statesOf opened) (ask (numberOf opened)) d ≡ servedOf t (ask n) d
+    served-checked ask =
+        by-checked t (λ n P S. servedIn t P S (ask n) d) (refused d WrongTable) (λ n. served-agrees t d (ask n) .none)
+        n n-fits (servedOf t (ask n) d) (served-agrees t d (ask n) .wrong) (served-agrees t d (ask n) .table) (checkedOf t) refl
 
-  -- with the counts that checking the bytes answers, whatever the bytes, a post, a turn and a fresh desk are those over the table
-  pub served-checked : (r : Request) → servedIn t (countsCode (checkedOf t) / 65536) (countsCode (checkedOf t) % 65536) r d ≡ servedOf t r d
-  served-checked r = desk-checked (λ P S. servedIn t P S r d) (servedOf t r d) (served-agrees t d r)
-
-  pub fresh-checked : freshAt t (countsCode (checkedOf t)) d ≡ freshOf t d
-  fresh-checked = desk-checked (λ P S. freshIn t P S d) (freshOf t d) (fresh-agrees t d)
+    -- and so is a fresh desk
+    pub fresh-checked : freshAt t opened d ≡ freshOf (opening t n) d
+    fresh-checked =
+        by-checked t (λ n P S. freshIn n t P S d) (refused d WrongTable) (λ n. fresh-agrees t d n .none)
+        n n-fits (freshOf (opening t n) d) (fresh-agrees t d n .wrong) (fresh-agrees t d n .table) (checkedOf t) refl

@@ -100,13 +100,24 @@ fn number_if(chosen: bool, number: u32, before: u32) -> u32
     before
 }
 
-// A watch in state 0, which has this verdict, with nothing heard and nothing waiting.
-pub fn fresh_watch(verdict: Verdict) -> Watch
-    ensures { λ r. ⌜ r ≡ freshWatch verdict ⌝ }
+// What says whether a number is filled.
+fn filled_if(chosen: bool, before: u16) -> u16
+    ensures { λ r. ⌜ r ≡ cond chosen 1 before ⌝ }
 {
-    let filled = number_if(is_decided(verdict), 1, 0);
+    if chosen {
+        return 1;
+    }
+    before
+}
+
+// A watch in state 0, which has this verdict, of the opening with a number, with nothing heard and nothing waiting.
+pub fn fresh_watch(opening: u16, verdict: Verdict) -> Watch
+    ensures { λ r. ⌜ r ≡ freshWatch opening verdict ⌝ }
+{
+    let filled = filled_if(is_decided(verdict), 0);
     Watch {
         state: 0,
+        opening,
         waiting: 0,
         filled,
         heard: 0,
@@ -119,7 +130,7 @@ pub fn fresh_watch(verdict: Verdict) -> Watch
 pub fn no_watch() -> Watch
     ensures { λ r. ⌜ r ≡ noWatch ⌝ }
 {
-    fresh_watch(Verdict::Undecided)
+    fresh_watch(0, Verdict::Undecided)
 }
 
 // The watch with one event more, in the first free slot.
@@ -133,6 +144,7 @@ pub fn with_event(w: Watch, event: u8) -> Watch
     events[slot] = event;
     Watch {
         state: w.state,
+        opening: w.opening,
         waiting: waiting + 1,
         filled: w.filled,
         heard: w.heard,
@@ -172,7 +184,7 @@ fn one_less(waiting: u16) -> u16
 }
 
 // Whether hearing an event that led to a verdict fills the number at which one first stood.
-fn fills_at(filled: u32, verdict: Verdict) -> bool
+fn fills_at(filled: u16, verdict: Verdict) -> bool
     ensures { λ r. ⌜ r ≡ (eqb filled 0 && decides verdict) ⌝ }
 {
     (filled == 0) & is_decided(verdict)
@@ -183,6 +195,7 @@ pub fn without_oldest(w: Watch, state: u16, verdict: Verdict) -> Watch
     requires { ⌜ w .heard < 4294967295 ⌝ }
     ensures { λ r. ⌜ r ≡ withoutOldest w state verdict ⌝ }
 {
+    let opening = w.opening;
     let filled = w.filled;
     let heard = w.heard + 1;
     let first = w.first;
@@ -192,8 +205,9 @@ pub fn without_oldest(w: Watch, state: u16, verdict: Verdict) -> Watch
     let fill = fills_at(filled, verdict);
     Watch {
         state,
+        opening,
         waiting,
-        filled: number_if(fill, 1, filled),
+        filled: filled_if(fill, filled),
         heard,
         first: number_if(fill, heard, first),
         events: up,

@@ -27,6 +27,9 @@ add-result-2 c = search needs
 add-result-3 : tie.Need-add-result-3
 add-result-3 c = search needs
 
+state-code-requires : tie.Need-state-code-requires
+state-code-requires c κs = search needs
+
 add-result-4 : tie.Need-add-result-4
 add-result-4 c = search needs
 
@@ -45,5 +48,6 @@ heard-code-spec =
     add-result
     add-result-2
     add-result-3
+    state-code-requires
     add-result-4
     returns)

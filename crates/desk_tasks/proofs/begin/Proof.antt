@@ -10,12 +10,15 @@ use Rattle.desk_tasks.proofs.begin.Tie as tie
 last-heard-requires : tie.Need-last-heard-requires
 last-heard-requires c κs = search needs
 
+opening-of-requires : tie.Need-opening-of-requires
+opening-of-requires c κs = search needs
+
 counts-fit-requires : tie.Need-counts-fit-requires
 counts-fit-requires c κs = search needs
 
 possible-mask-requires : tie.Need-possible-mask-requires
 possible-mask-requires c κs =
-    let a = c .before .before .before .before .args in
+    let a = c .before .before .before .before .before .args in
     let fit = sym (c .before .counts-fit .ensures) ∙ c .if1 .taken in
     (counts-few (now (a .t)) (a .signals) (a .states) fit, row-inside (now (a .t)) (a .signals) (a .states) fit 0 (counts-some (now (a .t)) (a .signals) (a .states) fit))
 
@@ -34,7 +37,9 @@ returns c =
       mask = λ _. c .before .possible-mask .ensures;
       length = refl;
       upto = rw fit (c .upto-of .ensures);
-      last = then .before .before .last-heard .ensures;
+      last = then .before .before .before .last-heard .ensures;
+      opening = then .before .before .opening-of .ensures;
+      foreign = refl;
       wrong = refl;
       waits = refl;
       later = refl;
@@ -51,7 +56,9 @@ returns-2 c =
       mask = λ q. never (sym fit ∙ q);
       length = refl;
       upto = rw fit;
-      last = c .before .before .last-heard .ensures;
+      last = c .before .before .before .last-heard .ensures;
+      opening = c .before .before .opening-of .ensures;
+      foreign = refl;
       wrong = refl;
       waits = refl;
       later = refl;
@@ -62,6 +69,7 @@ begin-spec =
     tie.close
     (tie.spec
     last-heard-requires
+    opening-of-requires
     counts-fit-requires
     possible-mask-requires
     upto-of-requires

@@ -15,10 +15,22 @@ number-if-requires-2 c κs = search needs
 number-if-requires-3 : tie.Need-number-if-requires-3
 number-if-requires-3 c κs = search needs
 
+number-if-requires-4 : tie.Need-number-if-requires-4
+number-if-requires-4 c κs = search needs
+
 returns : tie.Need-returns
-returns c = rw (c .before .before .number-if .ensures, c .before .number-if2 .ensures, c .number-if3 .ensures, c .before .before .before .before .fits2 .ensures)
+returns c =
+    let wrong = c .before .before in
+    let own = wrong .before in
+    rw (
+      own .number-if .ensures,
+      wrong .number-if2 .ensures,
+      c .before .number-if3 .ensures,
+      c .number-if4 .ensures,
+      own .before .before .fits2 .ensures,
+    )
 
 pub look-spec : {M : Type 1} → statement M
 look-spec =
     tie.close
-    (tie.spec fits-requires number-if-requires number-if-requires-2 number-if-requires-3 returns)
+    (tie.spec fits-requires number-if-requires number-if-requires-2 number-if-requires-3 number-if-requires-4 returns)

@@ -15,7 +15,7 @@ next-waiting-requires : tie.Need-next-waiting-requires
 next-waiting-requires c κs = search needs
 
 returns : tie.Need-returns
-returns c = search needs
+returns c = sym (ap (wantedBy (c .before .before .before .args .s)) (c .before .request .given .1))
 
 returns-2 : tie.Need-returns-2
 returns-2 c = c .next-waiting .ensures ∙ sym (ap (wantedBy (c .before .before .before .args .s)) (c .before .enum-told .given .1))

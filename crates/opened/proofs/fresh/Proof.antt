@@ -1,4 +1,4 @@
--- `opened::fresh` meets its contract: a walk of its MIR, in which the struct is taken apart and `desk::fresh` is called on the desk, the slice and the counts. The desk goes to `desk::fresh` for good.
+-- `opened::fresh` meets its contract: a walk of its MIR, in which the struct is taken apart and `desk::fresh` is called on the desk, the slice, the counts and the number. The desk goes to `desk::fresh` for good.
 use mathlib.Core.Path.{_≡_, refl}
 use Prim.Native.Nat.{ℕ}
 use mathlib.Core.List.{List, [], _∷_}
@@ -92,17 +92,17 @@ module _ {M : Type 1} (𝓤 : URA M) (H : Heap 𝓤) (A : Atoms 𝓤) (W : Given
   Alive = ‵ (flft κ q) ⊛ ‵ (flft κ′ q′) ⊛ ‵ ftrue
 
   -- what `desk::fresh` is called with, and what it answers
-  abbrev making : RefT (List Watch) × (RefT (List ℕ) × (ℕ × (ℕ × Unit {0})))
-  making = (x, (d .bytes, (d .signals, (d .states, tt))))
+  abbrev making : RefT (List Watch) × (RefT (List ℕ) × (ℕ × (ℕ × (ℕ × Unit {0}))))
+  making = (x, (d .bytes, (d .signals, (d .states, (d .number, tt)))))
 
   abbrev at-make : Vals maker.signature (κ, (κ′, tt))
-  at-make = (slice-of x ∷ [], (slice-of (d .bytes) ∷ [], (vint w8 (d .signals) ∷ [], (vint w16 (d .states) ∷ [], tt))))
+  at-make = (slice-of x ∷ [], (slice-of (d .bytes) ∷ [], (vint w8 (d .signals) ∷ [], (vint w16 (d .states) ∷ [], (vint w16 (d .number) ∷ [], tt)))))
 
   abbrev to-make : Make 𝓤 H A mem run .Ghost
   to-make = (((κ, (κ′, tt)), (q, (q′, tt)), tt, making, at-make), tt)
 
   abbrev asked : Fml
-  asked = owns (MutSlice (named 0) κ D.the-row ∷ ShrSlice (named 1) κ′ u8 ∷ u8 ∷ u16 ∷ []) making at-make
+  asked = owns (MutSlice (named 0) κ D.the-row ∷ ShrSlice (named 1) κ′ u8 ∷ u8 ∷ u16 ∷ u16 ∷ []) making at-make
 
   goes-make : ent 𝓤 (⋆ 𝓤 H A (Alive ∷ ‵ asked ∷ [])) (Make 𝓤 H A mem run .pre to-make)
   goes-make = qed W (Alive ∷ ‵ asked ∷ []) ∵ join ! $ frame ! $ done !
@@ -122,35 +122,36 @@ module _ {M : Type 1} (𝓤 : URA M) (H : Heap 𝓤) (A : Atoms 𝓤) (W : Given
         → ent 𝓤 (onEntry 𝓤 H A outer.signature (κ, (κ′, tt)) (q, (q′, tt)) (x, (d, tt)) args) (WpFn 𝓤 H C Λ code.function (slice-of x ∷ mach ∷ []) End)
     walk room wt =
         qed W (Alive ∷ ‵ (owns (MutSlice (named 0) κ D.the-row ∷ Held (κ, (κ′, tt)) ∷ []) (x, (d, tt)) args) ∷ []) ∵ enter ! C Λ code.function (slice-of x ∷ mach ∷ []) _ $
-        alloc1 ! (λ l₀. alloc1 ! (λ l₁. alloc1 ! (λ l₂. alloc1 ! (λ l₃. alloc1 ! (λ l₄. alloc1 ! (λ l₅. alloc1 ! (λ l₆. alloc1 ! (λ l₇. alloc0 ! $ params1 ! $
-        pass1 ! (init ! 12 refl (tt, (tt, (record { fits = room .0 }, tt)))) $ pass1 ! (init ! 10 refl wt) $ pass0 ! $
-        -- [_7; …; _6; …; … _0; …; the tokens; what the parameters own]
-        assigns ! (addr ! (from ! (fld ! refl (hop ! (look-in ! 12 (sub ! 0 refl (whole !))) (stop !))))) (from ! (stop !)) (init ! 8 refl (tt, tt)) $
-        assigns ! (agg ! (and-then ! (load ! (from ! (stop !)) (look ! 8 refl)) (and-then ! (load ! (from ! (fld ! refl (stop !))) (look-in ! 12 (sub ! 1 refl (whole !)))) (no-more !))))
-        (from ! (stop !)) (init ! 6 refl (tt, (tt, (record { fits = room .0 }, tt)))) $
-        assigns ! (of-opd ! (load ! (from ! (fld ! refl (stop !))) (look-in ! 10 (sub ! 0 refl (whole !))))) (from ! (stop !)) (init ! 4 refl (tt, wt .1 .0)) $
-        assigns ! (of-opd ! (load ! (from ! (fld ! refl (stop !))) (look-in ! 10 (sub ! 1 refl (whole !))))) (from ! (stop !)) (init ! 2 refl (tt, wt .1 .1 .0)) $
-        assigns ! (of-opd ! (load ! (from ! (fld ! refl (stop !))) (look-in ! 10 (sub ! 2 refl (whole !))))) (from ! (stop !)) (init ! 0 refl (tt, wt .1 .1 .1 .0)) $
-        move ! (17 ∷ []) $ fsplit ! $ move ! (1 ∷ []) $ fsplit ! $ move ! (1 ∷ []) $ drop ! $ use1 W (‵ (OwnBytes κ κ′ d) ⊛ ‵ (Own κ κ′ d)) (bytes-out κ κ′ d 𝓤 H A W) $ split ! $
-        -- [the bytes'; the struct's; the desk's; _7; …; the tokens]
-        nothing ! $ owned ! u16 (Is u16) (uint-makes 𝓤 H A W w16) (d .states) _ (refl, wt .1 .1 .1 .0 .fits) $ fjoin ! $
+        alloc1 ! (λ l₀. alloc1 ! (λ l₁. alloc1 ! (λ l₂. alloc1 ! (λ l₃. alloc1 ! (λ l₄. alloc1 ! (λ l₅. alloc1 ! (λ l₆. alloc1 ! (λ l₇. alloc1 ! (λ l₈. alloc0 ! $ params1 ! $
+        pass1 ! (init ! 14 refl (tt, (tt, (record { fits = room .0 }, tt)))) $ pass1 ! (init ! 12 refl wt) $ pass0 ! $
+        -- [_8; …; _7; …; … _0; …; the tokens; what the parameters own]
+        assigns ! (addr ! (from ! (fld ! refl (hop ! (look-in ! 14 (sub ! 0 refl (whole !))) (stop !))))) (from ! (stop !)) (init ! 10 refl (tt, tt)) $
+        assigns ! (agg ! (and-then ! (load ! (from ! (stop !)) (look ! 10 refl)) (and-then ! (load ! (from ! (fld ! refl (stop !))) (look-in ! 14 (sub ! 1 refl (whole !)))) (no-more !))))
+        (from ! (stop !)) (init ! 8 refl (tt, (tt, (record { fits = room .0 }, tt)))) $
+        assigns ! (of-opd ! (load ! (from ! (fld ! refl (stop !))) (look-in ! 12 (sub ! 0 refl (whole !))))) (from ! (stop !)) (init ! 6 refl (tt, wt .1 .0)) $
+        assigns ! (of-opd ! (load ! (from ! (fld ! refl (stop !))) (look-in ! 12 (sub ! 1 refl (whole !))))) (from ! (stop !)) (init ! 4 refl (tt, wt .1 .1 .0)) $
+        assigns ! (of-opd ! (load ! (from ! (fld ! refl (stop !))) (look-in ! 12 (sub ! 2 refl (whole !))))) (from ! (stop !)) (init ! 2 refl (tt, wt .1 .1 .1 .0)) $
+        assigns ! (of-opd ! (load ! (from ! (fld ! refl (stop !))) (look-in ! 12 (sub ! 3 refl (whole !))))) (from ! (stop !)) (init ! 0 refl (tt, wt .1 .1 .1 .1 .0)) $
+        move ! (19 ∷ []) $ fsplit ! $ move ! (1 ∷ []) $ fsplit ! $ move ! (1 ∷ []) $ drop ! $ use1 W (‵ (OwnBytes κ κ′ d) ⊛ ‵ (Own κ κ′ d)) (bytes-out κ κ′ d 𝓤 H A W) $ split ! $
+        -- [the bytes'; the struct's; the desk's; _8; …; the tokens]
+        nothing ! $ owned ! u16 (Is u16) (uint-makes 𝓤 H A W w16) (d .number) _ (refl, wt .1 .1 .1 .1 .0 .fits) $ fjoin ! $ owned ! u16 (Is u16) (uint-makes 𝓤 H A W w16) (d .states) _ (refl, wt .1 .1 .1 .0 .fits) $ fjoin ! $
         owned ! u8 (Is u8) (uint-makes 𝓤 H A W w8) (d .signals) _ (refl, wt .1 .1 .0 .fits) $ fjoin ! $
-        move ! (1 ∷ 0 ∷ []) $ fjoin ! $ move ! (2 ∷ 0 ∷ []) $ fjoin ! $ move ! (18 ∷ 0 ∷ []) $ use2 W (raw (Make 𝓤 H A mem run .pre to-make)) goes-make $
-        -- [the call's; the struct's; _7; …]
+        move ! (1 ∷ 0 ∷ []) $ fjoin ! $ move ! (2 ∷ 0 ∷ []) $ fjoin ! $ move ! (20 ∷ 0 ∷ []) $ use2 W (raw (Make 𝓤 H A mem run .pre to-make)) goes-make $
+        -- [the call's; the struct's; _8; …]
         calls-at ! fm (Make 𝓤 H A mem run) known to-make
-        (and-then ! (load ! (from ! (stop !)) (look ! 8 refl)) (and-then ! (load ! (from ! (stop !)) (look ! 6 refl)) (and-then ! (load ! (from ! (stop !)) (look ! 4 refl))
-        (and-then ! (load ! (from ! (stop !)) (look ! 2 refl)) (no-more !))))) (λ u.
+        (and-then ! (load ! (from ! (stop !)) (look ! 10 refl)) (and-then ! (load ! (from ! (stop !)) (look ! 8 refl)) (and-then ! (load ! (from ! (stop !)) (look ! 6 refl))
+        (and-then ! (load ! (from ! (stop !)) (look ! 4 refl)) (and-then ! (load ! (from ! (stop !)) (look ! 2 refl)) (no-more !)))))) (λ u.
         use1 W (later (some (λ (r : Served). (Alive ⊛ ‵ (S.the-row .own r (u ∷ []))) ⊛ raw (ensured 𝓤 H A maker.ended (maker.clauses 𝓤 H A mem run) (κ, (κ′, tt)) making tt r)))) (id⊢ 𝓤 _) $ await ! tt $ pick ! (λ r.
         split ! $ move ! (1 ∷ []) $
-        use1 W (some (λ (zs : List Watch × (Unit {0} × (Unit {0} × (Unit {0} × Unit {0})))). ‵ (lasts maker.ended (κ, (κ′, tt)) making zs) ⊛ raw (fact 𝓤 (Made-as r (zs .0))))) (id⊢ 𝓤 _) $ pick ! (λ zs.
+        use1 W (some (λ (zs : List Watch × (Unit {0} × (Unit {0} × (Unit {0} × (Unit {0} × Unit {0}))))). ‵ (lasts maker.ended (κ, (κ′, tt)) making zs) ⊛ raw (fact 𝓤 (Made-as r (zs .0))))) (id⊢ 𝓤 _) $ pick ! (λ zs.
         split ! $ move ! (1 ∷ []) $ heard ! (Made-as r (zs .0)) (λ ze. fsplit ! $ fsplit ! $ move ! (1 ∷ []) $ feqL ! (λ m.
         move ! (2 ∷ []) $ split ! $ move ! (1 ∷ []) $ peeks ! S.the-row (Is S.the-row) (shows 𝓤 H A S.the-row) r (u ∷ []) (λ is.
-        -- [the answer's; the tokens; the last list; …; the struct's; _7; …]
-        land ! (from ! (stop !)) (init ! 19 refl (EL.lawful S.the-type S′.the-laws 𝓤 H A W tt .typed r _ is .0)) $
-        returns ! (look ! 19 refl) $ forget ! 5 refl $ forget ! 7 refl $ forget ! 9 refl $ forget ! 11 refl $ forget ! 13 refl $ forget ! 15 refl $ forget ! 17 refl $ forget ! 19 refl $
-        move ! (19 ∷ 20 ∷ []) $ free1 ! $ move ! (17 ∷ 18 ∷ []) $ free1 ! $ move ! (15 ∷ 16 ∷ []) $ free1 ! $ move ! (13 ∷ 14 ∷ []) $ free1 ! $
+        -- [the answer's; the tokens; the last list; …; the struct's; _8; …]
+        land ! (from ! (stop !)) (init ! 21 refl (EL.lawful S.the-type S′.the-laws 𝓤 H A W tt .typed r _ is .0)) $
+        returns ! (look ! 21 refl) $ forget ! 5 refl $ forget ! 7 refl $ forget ! 9 refl $ forget ! 11 refl $ forget ! 13 refl $ forget ! 15 refl $ forget ! 17 refl $ forget ! 19 refl $ forget ! 21 refl $
+        move ! (21 ∷ 22 ∷ []) $ free1 ! $ move ! (19 ∷ 20 ∷ []) $ free1 ! $ move ! (17 ∷ 18 ∷ []) $ free1 ! $ move ! (15 ∷ 16 ∷ []) $ free1 ! $ move ! (13 ∷ 14 ∷ []) $ free1 ! $
         move ! (11 ∷ 12 ∷ []) $ free1 ! $ move ! (9 ∷ 10 ∷ []) $ free1 ! $ move ! (7 ∷ 8 ∷ []) $ free1 ! $ move ! (5 ∷ 6 ∷ []) $ free1 ! $ free0 ! $
-        keep ! (0 ∷ 1 ∷ 2 ∷ 4 ∷ []) $ by ! (exits r u (zs .0) ze m)))))))))))))))
+        keep ! (0 ∷ 1 ∷ 2 ∷ 4 ∷ []) $ by ! (exits r u (zs .0) ze m))))))))))))))))
 
 module _ {M : Type 1} (𝓤 : URA M) (H : Heap 𝓤) (A : Atoms 𝓤) (W : Given 𝓤 H A) (mem : Memory → SProp 𝓤) (run : Routine → Fun 𝓤) where
   fresh-walks : (C : Calls 𝓤 H) (Λ : Loops 𝓤 H) → FmC 𝓤 H (W .laws) C → Triple 𝓤 (C #desk·fresh) (Make 𝓤 H A mem run)

@@ -112,7 +112,7 @@ module _ {M : Type 1} (𝓤 : URA M) (H : Heap 𝓤) (A : Atoms 𝓤) (W : Given
   L = T′.the-laws (namedLft 3 0 tt (κ, (κ′, (κ″, tt))))
 
   abbrev vd : Values (D .parts)
-  vd = (d .bytes, (d .signals, (d .states, tt)))
+  vd = (d .bytes, (d .signals, (d .states, (d .number, tt))))
 
   -- what the callee is passed
   abbrev passed : Vals inner.signature (κ, (κ′, (κ″, tt)))

@@ -35,10 +35,13 @@ use denote.Triple.Table.{entered, cited}
 use denote.Triple.Walked.{says, Stays, stay-none, stay-none-slice, walkOf, goes-none, goes-none-slice, Walks, ends-at, walked, walk-meets}
 use denote.Exit.{yes}
 use denote.Triple.Clauses.{ensured, lasts}
-use Rattle.meaning.specs.Runs.{runOf}
-use Rattle.meaning.specs.declared.Ran.{Ran}
-use Rattle.meaning.proofs.Ran as R
-use Rattle.meaning.proofs.Ran.Laws as R′
+use Rattle.meaning.specs.Openings.{opening, runFrom}
+use Rattle.meaning.specs.declared.Arrived.{Arrived}
+use Rattle.meaning.proofs.Arrived as R
+use Rattle.meaning.proofs.Arrived.Laws as R′
+use Rattle.meaning.specs.declared.State.{State}
+use Rattle.meaning.proofs.State as S
+use Rattle.meaning.proofs.State.Laws as S′
 use Rattle.opened.specs.OpenedTables.{openedOf, steppedBy}
 use Rattle.opened.specs.declared.Opened.{Opened}
 use Rattle.opened.proofs.Opening.{opened-runs}
@@ -62,7 +65,7 @@ abbrev B : Lft → RattleType
 B κ = T.the-row (namedLft 1 0 tt (κ, tt))
 
 abbrev stayed : Stays (outer.ended .signature .params) (outer.ended .kept)
-stayed = (stay-none-slice (0 ∷ []) tt (plain (λ _. u8)) yes, (stay-none (λ _. u16) yes, (stay-none (λ _. u8) yes, tt)))
+stayed = (stay-none-slice (0 ∷ []) tt (plain (λ _. u8)) yes, (stay-none (λ _. u16) yes, (stay-none (λ _. S.the-row) yes, (stay-none (λ _. u8) yes, tt))))
 
 module _ {M : Type 1} (𝓤 : URA M) (H : Heap 𝓤) (A : Atoms 𝓤) (mem : Memory → SProp 𝓤) (run : Routine → Fun 𝓤) where
   -- the contracts that the proof cites
@@ -72,23 +75,27 @@ module _ {M : Type 1} (𝓤 : URA M) (H : Heap 𝓤) (A : Atoms 𝓤) (mem : Mem
   abbrev Inner : Contract 𝓤
   Inner = tripleOf 𝓤 H A inner.signature (inner.spec 𝓤 H A mem run)
 
-module _ {M : Type 1} (𝓤 : URA M) (H : Heap 𝓤) (A : Atoms 𝓤) (W : Given 𝓤 H A) (mem : Memory → SProp 𝓤) (run : Routine → Fun 𝓤) (κ : Lft) (q : Share) (s : RefT (List ℕ)) (m n : ℕ) (m-fits : m < 2 ^ 16) (n-fits : n < 2 ^ 8) where
+module _ {M : Type 1} (𝓤 : URA M) (H : Heap 𝓤) (A : Atoms 𝓤) (W : Given 𝓤 H A) (mem : Memory → SProp 𝓤) (run : Routine → Fun 𝓤) (κ : Lft) (q : Share) (s : RefT (List ℕ)) (k : ℕ) (st : State) (n : ℕ) (k-fits : k < 2 ^ 16) (st-is : Is S.the-row st (LL.val S.the-type S′.the-laws st ∷ [])) (n-fits : n < 2 ^ 8) where
   -- the machine value that s has
   abbrev v : Val
   v = sliceVal (s .ptr) (length (s .now))
 
-  abbrev found : Ran
-  found = runOf (now s) m (n ∷ [])
+  -- the machine value of the state
+  abbrev low : Val
+  low = LL.val S.the-type S′.the-laws st
+
+  abbrev found : Arrived
+  found = runFrom (opening (now s) k) st (n ∷ [])
 
   abbrev args : Vals outer.signature (κ, tt)
-  args = (v ∷ [], (vint w16 m ∷ [], (vint w8 n ∷ [], tt)))
+  args = (v ∷ [], (vint w16 k ∷ [], (low ∷ [], (vint w8 n ∷ [], tt))))
 
   -- the struct's type as a local of a body has it
   abbrev αᵉ : NamedLft
   αᵉ = record { mir = erased; lft = κ }
 
   abbrev y : walkOf 𝓤 H A outer.ended stayed (outer.clauses 𝓤 H A mem run) .Ghost
-  y = (((κ, tt), (q, tt), tt, (s, (m, (n, tt))), args), tt)
+  y = (((κ, tt), (q, tt), tt, (s, (k, (st, (n, tt)))), args), tt)
 
   abbrev Post : Val → SProp 𝓤
   Post = walkOf 𝓤 H A outer.ended stayed (outer.clauses 𝓤 H A mem run) .post y
@@ -98,69 +105,69 @@ module _ {M : Type 1} (𝓤 : URA M) (H : Heap 𝓤) (A : Atoms 𝓤) (W : Given
 
   -- the call of `open`
   abbrev to-open : Opens 𝓤 H A mem run .Ghost
-  to-open = (((κ, tt), (q, tt), tt, (s, tt), (v ∷ [], tt)), tt)
+  to-open = (((κ, tt), (q, tt), tt, (s, (k, tt)), (v ∷ [], (vint w16 k ∷ [], tt))), tt)
 
   goes-open : ent 𝓤 (⋆ 𝓤 H A ((‵ (flft κ q) ⊛ ‵ ftrue) ∷ ‵ Own ∷ [])) (Opens 𝓤 H A mem run .pre to-open)
-  goes-open = qed W ((‵ (flft κ q) ⊛ ‵ ftrue) ∷ ‵ Own ∷ []) ∵ nothing ! $ move ! (2 ∷ 0 ∷ []) $ fjoin ! $ move ! (1 ∷ 0 ∷ []) $ join ! $ frame ! $ done !
+  goes-open = qed W ((‵ (flft κ q) ⊛ ‵ ftrue) ∷ ‵ Own ∷ []) ∵ nothing ! $ owned ! u16 (Is u16) (uint-makes 𝓤 H A W w16) k _ (refl, k-fits) $ fjoin ! $ move ! (2 ∷ 0 ∷ []) $ fjoin ! $ move ! (1 ∷ 0 ∷ []) $ join ! $ frame ! $ done !
 
-  said-open : (d : Opened) → ent 𝓤 (ensured 𝓤 H A opens.ended (opens.clauses 𝓤 H A mem run) (κ, tt) (s, tt) tt d) (fact 𝓤 (d ≡ openedOf s))
-  said-open d = exE 𝓤 _ (λ ws. snd∗ 𝓤 (sem 𝓤 H A (lasts opens.ended (κ, tt) (s, tt) ws)) (fact 𝓤 (d ≡ openedOf s)))
+  said-open : (d : Opened) → ent 𝓤 (ensured 𝓤 H A opens.ended (opens.clauses 𝓤 H A mem run) (κ, tt) (s, (k, tt)) tt d) (fact 𝓤 (d ≡ openedOf s k))
+  said-open d = exE 𝓤 _ (λ ws. snd∗ 𝓤 (sem 𝓤 H A (lasts opens.ended (κ, tt) (s, (k, tt)) ws)) (fact 𝓤 (d ≡ openedOf s k)))
 
   -- the call of `step`, at the struct d with the machine value u
   abbrev to : Opened → Val → Inner 𝓤 H A mem run .Ghost
-  to d u = (((κ, tt), (q, tt), tt, (d, (m, (n, tt))), (u ∷ [], (vint w16 m ∷ [], (vint w8 n ∷ [], tt)))), tt)
+  to d u = (((κ, tt), (q, tt), tt, (d, (st, (n, tt))), (u ∷ [], (low ∷ [], (vint w8 n ∷ [], tt)))), tt)
 
   goes : (d : Opened) (u : Val) → ent 𝓤 (⋆ 𝓤 H A (‵ (B κ .own d (u ∷ [])) ∷ (‵ (flft κ q) ⊛ ‵ ftrue) ∷ [])) (Inner 𝓤 H A mem run .pre (to d u))
   goes d u =
-      qed W (‵ (B κ .own d (u ∷ [])) ∷ (‵ (flft κ q) ⊛ ‵ ftrue) ∷ []) ∵ nothing ! $ owned ! u8 (Is u8) (uint-makes 𝓤 H A W w8) n _ (refl, n-fits) $ fjoin ! $ owned ! u16 (Is u16) (uint-makes 𝓤 H A W w16) m _ (refl, m-fits) $ fjoin ! $
+      qed W (‵ (B κ .own d (u ∷ [])) ∷ (‵ (flft κ q) ⊛ ‵ ftrue) ∷ []) ∵ nothing ! $ owned ! u8 (Is u8) (uint-makes 𝓤 H A W w8) n _ (refl, n-fits) $ fjoin ! $ owned ! S.the-row (Is S.the-row) (LL.makes S.the-type S′.the-plain 𝓤 H A) st _ st-is $ fjoin ! $
       move ! (1 ∷ 0 ∷ []) $ fjoin ! $ move ! (1 ∷ 0 ∷ []) $ join ! $ frame ! $ done !
 
-  said : (d : Opened) (r : Ran) → ent 𝓤 (ensured 𝓤 H A inner.ended (inner.clauses 𝓤 H A mem run) (κ, tt) (d, (m, (n, tt))) tt r) (fact 𝓤 (r ≡ steppedBy d m n))
-  said d r = exE 𝓤 _ (λ ws. snd∗ 𝓤 (sem 𝓤 H A (lasts inner.ended (κ, tt) (d, (m, (n, tt))) ws)) (fact 𝓤 (r ≡ steppedBy d m n)))
+  said : (d : Opened) (r : Arrived) → ent 𝓤 (ensured 𝓤 H A inner.ended (inner.clauses 𝓤 H A mem run) (κ, tt) (d, (st, (n, tt))) tt r) (fact 𝓤 (r ≡ steppedBy d st n))
+  said d r = exE 𝓤 _ (λ ws. snd∗ 𝓤 (sem 𝓤 H A (lasts inner.ended (κ, tt) (d, (st, (n, tt))) ws)) (fact 𝓤 (r ≡ steppedBy d st n)))
 
-  exits : (r : Ran) (u : Val) → r ≡ found → ent 𝓤 (⋆ 𝓤 H A (‵ (R.the-row .own r (u ∷ [])) ∷ (‵ (flft κ q) ⊛ ‵ ftrue) ∷ ‵ Own ∷ [])) (Post u)
+  exits : (r : Arrived) (u : Val) → r ≡ found → ent 𝓤 (⋆ 𝓤 H A (‵ (R.the-row .own r (u ∷ [])) ∷ (‵ (flft κ q) ⊛ ‵ ftrue) ∷ ‵ Own ∷ [])) (Post u)
   exits r u e =
       qed W (‵ (R.the-row .own r (u ∷ [])) ∷ (‵ (flft κ q) ⊛ ‵ ftrue) ∷ ‵ Own ∷ []) ∵
-      suffices ! _ (ends-at 𝓤 H A outer.ended stayed (outer.clauses 𝓤 H A mem run) W y u r (tt, (tt, (tt, tt))) (tt, (tt, (tt, tt)))) $ says ! e $
-      move ! (1 ∷ []) $ frame ! $ nothing ! $ owned ! u8 (Is u8) (uint-makes 𝓤 H A W w8) n _ (refl, n-fits) $ fjoin ! $ owned ! u16 (Is u16) (uint-makes 𝓤 H A W w16) m _ (refl, m-fits) $ fjoin ! $ move ! (2 ∷ 0 ∷ []) $ fjoin ! $ frame ! $ done !
+      suffices ! _ (ends-at 𝓤 H A outer.ended stayed (outer.clauses 𝓤 H A mem run) W y u r (tt, (tt, (tt, (tt, tt)))) (tt, (tt, (tt, (tt, tt))))) $ says ! e $
+      move ! (1 ∷ []) $ frame ! $ nothing ! $ owned ! u8 (Is u8) (uint-makes 𝓤 H A W w8) n _ (refl, n-fits) $ fjoin ! $ owned ! S.the-row (Is S.the-row) (LL.makes S.the-type S′.the-plain 𝓤 H A) st _ st-is $ fjoin ! $ owned ! u16 (Is u16) (uint-makes 𝓤 H A W w16) k _ (refl, k-fits) $ fjoin ! $ move ! (2 ∷ 0 ∷ []) $ fjoin ! $ frame ! $ done !
 
   module _ (C : Calls 𝓤 H) (Λ : Loops 𝓤 H) (fm : FmC 𝓤 H (W .laws) C) (known-open : Triple 𝓤 (C #opened·open) (Opens 𝓤 H A mem run)) (known : Triple 𝓤 (C #opened·step) (Inner 𝓤 H A mem run)) where
-    walk : Is (ShrSlice (named 0) κ u8) s (v ∷ []) → ent 𝓤 (onEntry 𝓤 H A outer.signature (κ, tt) (q, tt) (s, (m, (n, tt))) args) (WpFn 𝓤 H C Λ code.function (v ∷ vint w16 m ∷ vint w8 n ∷ []) Post)
+    walk : Is (ShrSlice (named 0) κ u8) s (v ∷ []) → ent 𝓤 (onEntry 𝓤 H A outer.signature (κ, tt) (q, tt) (s, (k, (st, (n, tt)))) args) (WpFn 𝓤 H C Λ code.function (v ∷ vint w16 k ∷ low ∷ vint w8 n ∷ []) Post)
     walk p =
-        qed W ((‵ (flft κ q) ⊛ ‵ ftrue) ∷ ‵ (owns (ShrSlice (named 0) κ u8 ∷ u16 ∷ u8 ∷ []) (s, (m, (n, tt))) args) ∷ []) ∵ enter ! C Λ code.function (v ∷ vint w16 m ∷ vint w8 n ∷ []) _ $
-        alloc1 ! (λ l₀. alloc1 ! (λ l₁. alloc1 ! (λ l₂. alloc1 ! (λ l₃. alloc1 ! (λ l₄. alloc0 ! $ params1 ! $ pass1 ! (init ! 6 refl (shr-slice-lawful 𝓤 H A W (named 0) κ u8 .typed s (v ∷ []) p .0)) $ pass1 ! (init ! 4 refl (tt, record { fits = m-fits })) $ pass1 ! (init ! 2 refl (tt, record { fits = n-fits })) $ pass0 ! $
-        move ! (11 ∷ []) $ fsplit ! $ use1 W (‵ Own ⊛ ‵ Own) (shr-slice-copy 𝓤 H A W (named 0) κ u8 .twice s (v ∷ [])) $ split ! $ move ! (2 ∷ []) $ drop ! $
-        -- [bytes'; bytes'; _4; …; _3; …; _2; …; _1; …; room for _0; …; the token]
-        move ! (12 ∷ 0 ∷ []) $ use2 W (raw (Opens 𝓤 H A mem run .pre to-open)) goes-open $
-        -- [the call's; bytes'; _4; …]
-        calls-at ! fm (Opens 𝓤 H A mem run) known-open to-open (and-then ! (load ! (from ! (stop !)) (look ! 8 refl)) (no-more !)) (λ u.
-        use1 W (later (some (λ (d : Opened). ((‵ (flft κ q) ⊛ ‵ ftrue) ⊛ ‵ (B κ .own d (u ∷ []))) ⊛ raw (ensured 𝓤 H A opens.ended (opens.clauses 𝓤 H A mem run) (κ, tt) (s, tt) tt d)))) (id⊢ 𝓤 _) $ await ! tt $ pick ! (λ d.
-        split ! $ move ! (1 ∷ []) $ use1 W (raw (fact 𝓤 (d ≡ openedOf s))) (said-open d) $ heard ! (d ≡ openedOf s) (λ e. split ! $ move ! (1 ∷ []) $
-        -- [what the struct owns; the token; bytes'; _4; …]
+        qed W ((‵ (flft κ q) ⊛ ‵ ftrue) ∷ ‵ (owns (ShrSlice (named 0) κ u8 ∷ u16 ∷ S.the-row ∷ u8 ∷ []) (s, (k, (st, (n, tt)))) args) ∷ []) ∵ enter ! C Λ code.function (v ∷ vint w16 k ∷ low ∷ vint w8 n ∷ []) _ $
+        alloc1 ! (λ l₀. alloc1 ! (λ l₁. alloc1 ! (λ l₂. alloc1 ! (λ l₃. alloc1 ! (λ l₄. alloc1 ! (λ l₅. alloc0 ! $ params1 ! $ pass1 ! (init ! 8 refl (shr-slice-lawful 𝓤 H A W (named 0) κ u8 .typed s (v ∷ []) p .0)) $ pass1 ! (init ! 6 refl (tt, record { fits = k-fits })) $ pass1 ! (init ! 4 refl (LL.lawful S.the-type S′.the-laws 𝓤 H A W .typed st _ st-is .0)) $ pass1 ! (init ! 2 refl (tt, record { fits = n-fits })) $ pass0 ! $
+        move ! (13 ∷ []) $ fsplit ! $ use1 W (‵ Own ⊛ ‵ Own) (shr-slice-copy 𝓤 H A W (named 0) κ u8 .twice s (v ∷ [])) $ split ! $ move ! (2 ∷ []) $ drop ! $
+        -- [bytes'; bytes'; _5; …; _4; …; _3; …; _2; …; _1; …; room for _0; …; the token]
+        move ! (14 ∷ 0 ∷ []) $ use2 W (raw (Opens 𝓤 H A mem run .pre to-open)) goes-open $
+        -- [the call's; bytes'; _5; …; _4; …]
+        calls-at ! fm (Opens 𝓤 H A mem run) known-open to-open (and-then ! (load ! (from ! (stop !)) (look ! 10 refl)) (and-then ! (load ! (from ! (stop !)) (look ! 8 refl)) (no-more !))) (λ u.
+        use1 W (later (some (λ (d : Opened). ((‵ (flft κ q) ⊛ ‵ ftrue) ⊛ ‵ (B κ .own d (u ∷ []))) ⊛ raw (ensured 𝓤 H A opens.ended (opens.clauses 𝓤 H A mem run) (κ, tt) (s, (k, tt)) tt d)))) (id⊢ 𝓤 _) $ await ! tt $ pick ! (λ d.
+        split ! $ move ! (1 ∷ []) $ use1 W (raw (fact 𝓤 (d ≡ openedOf s k))) (said-open d) $ heard ! (d ≡ openedOf s k) (λ e. split ! $ move ! (1 ∷ []) $
+        -- [what the struct owns; the token; bytes'; _5; …; _4; …]
         peeks ! (B κ) (Is (B κ)) (shows 𝓤 H A (B κ)) d (u ∷ []) (λ is.
         land ! (from ! (stop !)) (init ! 3 refl (LL.lawful (T.the-type αᵉ) (T′.the-laws αᵉ) 𝓤 H A W .typed d _ is .0)) $
         use2 W (raw (Inner 𝓤 H A mem run .pre (to d u))) (goes d u) $
-        -- [the call's; bytes'; _4; …]
+        -- [the call's; bytes'; _5; …; _4; …]
         calls-at ! fm (Inner 𝓤 H A mem run) known (to d u) (and-then ! (load ! (from ! (stop !)) (look ! 2 refl)) (and-then ! (load ! (from ! (stop !)) (look ! 6 refl)) (and-then ! (load ! (from ! (stop !)) (look ! 4 refl)) (no-more !)))) (λ u′.
-        use1 W (later (some (λ (r : Ran). ((‵ (flft κ q) ⊛ ‵ ftrue) ⊛ ‵ (R.the-row .own r (u′ ∷ []))) ⊛ raw (ensured 𝓤 H A inner.ended (inner.clauses 𝓤 H A mem run) (κ, tt) (d, (m, (n, tt))) tt r)))) (id⊢ 𝓤 _) $ await ! tt $ pick ! (λ r.
-        split ! $ move ! (1 ∷ []) $ use1 W (raw (fact 𝓤 (r ≡ steppedBy d m n))) (said d r) $ heard ! (r ≡ steppedBy d m n) (λ e′. split ! $ move ! (1 ∷ []) $
-        -- [the result; the token; bytes'; _4; …]
+        use1 W (later (some (λ (r : Arrived). ((‵ (flft κ q) ⊛ ‵ ftrue) ⊛ ‵ (R.the-row .own r (u′ ∷ []))) ⊛ raw (ensured 𝓤 H A inner.ended (inner.clauses 𝓤 H A mem run) (κ, tt) (d, (st, (n, tt))) tt r)))) (id⊢ 𝓤 _) $ await ! tt $ pick ! (λ r.
+        split ! $ move ! (1 ∷ []) $ use1 W (raw (fact 𝓤 (r ≡ steppedBy d st n))) (said d r) $ heard ! (r ≡ steppedBy d st n) (λ e′. split ! $ move ! (1 ∷ []) $
+        -- [the result; the token; bytes'; _5; …; _4; …]
         peeks ! R.the-row (Is R.the-row) (shows 𝓤 H A R.the-row) r (u′ ∷ []) (λ is′.
-        land ! (from ! (stop !)) (init ! 11 refl (EL.lawful R.the-type R′.the-laws 𝓤 H A W tt .typed r _ is′ .0)) $
-        returns ! (look ! 11 refl) $ forget ! 3 refl $ forget ! 5 refl $ forget ! 7 refl $ forget ! 9 refl $ forget ! 11 refl $
-        move ! (11 ∷ 12 ∷ []) $ free1 ! $ move ! (9 ∷ 10 ∷ []) $ free1 ! $ move ! (7 ∷ 8 ∷ []) $ free1 ! $ move ! (5 ∷ 6 ∷ []) $ free1 ! $ move ! (3 ∷ 4 ∷ []) $ free1 ! $ free0 ! $
-        by ! (exits r u′ (e′ ∙ ap (λ (z : Opened). steppedBy z m n) e ∙ opened-runs s m (n ∷ []))))))))))))))))
+        land ! (from ! (stop !)) (init ! 13 refl (EL.lawful R.the-type R′.the-laws 𝓤 H A W tt .typed r _ is′ .0)) $
+        returns ! (look ! 13 refl) $ forget ! 3 refl $ forget ! 5 refl $ forget ! 7 refl $ forget ! 9 refl $ forget ! 11 refl $ forget ! 13 refl $
+        move ! (13 ∷ 14 ∷ []) $ free1 ! $ move ! (11 ∷ 12 ∷ []) $ free1 ! $ move ! (9 ∷ 10 ∷ []) $ free1 ! $ move ! (7 ∷ 8 ∷ []) $ free1 ! $ move ! (5 ∷ 6 ∷ []) $ free1 ! $ move ! (3 ∷ 4 ∷ []) $ free1 ! $ free0 ! $
+        by ! (exits r u′ (e′ ∙ ap (λ (z : Opened). steppedBy z st n) e ∙ opened-runs s k st (n ∷ [])))))))))))))))))
 
 module _ {M : Type 1} (𝓤 : URA M) (H : Heap 𝓤) (A : Atoms 𝓤) (W : Given 𝓤 H A) (mem : Memory → SProp 𝓤) (run : Routine → Fun 𝓤) where
   open-and-step-walks : (C : Calls 𝓤 H) (Λ : Loops 𝓤 H) → FmC 𝓤 H (W .laws) C → Triple 𝓤 (C #opened·open) (Opens 𝓤 H A mem run) → Triple 𝓤 (C #opened·step) (Inner 𝓤 H A mem run)
       → Walks 𝓤 H A outer.ended stayed (WpFn 𝓤 H C Λ code.function) (outer.clauses 𝓤 H A mem run)
-  open-and-step-walks C Λ fm known-open known = walked 𝓤 H A outer.ended stayed (outer.clauses 𝓤 H A mem run) (WpFn 𝓤 H C Λ code.function) (λ κs. (slice-vals, (uint-vals w16, (uint-vals w8, tt)))) (λ κs. (shr-slice-tells (named 0) (κs .0) u8, (uint-tells w16, (uint-tells w8, tt))))
-      (λ κs qs bounds a g are. via 𝓤 _ (fst∗ 𝓤 _ (emp 𝓤)) (walk 𝓤 H A W mem run (κs .0) (qs .0) (a .0) (a .1 .0) (a .1 .1 .0) (are .1 .0 .1) (are .1 .1 .0 .1) C Λ fm known-open known (are .0)))
+  open-and-step-walks C Λ fm known-open known = walked 𝓤 H A outer.ended stayed (outer.clauses 𝓤 H A mem run) (WpFn 𝓤 H C Λ code.function) (λ κs. (slice-vals, (uint-vals w16, (LL.vals S.the-type S′.the-laws, (uint-vals w8, tt))))) (λ κs. (shr-slice-tells (named 0) (κs .0) u8, (uint-tells w16, (LL.tells S.the-type S′.the-laws, (uint-tells w8, tt)))))
+      (λ κs qs bounds a g are. via 𝓤 _ (fst∗ 𝓤 _ (emp 𝓤)) (walk 𝓤 H A W mem run (κs .0) (qs .0) (a .0) (a .1 .0) (a .1 .1 .0) (a .1 .1 .1 .0) (are .1 .0 .1) (are .1 .1 .0) (are .1 .1 .1 .0 .1) C Λ fm known-open known (are .0)))
 
 open-and-step-meets : {M : Type 1} (𝓤 : URA M) (H : Heap 𝓤) (A : Atoms 𝓤) (W : Given 𝓤 H A) (mem : Memory → SProp 𝓤) (run : Routine → Fun 𝓤) (𝓣 : Tables 𝓤 H)
     → Triple 𝓤 (𝓣 .C #opened·open) (Opens 𝓤 H A mem run) → Triple 𝓤 (𝓣 .C #opened·step) (Inner 𝓤 H A mem run)
     → Meets 𝓤 H A outer.signature (WpFn 𝓤 H (𝓣 .C) (𝓣 .Λ) code.function) (outer.spec 𝓤 H A mem run)
-open-and-step-meets 𝓤 H A W mem run 𝓣 known-open known = walk-meets 𝓤 H A outer.ended stayed W (goes-none-slice 𝓤 H A W 1 (0 ∷ []) tt (plain (λ _. u8)) yes, (goes-none 𝓤 H A W 1 (λ _. u16) yes (λ κs x f. refl), (goes-none 𝓤 H A W 1 (λ _. u8) yes (λ κs x f. refl), tt))) (outer.clauses 𝓤 H A mem run)
+open-and-step-meets 𝓤 H A W mem run 𝓣 known-open known = walk-meets 𝓤 H A outer.ended stayed W (goes-none-slice 𝓤 H A W 1 (0 ∷ []) tt (plain (λ _. u8)) yes, (goes-none 𝓤 H A W 1 (λ _. u16) yes (λ κs x f. refl), (goes-none 𝓤 H A W 1 (λ _. S.the-row) yes (λ κs x f. refl), (goes-none 𝓤 H A W 1 (λ _. u8) yes (λ κs x f. refl), tt)))) (outer.clauses 𝓤 H A mem run)
     (WpFn 𝓤 H (𝓣 .C) (𝓣 .Λ) code.function) (WpFn-mono 𝓤 H (W .laws) 𝓣 code.function) (open-and-step-walks 𝓤 H A W mem run (𝓣 .C) (𝓣 .Λ) (fmOf 𝓤 H (W .laws) 𝓣) known-open known)
 
 pub open-and-step-spec : {M : Type 1} → stated.statement M

@@ -97,15 +97,15 @@ module _ {M : Type 1} (𝓤 : URA M) (H : Heap 𝓤) (A : Atoms 𝓤) (W : Given
 
   -- the call that makes the request asks for numbers alone, and those are had for nothing
   abbrev to-ask : Ask 𝓤 H A mem run .Ghost
-  to-ask = ((tt, tt, tt, (i, (e, tt)), (vint w64 i ∷ [], (vint w8 e ∷ [], tt))), tt)
+  to-ask = ((tt, tt, tt, (d .number, (i, (e, tt))), (vint w16 (d .number) ∷ [], (vint w64 i ∷ [], (vint w8 e ∷ [], tt)))), tt)
 
-  goes-ask : ent 𝓤 (emp 𝓤) (Ask 𝓤 H A mem run .pre to-ask)
-  goes-ask = qed W [] ∵ nothing ! $ owned ! u8 (Is u8) (uint-makes 𝓤 H A W w8) e _ (refl, e-fits) $ fjoin ! $ owned ! usize (Is usize) (uint-makes 𝓤 H A W w64) i _ (refl, i-fits) $ fjoin ! $ nothing ! $ join ! $ frame ! $ done !
+  goes-ask : d .number < 2 ^ 16 → ent 𝓤 (emp 𝓤) (Ask 𝓤 H A mem run .pre to-ask)
+  goes-ask f = qed W [] ∵ nothing ! $ owned ! u8 (Is u8) (uint-makes 𝓤 H A W w8) e _ (refl, e-fits) $ fjoin ! $ owned ! usize (Is usize) (uint-makes 𝓤 H A W w64) i _ (refl, i-fits) $ fjoin ! $ owned ! u16 (Is u16) (uint-makes 𝓤 H A W w16) (d .number) _ (refl, f) $ fjoin ! $ nothing ! $ join ! $ frame ! $ done !
 
-  said-ask : (a : Request) → ent 𝓤 (ensured 𝓤 H A ask.ended (ask.clauses 𝓤 H A mem run) tt (i, (e, tt)) tt a) (fact 𝓤 (a ≡ Post i e))
-  said-ask a = exE 𝓤 _ (λ zs. snd∗ 𝓤 (sem 𝓤 H A (lasts ask.ended tt (i, (e, tt)) zs)) (fact 𝓤 (a ≡ Post i e)))
+  said-ask : (a : Request) → ent 𝓤 (ensured 𝓤 H A ask.ended (ask.clauses 𝓤 H A mem run) tt (d .number, (i, (e, tt))) tt a) (fact 𝓤 (a ≡ Post (d .number) i e))
+  said-ask a = exE 𝓤 _ (λ zs. snd∗ 𝓤 (sem 𝓤 H A (lasts ask.ended tt (d .number, (i, (e, tt))) zs)) (fact 𝓤 (a ≡ Post (d .number) i e)))
 
-  exits : (a : Request) → a ≡ Post i e → (r : Served) (u : Val) (l : List Watch) → Served-as x d a r l → length l ≡ length ys
+  exits : (a : Request) → a ≡ Post (d .number) i e → (r : Served) (u : Val) (l : List Watch) → Served-as x d a r l → length l ≡ length ys
       → ent 𝓤 (⋆ 𝓤 H A (‵ (S.the-row .own r (u ∷ [])) ∷ (‵ (flft κ q) ⊛ ‵ (flft κ′ q′) ⊛ ‵ ftrue) ∷ ‵ (finally D.the-row γ l) ∷ ‵ (Own κ κ′ d) ∷ [])) (End u)
   exits a ae r u l le n =
       let same : servedIn (now (d .bytes)) (d .signals) (d .states) a ys ≡ found = ap (λ (z : Request). servedIn (now (d .bytes)) (d .signals) (d .states) z ys) ae in
@@ -117,39 +117,40 @@ module _ {M : Type 1} (𝓤 : URA M) (H : Heap 𝓤) (A : Atoms 𝓤) (W : Given
     walk : Room D.the-row (length ys) → Holds (hasTy (T′.mir (named 1)) mach) × WT mach → ent 𝓤 (onEntry 𝓤 H A outer.signature (κ, (κ′, tt)) (q, (q′, tt)) (x, (d, (i, (e, tt)))) args) (WpFn 𝓤 H C Λ code.function (slice-of x ∷ mach ∷ vint w64 i ∷ vint w8 e ∷ []) End)
     walk room wt =
         qed W ((‵ (flft κ q) ⊛ ‵ (flft κ′ q′) ⊛ ‵ ftrue) ∷ ‵ (owns (MutSlice (named 0) κ D.the-row ∷ Held (κ, (κ′, tt)) ∷ usize ∷ u8 ∷ []) (x, (d, (i, (e, tt)))) args) ∷ []) ∵ enter ! C Λ code.function (slice-of x ∷ mach ∷ vint w64 i ∷ vint w8 e ∷ []) _ $
-        alloc1 ! (λ l₀. alloc1 ! (λ l₁. alloc1 ! (λ l₂. alloc1 ! (λ l₃. alloc1 ! (λ l₄. alloc1 ! (λ l₅. alloc1 ! (λ l₆. alloc1 ! (λ l₇. alloc1 ! (λ l₈. alloc1 ! (λ l₉. alloc1 ! (λ l₁₀. alloc0 ! $ params1 ! $
-        pass1 ! (init ! 18 refl (tt, (tt, (record { fits = room .0 }, tt)))) $ pass1 ! (init ! 16 refl wt) $ pass1 ! (init ! 14 refl (tt, record { fits = i-fits })) $ pass1 ! (init ! 12 refl (tt, record { fits = e-fits })) $ pass0 ! $
-        -- [_10; …; _9; …; … _0; …; the tokens; what the parameters own]
-        assigns ! (addr ! (from ! (fld ! refl (hop ! (look-in ! 18 (sub ! 0 refl (whole !))) (stop !))))) (from ! (stop !)) (init ! 10 refl (tt, tt)) $
-        assigns ! (agg ! (and-then ! (load ! (from ! (stop !)) (look ! 10 refl)) (and-then ! (load ! (from ! (fld ! refl (stop !))) (look-in ! 18 (sub ! 1 refl (whole !)))) (no-more !)))) (from ! (stop !)) (init ! 8 refl (tt, (tt, (record { fits = room .0 }, tt)))) $
-        assigns ! (of-opd ! (load ! (from ! (fld ! refl (stop !))) (look-in ! 16 (sub ! 0 refl (whole !))))) (from ! (stop !)) (init ! 6 refl (tt, wt .1 .0)) $
-        assigns ! (of-opd ! (load ! (from ! (fld ! refl (stop !))) (look-in ! 16 (sub ! 1 refl (whole !))))) (from ! (stop !)) (init ! 4 refl (tt, wt .1 .1 .0)) $
-        assigns ! (of-opd ! (load ! (from ! (fld ! refl (stop !))) (look-in ! 16 (sub ! 2 refl (whole !))))) (from ! (stop !)) (init ! 2 refl (tt, wt .1 .1 .1 .0)) $
+        alloc1 ! (λ l₀. alloc1 ! (λ l₁. alloc1 ! (λ l₂. alloc1 ! (λ l₃. alloc1 ! (λ l₄. alloc1 ! (λ l₅. alloc1 ! (λ l₆. alloc1 ! (λ l₇. alloc1 ! (λ l₈. alloc1 ! (λ l₉. alloc1 ! (λ l₁₀. alloc1 ! (λ l₁₁. alloc0 ! $ params1 ! $
+        pass1 ! (init ! 20 refl (tt, (tt, (record { fits = room .0 }, tt)))) $ pass1 ! (init ! 18 refl wt) $ pass1 ! (init ! 16 refl (tt, record { fits = i-fits })) $ pass1 ! (init ! 14 refl (tt, record { fits = e-fits })) $ pass0 ! $
+        -- [_11; …; _10; …; … _0; …; the tokens; what the parameters own]
+        assigns ! (addr ! (from ! (fld ! refl (hop ! (look-in ! 20 (sub ! 0 refl (whole !))) (stop !))))) (from ! (stop !)) (init ! 12 refl (tt, tt)) $
+        assigns ! (agg ! (and-then ! (load ! (from ! (stop !)) (look ! 12 refl)) (and-then ! (load ! (from ! (fld ! refl (stop !))) (look-in ! 20 (sub ! 1 refl (whole !)))) (no-more !)))) (from ! (stop !)) (init ! 10 refl (tt, (tt, (record { fits = room .0 }, tt)))) $
+        assigns ! (of-opd ! (load ! (from ! (fld ! refl (stop !))) (look-in ! 18 (sub ! 0 refl (whole !))))) (from ! (stop !)) (init ! 8 refl (tt, wt .1 .0)) $
+        assigns ! (of-opd ! (load ! (from ! (fld ! refl (stop !))) (look-in ! 18 (sub ! 1 refl (whole !))))) (from ! (stop !)) (init ! 6 refl (tt, wt .1 .1 .0)) $
+        assigns ! (of-opd ! (load ! (from ! (fld ! refl (stop !))) (look-in ! 18 (sub ! 2 refl (whole !))))) (from ! (stop !)) (init ! 4 refl (tt, wt .1 .1 .1 .0)) $
+        assigns ! (of-opd ! (load ! (from ! (fld ! refl (stop !))) (look-in ! 18 (sub ! 3 refl (whole !))))) (from ! (stop !)) (init ! 0 refl (tt, wt .1 .1 .1 .1 .0)) $
         -- the request is made
-        use0 W (raw (Ask 𝓤 H A mem run .pre to-ask)) goes-ask $
-        calls-at ! fm (Ask 𝓤 H A mem run) known-ask to-ask (and-then ! (load ! (from ! (stop !)) (look ! 15 refl)) (and-then ! (load ! (from ! (stop !)) (look ! 13 refl)) (no-more !))) (λ w.
-        use1 W (later (some (λ (a : Request). (‵ ftrue ⊛ ‵ (Q.the-row .own a (w ∷ []))) ⊛ raw (ensured 𝓤 H A ask.ended (ask.clauses 𝓤 H A mem run) tt (i, (e, tt)) tt a)))) (id⊢ 𝓤 _) $ await ! tt $ pick ! (λ a.
-        split ! $ move ! (1 ∷ []) $ use1 W (raw (fact 𝓤 (a ≡ Post i e))) (said-ask a) $ heard ! (a ≡ Post i e) (λ ae. split ! $ drop ! $
+        use0 W (raw (Ask 𝓤 H A mem run .pre to-ask)) (goes-ask (wt .1 .1 .1 .1 .0 .fits)) $
+        calls-at ! fm (Ask 𝓤 H A mem run) known-ask to-ask (and-then ! (load ! (from ! (stop !)) (look ! 1 refl)) (and-then ! (load ! (from ! (stop !)) (look ! 17 refl)) (and-then ! (load ! (from ! (stop !)) (look ! 15 refl)) (no-more !)))) (λ w.
+        use1 W (later (some (λ (a : Request). (‵ ftrue ⊛ ‵ (Q.the-row .own a (w ∷ []))) ⊛ raw (ensured 𝓤 H A ask.ended (ask.clauses 𝓤 H A mem run) tt (d .number, (i, (e, tt))) tt a)))) (id⊢ 𝓤 _) $ await ! tt $ pick ! (λ a.
+        split ! $ move ! (1 ∷ []) $ use1 W (raw (fact 𝓤 (a ≡ Post (d .number) i e))) (said-ask a) $ heard ! (a ≡ Post (d .number) i e) (λ ae. split ! $ drop ! $
         peeks ! Q.the-row (Is Q.the-row) (shows 𝓤 H A Q.the-row) a (w ∷ []) (λ is-a.
-        land ! (from ! (stop !)) (init ! 1 refl (EL.lawful Q.the-type Q′.the-laws 𝓤 H A W tt .typed a _ is-a .0)) $
-        -- [the request's; _10; …; the tokens; what the parameters own]
-        move ! (24 ∷ []) $ fsplit ! $ move ! (1 ∷ []) $ fsplit ! $ move ! (1 ∷ []) $ drop ! $ use1 W (‵ (OwnBytes κ κ′ d) ⊛ ‵ (Own κ κ′ d)) (bytes-out κ κ′ d 𝓤 H A W) $ split ! $
-        -- [the bytes'; the struct's; the desk's; the request's; _10; …; the tokens]
+        land ! (from ! (stop !)) (init ! 3 refl (EL.lawful Q.the-type Q′.the-laws 𝓤 H A W tt .typed a _ is-a .0)) $
+        -- [the request's; _11; …; the tokens; what the parameters own]
+        move ! (26 ∷ []) $ fsplit ! $ move ! (1 ∷ []) $ fsplit ! $ move ! (1 ∷ []) $ drop ! $ use1 W (‵ (OwnBytes κ κ′ d) ⊛ ‵ (Own κ κ′ d)) (bytes-out κ κ′ d 𝓤 H A W) $ split ! $
+        -- [the bytes'; the struct's; the desk's; the request's; _11; …; the tokens]
         nothing ! $ move ! (4 ∷ 0 ∷ []) $ fjoin ! $ owned ! u16 (Is u16) (uint-makes 𝓤 H A W w16) (d .states) _ (refl, wt .1 .1 .1 .0 .fits) $ fjoin ! $ owned ! u8 (Is u8) (uint-makes 𝓤 H A W w8) (d .signals) _ (refl, wt .1 .1 .0 .fits) $ fjoin ! $
-        move ! (1 ∷ 0 ∷ []) $ fjoin ! $ move ! (2 ∷ 0 ∷ []) $ fjoin ! $ move ! (24 ∷ 0 ∷ []) $ use2 W (raw (Serve 𝓤 H A mem run .pre (to-serve x d a 𝓤 H A mem run κ κ′ q q′ w))) (goes-serve x d a 𝓤 H A mem run κ κ′ q q′ w W) $
-        -- [the call's; the struct's; _10; …]
+        move ! (1 ∷ 0 ∷ []) $ fjoin ! $ move ! (2 ∷ 0 ∷ []) $ fjoin ! $ move ! (26 ∷ 0 ∷ []) $ use2 W (raw (Serve 𝓤 H A mem run .pre (to-serve x d a 𝓤 H A mem run κ κ′ q q′ w))) (goes-serve x d a 𝓤 H A mem run κ κ′ q q′ w W) $
+        -- [the call's; the struct's; _11; …]
         calls-at ! fm (Serve 𝓤 H A mem run) known (to-serve x d a 𝓤 H A mem run κ κ′ q q′ w)
-        (and-then ! (load ! (from ! (stop !)) (look ! 10 refl)) (and-then ! (load ! (from ! (stop !)) (look ! 8 refl)) (and-then ! (load ! (from ! (stop !)) (look ! 6 refl)) (and-then ! (load ! (from ! (stop !)) (look ! 4 refl)) (and-then ! (load ! (from ! (stop !)) (look ! 2 refl)) (no-more !)))))) (λ u.
+        (and-then ! (load ! (from ! (stop !)) (look ! 12 refl)) (and-then ! (load ! (from ! (stop !)) (look ! 10 refl)) (and-then ! (load ! (from ! (stop !)) (look ! 8 refl)) (and-then ! (load ! (from ! (stop !)) (look ! 6 refl)) (and-then ! (load ! (from ! (stop !)) (look ! 4 refl)) (no-more !)))))) (λ u.
         use1 W (later (some (λ (r : Served). ((‵ (flft κ q) ⊛ ‵ (flft κ′ q′) ⊛ ‵ ftrue) ⊛ ‵ (S.the-row .own r (u ∷ []))) ⊛ raw (ensured 𝓤 H A serve.ended (serve.clauses 𝓤 H A mem run) (κ, (κ′, tt)) (serving x d a) tt r)))) (id⊢ 𝓤 _) $ await ! tt $ pick ! (λ r.
         split ! $ move ! (1 ∷ []) $ use1 W (some (λ (zs : List Watch × (Unit {0} × (Unit {0} × (Unit {0} × (Unit {0} × Unit {0}))))). ‵ (lasts serve.ended (κ, (κ′, tt)) (serving x d a) zs) ⊛ raw (fact 𝓤 (Served-as x d a r (zs .0))))) (id⊢ 𝓤 _) $ pick ! (λ zs.
         split ! $ move ! (1 ∷ []) $ heard ! (Served-as x d a r (zs .0)) (λ ze. fsplit ! $ fsplit ! $ move ! (1 ∷ []) $ feqL ! (λ m.
         move ! (2 ∷ []) $ split ! $ move ! (1 ∷ []) $ peeks ! S.the-row (Is S.the-row) (shows 𝓤 H A S.the-row) r (u ∷ []) (λ is.
-        -- [the answer's; the tokens; the last list; …; the struct's; _10; …]
-        land ! (from ! (stop !)) (init ! 25 refl (EL.lawful S.the-type S′.the-laws 𝓤 H A W tt .typed r _ is .0)) $
-        returns ! (look ! 25 refl) $ forget ! 5 refl $ forget ! 7 refl $ forget ! 9 refl $ forget ! 11 refl $ forget ! 13 refl $ forget ! 15 refl $ forget ! 17 refl $ forget ! 19 refl $ forget ! 21 refl $ forget ! 23 refl $ forget ! 25 refl $
-        move ! (25 ∷ 26 ∷ []) $ free1 ! $ move ! (23 ∷ 24 ∷ []) $ free1 ! $ move ! (21 ∷ 22 ∷ []) $ free1 ! $ move ! (19 ∷ 20 ∷ []) $ free1 ! $ move ! (17 ∷ 18 ∷ []) $ free1 ! $ move ! (15 ∷ 16 ∷ []) $ free1 ! $
+        -- [the answer's; the tokens; the last list; …; the struct's; _11; …]
+        land ! (from ! (stop !)) (init ! 27 refl (EL.lawful S.the-type S′.the-laws 𝓤 H A W tt .typed r _ is .0)) $
+        returns ! (look ! 27 refl) $ forget ! 5 refl $ forget ! 7 refl $ forget ! 9 refl $ forget ! 11 refl $ forget ! 13 refl $ forget ! 15 refl $ forget ! 17 refl $ forget ! 19 refl $ forget ! 21 refl $ forget ! 23 refl $ forget ! 25 refl $ forget ! 27 refl $
+        move ! (27 ∷ 28 ∷ []) $ free1 ! $ move ! (25 ∷ 26 ∷ []) $ free1 ! $ move ! (23 ∷ 24 ∷ []) $ free1 ! $ move ! (21 ∷ 22 ∷ []) $ free1 ! $ move ! (19 ∷ 20 ∷ []) $ free1 ! $ move ! (17 ∷ 18 ∷ []) $ free1 ! $ move ! (15 ∷ 16 ∷ []) $ free1 ! $
         move ! (13 ∷ 14 ∷ []) $ free1 ! $ move ! (11 ∷ 12 ∷ []) $ free1 ! $ move ! (9 ∷ 10 ∷ []) $ free1 ! $ move ! (7 ∷ 8 ∷ []) $ free1 ! $ move ! (5 ∷ 6 ∷ []) $ free1 ! $ free0 ! $
-        keep ! (0 ∷ 1 ∷ 2 ∷ 4 ∷ []) $ by ! (exits a ae r u (zs .0) ze m))))))))))))))))))))))
+        keep ! (0 ∷ 1 ∷ 2 ∷ 4 ∷ []) $ by ! (exits a ae r u (zs .0) ze m)))))))))))))))))))))))
 
 module _ {M : Type 1} (𝓤 : URA M) (H : Heap 𝓤) (A : Atoms 𝓤) (W : Given 𝓤 H A) (mem : Memory → SProp 𝓤) (run : Routine → Fun 𝓤) where
   post-walks : (C : Calls 𝓤 H) (Λ : Loops 𝓤 H) → FmC 𝓤 H (W .laws) C → Triple 𝓤 (C #desk-tasks·post-request) (Ask 𝓤 H A mem run) → Triple 𝓤 (C #desk·serve) (Serve 𝓤 H A mem run)

@@ -49,19 +49,19 @@ use Rattle.desk.proofs.fresh as fresh
 use Rattle.desk.proofs.fresh.Symbol as fresh-def
 use Rattle.desk.proofs.fresh.Symbol.{name as #desk·fresh}
 use Rattle.desk.proofs.fresh.Met as fresh-thm
-use Rattle.codes.specs.Codes.{servedCode, countsIn, freshAt}
-use Rattle.codes.specs.declared.Counts.{Counts}
-use Rattle.codes.proofs.Counts as R
-use Rattle.codes.proofs.Counts.Laws as R′
-use Rattle.codes.proofs.counts_in as counts
-use Rattle.codes.proofs.counts_in.Symbol as counts-def
-use Rattle.codes.proofs.counts_in.Symbol.{name as #codes·counts-in}
-use Rattle.codes.proofs.counts_in.Met as counts-thm
+use Rattle.codes.specs.Codes.{servedCode, openingIn, freshAt}
+use Rattle.codes.specs.declared.Opening.{Opening}
+use Rattle.codes.proofs.Opening as R
+use Rattle.codes.proofs.Opening.Laws as R′
+use Rattle.codes.proofs.opening_in as opens
+use Rattle.codes.proofs.opening_in.Symbol as opens-def
+use Rattle.codes.proofs.opening_in.Symbol.{name as #codes·opening-in}
+use Rattle.codes.proofs.opening_in.Met as opens-thm
 use Rattle.codes.proofs.served_code as answer
 use Rattle.codes.proofs.served_code.Symbol as answer-def
 use Rattle.codes.proofs.served_code.Symbol.{name as #codes·served-code}
 use Rattle.codes.proofs.served_code.Met as answer-thm
-use Rattle.tefuji.proofs.Steps.{fresh-counts}
+use Rattle.tefuji.proofs.Steps.{fresh-opening}
 use Rattle.tefuji.proofs.tefuji_fresh.Key.{name as #tefuji·tefuji-fresh}
 use Rattle.tefuji.proofs.tefuji_fresh as outer
 use Rattle.tefuji.proofs.tefuji_fresh.Statement as stated
@@ -72,8 +72,8 @@ stayed = (gave-slice (0 ∷ []) tt (plain (λ _. T.the-row)), (stay-none-slice (
 
 module _ {M : Type 1} (𝓤 : URA M) (H : Heap 𝓤) (A : Atoms 𝓤) (mem : Memory → SProp 𝓤) (run : Routine → Fun 𝓤) where
   -- the contracts that the proof cites
-  abbrev Count : Contract 𝓤
-  Count = tripleOf 𝓤 H A counts.signature (counts.spec 𝓤 H A mem run)
+  abbrev Open : Contract 𝓤
+  Open = tripleOf 𝓤 H A opens.signature (opens.spec 𝓤 H A mem run)
 
   abbrev Fresh : Contract 𝓤
   Fresh = tripleOf 𝓤 H A fresh.signature (fresh.spec 𝓤 H A mem run)
@@ -113,36 +113,36 @@ module _ {M : Type 1} (𝓤 : URA M) (H : Heap 𝓤) (A : Atoms 𝓤) (W : Given
   abbrev OwnT : Fml
   OwnT = ShrSlice (named 1) κ′ u8 .own t (vt ∷ [])
 
-  -- the call of `counts_in`
-  abbrev to-count : Count 𝓤 H A mem run .Ghost
-  to-count = ((tt, tt, tt, (n, tt), (vint w64 n ∷ [], tt)), tt)
+  -- the call of `opening_in`
+  abbrev to-open : Open 𝓤 H A mem run .Ghost
+  to-open = ((tt, tt, tt, (n, tt), (vint w64 n ∷ [], tt)), tt)
 
-  goes-count : ent 𝓤 (⋆ 𝓤 H A (‵ ftrue ∷ ‵ (owns (u64 ∷ []) (n, tt) (vint w64 n ∷ [], tt)) ∷ [])) (Count 𝓤 H A mem run .pre to-count)
-  goes-count = qed W (‵ ftrue ∷ ‵ (owns (u64 ∷ []) (n, tt) (vint w64 n ∷ [], tt)) ∷ []) ∵ join ! $ frame ! $ done !
+  goes-open : ent 𝓤 (⋆ 𝓤 H A (‵ ftrue ∷ ‵ (owns (u64 ∷ []) (n, tt) (vint w64 n ∷ [], tt)) ∷ [])) (Open 𝓤 H A mem run .pre to-open)
+  goes-open = qed W (‵ ftrue ∷ ‵ (owns (u64 ∷ []) (n, tt) (vint w64 n ∷ [], tt)) ∷ []) ∵ join ! $ frame ! $ done !
 
-  said-count : (c : Counts) → ent 𝓤 (ensured 𝓤 H A counts.ended (counts.clauses 𝓤 H A mem run) tt (n, tt) tt c) (fact 𝓤 (c ≡ countsIn n))
-  said-count c = exE 𝓤 _ (λ zs. snd∗ 𝓤 (sem 𝓤 H A (lasts counts.ended tt (n, tt) zs)) (fact 𝓤 (c ≡ countsIn n)))
+  said-open : (c : Opening) → ent 𝓤 (ensured 𝓤 H A opens.ended (opens.clauses 𝓤 H A mem run) tt (n, tt) tt c) (fact 𝓤 (c ≡ openingIn n))
+  said-open c = exE 𝓤 _ (λ zs. snd∗ 𝓤 (sem 𝓤 H A (lasts opens.ended tt (n, tt) zs)) (fact 𝓤 (c ≡ openingIn n)))
 
-  -- what making the desk fresh comes to over counts
-  abbrev outcome : Counts → Outcome
-  outcome c = freshIn (now t) (c .signals) (c .states) ys
+  -- what making the desk fresh comes to over an opening
+  abbrev outcome : Opening → Outcome
+  outcome c = freshIn (c .number) (now t) (c .signals) (c .states) ys
 
-  outcome-is : (c : Counts) → c ≡ countsIn n → outcome c ≡ freshAt (now t) n ys
-  outcome-is c ce = ap outcome ce ∙ fresh-counts (now t) ys n
+  outcome-is : (c : Opening) → c ≡ openingIn n → outcome c ≡ freshAt (now t) n ys
+  outcome-is c ce = ap outcome ce ∙ fresh-opening (now t) ys n
 
-  -- the call of `fresh`, with the counts
-  module _ (c : Counts) where
-    abbrev makes : RefT (List Watch) × (RefT (List ℕ) × (ℕ × (ℕ × Unit {0})))
-    makes = (x, (t, (c .signals, (c .states, tt))))
+  -- the call of `fresh`, with the opening
+  module _ (c : Opening) where
+    abbrev makes : RefT (List Watch) × (RefT (List ℕ) × (ℕ × (ℕ × (ℕ × Unit {0}))))
+    makes = (x, (t, (c .signals, (c .states, (c .number, tt)))))
 
     abbrev at-fresh : Vals fresh.signature (κ, (κ′, tt))
-    at-fresh = (s ∷ [], (vt ∷ [], (vint w8 (c .signals) ∷ [], (vint w16 (c .states) ∷ [], tt))))
+    at-fresh = (s ∷ [], (vt ∷ [], (vint w8 (c .signals) ∷ [], (vint w16 (c .states) ∷ [], (vint w16 (c .number) ∷ [], tt)))))
 
     abbrev to-fresh : Fresh 𝓤 H A mem run .Ghost
     to-fresh = (((κ, (κ′, tt)), (q, (q′, tt)), tt, makes, at-fresh), tt)
 
     abbrev asks-fresh : Fml
-    asks-fresh = owns (MutSlice (named 0) κ T.the-row ∷ ShrSlice (named 1) κ′ u8 ∷ u8 ∷ u16 ∷ []) makes at-fresh
+    asks-fresh = owns (MutSlice (named 0) κ T.the-row ∷ ShrSlice (named 1) κ′ u8 ∷ u8 ∷ u16 ∷ u16 ∷ []) makes at-fresh
 
     goes-fresh : ent 𝓤 (⋆ 𝓤 H A (Alive ∷ ‵ asks-fresh ∷ [])) (Fresh 𝓤 H A mem run .pre to-fresh)
     goes-fresh = qed W (Alive ∷ ‵ asks-fresh ∷ []) ∵ join ! $ frame ! $ done !
@@ -165,7 +165,7 @@ module _ {M : Type 1} (𝓤 : URA M) (H : Heap 𝓤) (A : Atoms 𝓤) (W : Given
       nothing ! $ owned ! u64 (Is u64) (uint-makes 𝓤 H A W w64) n _ (refl, n-fits) $ fjoin ! $
       move ! (2 ∷ 0 ∷ []) $ fjoin ! $ move ! (1 ∷ 0 ∷ []) $ fjoin ! $ frame ! $ owned ! u64 (Is u64) (uint-makes 𝓤 H A W w64) r _ is $ done !
 
-  module _ (C : Calls 𝓤 H) (Λ : Loops 𝓤 H) (fm : FmC 𝓤 H (W .laws) C) (known-count : Triple 𝓤 (C #codes·counts-in) (Count 𝓤 H A mem run))
+  module _ (C : Calls 𝓤 H) (Λ : Loops 𝓤 H) (fm : FmC 𝓤 H (W .laws) C) (known-open : Triple 𝓤 (C #codes·opening-in) (Open 𝓤 H A mem run))
       (known-fresh : Triple 𝓤 (C #desk·fresh) (Fresh 𝓤 H A mem run)) (known : Triple 𝓤 (C #codes·served-code) (Answer 𝓤 H A mem run)) where
     walk : Room T.the-row (length ys) → Is (ShrSlice (named 1) κ′ u8) t (vt ∷ []) → ent 𝓤 (onEntry 𝓤 H A outer.signature (κ, (κ′, tt)) (q, (q′, tt)) args at) (WpFn 𝓤 H C Λ code.function (s ∷ vt ∷ vint w64 n ∷ []) Post)
     walk gn is-t =
@@ -174,12 +174,12 @@ module _ {M : Type 1} (𝓤 : URA M) (H : Heap 𝓤) (A : Atoms 𝓤) (W : Given
         pass1 ! (init ! 12 refl (tt, (tt, (record { fits = gn .0 }, tt)))) $ pass1 ! (init ! 10 refl (shr-slice-lawful 𝓤 H A W (named 1) κ′ u8 .typed t (vt ∷ []) is-t .0)) $
         pass1 ! (init ! 8 refl (tt, record { fits = n-fits })) $ pass0 ! $
         -- [_7; …; _6; …; … _0; …; the tokens; what the parameters own]
-        nothing ! $ owned ! u64 (Is u64) (uint-makes 𝓤 H A W w64) n _ (refl, n-fits) $ fjoin ! $ nothing ! $ use2 W (raw (Count 𝓤 H A mem run .pre to-count)) goes-count $
-        calls-at ! fm (Count 𝓤 H A mem run) known-count to-count (and-then ! (load ! (from ! (stop !)) (look ! 9 refl)) (no-more !)) (λ u.
-        use1 W (later (some (λ (c : Counts). (‵ ftrue ⊛ ‵ (R.the-row .own c (u ∷ []))) ⊛ raw (ensured 𝓤 H A counts.ended (counts.clauses 𝓤 H A mem run) tt (n, tt) tt c)))) (id⊢ 𝓤 _) $ await ! tt $ pick ! (λ c.
-        split ! $ move ! (1 ∷ []) $ use1 W (raw (fact 𝓤 (c ≡ countsIn n))) (said-count c) $ heard ! (c ≡ countsIn n) (λ ce. split ! $ drop ! $
+        nothing ! $ owned ! u64 (Is u64) (uint-makes 𝓤 H A W w64) n _ (refl, n-fits) $ fjoin ! $ nothing ! $ use2 W (raw (Open 𝓤 H A mem run .pre to-open)) goes-open $
+        calls-at ! fm (Open 𝓤 H A mem run) known-open to-open (and-then ! (load ! (from ! (stop !)) (look ! 9 refl)) (no-more !)) (λ u.
+        use1 W (later (some (λ (c : Opening). (‵ ftrue ⊛ ‵ (R.the-row .own c (u ∷ []))) ⊛ raw (ensured 𝓤 H A opens.ended (opens.clauses 𝓤 H A mem run) tt (n, tt) tt c)))) (id⊢ 𝓤 _) $ await ! tt $ pick ! (λ c.
+        split ! $ move ! (1 ∷ []) $ use1 W (raw (fact 𝓤 (c ≡ openingIn n))) (said-open c) $ heard ! (c ≡ openingIn n) (λ ce. split ! $ drop ! $
         peeks ! R.the-row (Is R.the-row) (shows 𝓤 H A R.the-row) c (u ∷ []) (λ is-c.
-        -- [the counts'; _7; …]
+        -- [the opening's; _7; …]
         land ! (from ! (stop !)) (init ! 7 refl (LL.lawful R.the-type R′.the-laws 𝓤 H A W .typed c _ is-c .0)) $
         rewrite ! 7 (λ (z : Val). ‵ (fat fullShare R′.mir l₄ 0 z)) (ap (first-of u) (LL.tells R.the-type R′.the-laws c (u ∷ []) is-c)) refl $ drop ! $
         let fs = LL.owed R.the-type R′.the-laws c _ is-c in
@@ -189,15 +189,15 @@ module _ {M : Type 1} (𝓤 : URA M) (H : Heap 𝓤) (A : Atoms 𝓤) (W : Given
         move ! (17 ∷ []) $ fsplit ! $ move ! (1 ∷ []) $ fsplit ! $ move ! (1 ∷ []) $ drop ! $
         use1 W (‵ OwnT ⊛ ‵ OwnT) (shr-slice-copy 𝓤 H A W (named 1) κ′ u8 .twice t (vt ∷ [])) $ split ! $
         -- [the bytes'; the bytes'; the desk's; _7; …; … _0; …; the tokens]
-        nothing ! $ owned ! u16 (Is u16) (uint-makes 𝓤 H A W w16) (c .states) _ (refl, fs .1 .0 .1) $ fjoin ! $ owned ! u8 (Is u8) (uint-makes 𝓤 H A W w8) (c .signals) _ (refl, fs .0 .1) $ fjoin ! $
+        nothing ! $ owned ! u16 (Is u16) (uint-makes 𝓤 H A W w16) (c .number) _ (refl, fs .0 .1) $ fjoin ! $ owned ! u16 (Is u16) (uint-makes 𝓤 H A W w16) (c .states) _ (refl, fs .1 .1 .0 .1) $ fjoin ! $ owned ! u8 (Is u8) (uint-makes 𝓤 H A W w8) (c .signals) _ (refl, fs .1 .0 .1) $ fjoin ! $
         move ! (1 ∷ 0 ∷ []) $ fjoin ! $ move ! (2 ∷ 0 ∷ []) $ fjoin ! $ move ! (18 ∷ 0 ∷ []) $ use2 W (raw (Fresh 𝓤 H A mem run .pre (to-fresh c))) (goes-fresh c) $
         -- [the call's; the bytes'; _7; …]
         calls-at ! fm (Fresh 𝓤 H A mem run) known-fresh (to-fresh c)
         (and-then ! (load ! (from ! (stop !)) (look ! 2 refl)) (and-then ! (load ! (from ! (stop !)) (look ! 12 refl))
-        (and-then ! (load ! (from ! (fld ! {τ = tyInt w8} {d = 0} refl (stop !))) (look-in ! 8 {τ = tyInt w8} (sub ! 0 {τ = tyInt w8} {d = 0} refl (whole !))))
-        (and-then ! (load ! (from ! (fld ! {τ = tyInt w16} {d = 2} refl (stop !))) (look-in ! 8 {τ = tyInt w16} (sub ! 1 {τ = tyInt w16} {d = 2} refl (whole !)))) (no-more !))))) (λ w.
+        (and-then ! (load ! (from ! (fld ! {τ = tyInt w8} {d = 2} refl (stop !))) (look-in ! 8 {τ = tyInt w8} (sub ! 1 {τ = tyInt w8} {d = 2} refl (whole !))))
+        (and-then ! (load ! (from ! (fld ! {τ = tyInt w16} {d = 4} refl (stop !))) (look-in ! 8 {τ = tyInt w16} (sub ! 2 {τ = tyInt w16} {d = 4} refl (whole !)))) (and-then ! (load ! (from ! (fld ! {τ = tyInt w16} {d = 0} refl (stop !))) (look-in ! 8 {τ = tyInt w16} (sub ! 0 {τ = tyInt w16} {d = 0} refl (whole !)))) (no-more !)))))) (λ w.
         use1 W (later (some (λ (z : Served). (Alive ⊛ ‵ (S.the-row .own z (w ∷ []))) ⊛ raw (ensured 𝓤 H A fresh.ended (fresh.clauses 𝓤 H A mem run) (κ, (κ′, tt)) (makes c) tt z)))) (id⊢ 𝓤 _) $ await ! tt $ pick ! (λ z.
-        split ! $ move ! (1 ∷ []) $ use1 W (some (λ (zs : List Watch × (Unit {0} × (Unit {0} × (Unit {0} × Unit {0})))). ‵ (lasts fresh.ended (κ, (κ′, tt)) (makes c) zs) ⊛ raw (fact 𝓤 ((z ≡ outcome c .answer) × (zs .0 ≡ outcome c .desk))))) (id⊢ 𝓤 _) $ pick ! (λ zs.
+        split ! $ move ! (1 ∷ []) $ use1 W (some (λ (zs : List Watch × (Unit {0} × (Unit {0} × (Unit {0} × (Unit {0} × Unit {0}))))). ‵ (lasts fresh.ended (κ, (κ′, tt)) (makes c) zs) ⊛ raw (fact 𝓤 ((z ≡ outcome c .answer) × (zs .0 ≡ outcome c .desk))))) (id⊢ 𝓤 _) $ pick ! (λ zs.
         split ! $ move ! (1 ∷ []) $ heard ! ((z ≡ outcome c .answer) × (zs .0 ≡ outcome c .desk)) (λ ze. fsplit ! $ fsplit ! $ move ! (1 ∷ []) $ feqL ! (λ len.
         move ! (2 ∷ []) $ split ! $ move ! (1 ∷ []) $ peeks ! S.the-row (Is S.the-row) (shows 𝓤 H A S.the-row) z (w ∷ []) (λ is-z.
         -- [the answer's; the tokens; the last list; …; the bytes'; _7; …]
@@ -216,19 +216,19 @@ module _ {M : Type 1} (𝓤 : URA M) (H : Heap 𝓤) (A : Atoms 𝓤) (W : Given
         keep ! (1 ∷ 2 ∷ 4 ∷ []) $ by ! (exits r m is-r (re ∙ ap servedCode (ze .0 ∙ ap (λ (f : Outcome). f .answer) so)) (zs .0) (ze .1 ∙ ap (λ (f : Outcome). f .desk) so) len)))))))))))))))))))))))
 
 module _ {M : Type 1} (𝓤 : URA M) (H : Heap 𝓤) (A : Atoms 𝓤) (W : Given 𝓤 H A) (mem : Memory → SProp 𝓤) (run : Routine → Fun 𝓤) where
-  fresh-walks : (C : Calls 𝓤 H) (Λ : Loops 𝓤 H) → FmC 𝓤 H (W .laws) C → Triple 𝓤 (C #codes·counts-in) (Count 𝓤 H A mem run) → Triple 𝓤 (C #desk·fresh) (Fresh 𝓤 H A mem run) → Triple 𝓤 (C #codes·served-code) (Answer 𝓤 H A mem run)
+  fresh-walks : (C : Calls 𝓤 H) (Λ : Loops 𝓤 H) → FmC 𝓤 H (W .laws) C → Triple 𝓤 (C #codes·opening-in) (Open 𝓤 H A mem run) → Triple 𝓤 (C #desk·fresh) (Fresh 𝓤 H A mem run) → Triple 𝓤 (C #codes·served-code) (Answer 𝓤 H A mem run)
       → Walks 𝓤 H A outer.ended stayed (WpFn 𝓤 H C Λ code.function) (outer.clauses 𝓤 H A mem run)
-  fresh-walks C Λ fm known-count known-fresh known = walked 𝓤 H A outer.ended stayed (outer.clauses 𝓤 H A mem run) (WpFn 𝓤 H C Λ code.function)
+  fresh-walks C Λ fm known-open known-fresh known = walked 𝓤 H A outer.ended stayed (outer.clauses 𝓤 H A mem run) (WpFn 𝓤 H C Λ code.function)
       (λ κs. (slice-vals, (slice-vals, (uint-vals w64, tt)))) (λ κs. (mut-slice-tells (named 0) (κs .0) T.the-row, (shr-slice-tells (named 1) (κs .1 .0) u8, (uint-tells w64, tt))))
       (λ κs qs bounds a g are. via 𝓤 _ (fst∗ 𝓤 _ (emp 𝓤)) (walk 𝓤 H A W mem run (κs .0) (κs .1 .0) (qs .0) (qs .1 .0) bounds (a .0 .ptr .0) (a .0 .ptr .1) (a .0 .name) (a .0 .now) (a .1 .0) (a .1 .1 .0)
-      (are .1 .1 .0 .1) C Λ fm known-count known-fresh known (are .0 .0 .1) (are .1 .0)))
+      (are .1 .1 .0 .1) C Λ fm known-open known-fresh known (are .0 .0 .1) (are .1 .0)))
 
 fresh-meets : {M : Type 1} (𝓤 : URA M) (H : Heap 𝓤) (A : Atoms 𝓤) (W : Given 𝓤 H A) (mem : Memory → SProp 𝓤) (run : Routine → Fun 𝓤) (𝓣 : Tables 𝓤 H)
-    → Triple 𝓤 (𝓣 .C #codes·counts-in) (Count 𝓤 H A mem run) → Triple 𝓤 (𝓣 .C #desk·fresh) (Fresh 𝓤 H A mem run) → Triple 𝓤 (𝓣 .C #codes·served-code) (Answer 𝓤 H A mem run)
+    → Triple 𝓤 (𝓣 .C #codes·opening-in) (Open 𝓤 H A mem run) → Triple 𝓤 (𝓣 .C #desk·fresh) (Fresh 𝓤 H A mem run) → Triple 𝓤 (𝓣 .C #codes·served-code) (Answer 𝓤 H A mem run)
     → Meets 𝓤 H A outer.signature (WpFn 𝓤 H (𝓣 .C) (𝓣 .Λ) code.function) (outer.spec 𝓤 H A mem run)
-fresh-meets 𝓤 H A W mem run 𝓣 known-count known-fresh known = walk-meets 𝓤 H A outer.ended stayed W
+fresh-meets 𝓤 H A W mem run 𝓣 known-open known-fresh known = walk-meets 𝓤 H A outer.ended stayed W
     (goes-gave-slice 𝓤 H A W 2 0 tt (plain (λ _. T.the-row)), (goes-none-slice 𝓤 H A W 2 (1 ∷ []) tt (plain (λ _. u8)) yes, (goes-none 𝓤 H A W 2 (λ _. u64) yes (λ κs x f. refl), tt))) (outer.clauses 𝓤 H A mem run)
-    (WpFn 𝓤 H (𝓣 .C) (𝓣 .Λ) code.function) (WpFn-mono 𝓤 H (W .laws) 𝓣 code.function) (fresh-walks 𝓤 H A W mem run (𝓣 .C) (𝓣 .Λ) (fmOf 𝓤 H (W .laws) 𝓣) known-count known-fresh known)
+    (WpFn 𝓤 H (𝓣 .C) (𝓣 .Λ) code.function) (WpFn-mono 𝓤 H (W .laws) 𝓣 code.function) (fresh-walks 𝓤 H A W mem run (𝓣 .C) (𝓣 .Λ) (fmOf 𝓤 H (W .laws) 𝓣) known-open known-fresh known)
 
 pub tefuji-fresh-spec : {M : Type 1} → stated.statement M
 unfolding code.routine tablesOf
@@ -236,6 +236,6 @@ tefuji-fresh-spec 𝓤 H 𝓜 𝓖 𝓡 =
     entered 𝓤 H (tripleOf 𝓤 H (𝓖 .A) outer.signature (outer.spec 𝓤 H (𝓖 .A) (𝓜 .mem) (𝓡 .run)))
     (tables 𝓤 H 𝓜 𝓡 code.env .C) (tables 𝓤 H 𝓜 𝓡 code.env .Λ) #tefuji·tefuji-fresh code.function (code.unfolded 𝓤 H 𝓜 𝓡)
     (fresh-meets 𝓤 H (𝓖 .A) (givenOf 𝓤 H 𝓜 𝓖) (𝓜 .mem) (𝓡 .run) (tablesOf 𝓤 H 𝓜 (tables 𝓤 H 𝓜 𝓡 code.env))
-    (cited 𝓤 H (Count 𝓤 H (𝓖 .A) (𝓜 .mem) (𝓡 .run)) 𝓜 𝓡 code.env #codes·counts-in counts-def.routine code.calls-codes·counts-in (counts-thm.met 𝓤 H 𝓜 𝓖 𝓡))
+    (cited 𝓤 H (Open 𝓤 H (𝓖 .A) (𝓜 .mem) (𝓡 .run)) 𝓜 𝓡 code.env #codes·opening-in opens-def.routine code.calls-codes·opening-in (opens-thm.met 𝓤 H 𝓜 𝓖 𝓡))
     (cited 𝓤 H (Fresh 𝓤 H (𝓖 .A) (𝓜 .mem) (𝓡 .run)) 𝓜 𝓡 code.env #desk·fresh fresh-def.routine code.calls-desk·fresh (fresh-thm.met 𝓤 H 𝓜 𝓖 𝓡))
     (cited 𝓤 H (Answer 𝓤 H (𝓖 .A) (𝓜 .mem) (𝓡 .run)) 𝓜 𝓡 code.env #codes·served-code answer-def.routine code.calls-codes·served-code (answer-thm.met 𝓤 H 𝓜 𝓖 𝓡)))

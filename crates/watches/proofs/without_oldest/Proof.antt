@@ -15,23 +15,23 @@ moved-up-requires c κs = search needs
 fills-at-requires : tie.Need-fills-at-requires
 fills-at-requires c κs = search needs
 
+filled-if-requires : tie.Need-filled-if-requires
+filled-if-requires c κs = search needs
+
 number-if-requires : tie.Need-number-if-requires
 number-if-requires c κs = search needs
-
-number-if-requires-2 : tie.Need-number-if-requires-2
-number-if-requires-2 c κs = search needs
 
 returns : tie.Need-returns
 returns c =
     let fill = c .before .before in
     let up = fill .before in
     rw (
-      c .number-if2 .ensures,
-      c .before .number-if .ensures,
+      c .number-if .ensures,
+      c .before .filled-if .ensures,
       fill .fills-at .ensures,
       up .moved-up .ensures,
       up .before .before .one-less .ensures,
     )
 
 pub without-oldest-spec : {M : Type 1} → statement M
-without-oldest-spec = tie.close (tie.spec add-heard one-less-requires moved-up-requires fills-at-requires number-if-requires number-if-requires-2 returns)
+without-oldest-spec = tie.close (tie.spec add-heard one-less-requires moved-up-requires fills-at-requires filled-if-requires number-if-requires returns)

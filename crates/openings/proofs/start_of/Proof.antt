@@ -1,0 +1,10 @@
+-- `openings::start_of` meets its contract.
+use mathlib.Core.Path.{refl}
+use Rattle.openings.proofs.start_of.Statement.{statement}
+use Rattle.openings.proofs.start_of.Tie as tie
+
+returns : tie.Need-returns
+returns c = refl
+
+pub start-of-spec : {M : Type 1} → statement M
+start-of-spec = tie.close (tie.spec returns)
