@@ -6,7 +6,7 @@ use mathlib.Core.Bool.{Bool, true, false, cond, not}
 use Prim.Native.Nat.{ℕ, zero, suc, _+_, _≤_, _<_}
 use native.Mathlib.Omega.{arith}
 use lib.ListN.{length, take, getD}
-use borrow.Author.Tests.{lt-ltb, le-ltb}
+use borrow.Author.Tests.{lt-ltb, le-ltb, eq-eqb}
 use Rattle.sequences.proofs.Loops.{least-is}
 use Rattle.meaning.specs.Traces.{Alphabet, isEvent, Word}
 use Rattle.meaning.specs.Verdicts.{Property, Judged}
@@ -14,12 +14,15 @@ use Rattle.meaning.specs.Monitors.{Monitor, follow, shows}
 use Rattle.meaning.specs.RuleFiles.{alphabetOf, propertyOf}
 use Rattle.meaning.specs.TableFiles.{isTable, alphabetIn, signalsIn, statesIn, successor, monitorOf}
 use Rattle.meaning.specs.Runs.{decides, decidedFrom, endOf, firstBad, ranOf, runOf}
+use Rattle.meaning.specs.Openings.{Opening, stateOf, carried, ownRun, runFrom}
 use Rattle.meaning.specs.declared.Verdict.{Verdict}
 use Rattle.meaning.specs.declared.Verdict.the-variants.{Undecided, Satisfied, Violated, Moot}
 use Rattle.meaning.specs.declared.Decided.{Decided}
 use Rattle.meaning.specs.declared.Decided.the-variants.{After, Never}
+use Rattle.meaning.specs.declared.Refusal.the-variants.{WrongTable, WrongOpening}
 use Rattle.meaning.specs.declared.Ran.{Ran}
 use Rattle.meaning.specs.declared.Ran.the-variants.{Ended}
+use Rattle.meaning.specs.declared.Arrived.the-variants as Arrived
 use Rattle.table_layout.proofs.Form.{event-test, test-event, table-header, states-some, table-inside}
 use Rattle.building.specs.Build.{BuiltRight}
 use Rattle.building.specs.Running.{CountRight, RunRight, StepRight, stepsFrom, steps}
@@ -137,6 +140,16 @@ module _ (t : List ℕ) (form : isTable t ≡ true) where
       let q = word-run s (e ∷ []) l (a .0, tt) in
       let h = steps-end (successor t (signalsIn t) s e) (decidedFrom (monitorOf t) 0 s (e ∷ [])) es (table-inside t form s e l (a .0)) (a .1) in
       (h .0, ap (λ (r : Ran). stepsFrom t r es) q ∙ h .1)
+
+-- ---- an opening
+
+-- from a state that carries the opening's number, whichever opening gave it, a run is that of the table at hand
+pub own-run : (o : Opening) → isTable (o .table) ≡ true → (s : ℕ) (es : List ℕ) → runFrom o (stateOf (o .number) s) es ≡ carried (o .number) (runOf (o .table) s es)
+own-run o form s es =
+    ap (λ (b : Bool). cond b (ownRun (o .number) (stateOf (o .number) s) (runOf (o .table) s es)) (Arrived.Refused WrongTable)) form
+    ∙ ap (λ (b : Bool). cond b (carried (o .number) (runOf (o .table) s es)) (Arrived.Refused (WrongOpening 0))) (eq-eqb (o .number) (o .number) refl)
+
+-- ---- stepping through a list
 
 -- the third theorem: stepping event by event is never refused, and after every list the last step shows demand 2's verdict
 pub built-steps : (file table : List ℕ) (b : BuiltRight file table) (es : List ℕ) → Word (alphabetOf (b .rule)) es

@@ -18,6 +18,7 @@ use Rattle.meaning.specs.TableFiles.{isTable, alphabetIn, signalsIn, statesIn, 
 use Rattle.meaning.specs.Runs.{runOf}
 use Rattle.meaning.specs.RuleFiles.{firstOf}
 use Rattle.meaning.specs.Refusals.{codeOf}
+use Rattle.meaning.specs.Openings.{Opening, stateOf}
 use Rattle.meaning.specs.Desks.{Outcome, counted, watchAt, refused, withEvent, oldest, withoutOldest, after, passed, heardBy, postBy, postOf, turnBy, turnOf}
 use Rattle.meaning.specs.declared.Refusal.{Refusal}
 use Rattle.meaning.specs.declared.Refusal.the-variants.{WrongEvent, WrongNumber, QueueFull, CountFull}
@@ -27,26 +28,26 @@ use Rattle.meaning.specs.declared.Served.the-variants as Served
 use Rattle.table_layout.proofs.Form.{test-event}
 use Rattle.building.proofs.Running.{word-run}
 use Rattle.rounds.proofs.Rounds.{after-in}
-use Rattle.desk_histories.proofs.Rows.{Good, oldest-event, row-fits, none-wrong}
+use Rattle.desk_histories.proofs.Rows.{Good, oldest-event, row-fits, none-foreign, none-wrong}
 
-module _ (t : List ℕ) where
+module _ (o : Opening) where
   abbrev pub Σ : Alphabet
-  Σ = alphabetIn t (signalsIn t)
+  Σ = alphabetIn (o .table) (signalsIn (o .table))
 
   abbrev pub S : ℕ
-  S = statesIn t
+  S = statesIn (o .table)
 
   -- a row of n watches that fit the table
   abbrev pub Fine : ℕ → List Watch → Type 0
-  Fine n d = Good Σ S n d
+  Fine n d = Good (o .number) Σ S n d
 
   -- where the oldest event of a watch leads it
   abbrev pub next : Watch → ℕ
-  next w = successor t (signalsIn t) (w .state) (oldest w)
+  next w = successor (o .table) (signalsIn (o .table)) (w .state) (oldest w)
 
   -- the verdict there, and the watch that has heard it
   abbrev pub shown : Watch → Verdict
-  shown w = monitorOf t .verdict (next w)
+  shown w = monitorOf (o .table) .verdict (next w)
 
   abbrev pub later : Watch → Watch
   later w = withoutOldest w (next w) (shown w)
@@ -58,12 +59,12 @@ module _ (t : List ℕ) where
       pub event : Event Σ e
       pub room : watchAt d j .waiting < 32
       pub counts : counted (watchAt d j) < 4294967295
-      pub is : postOf t d j e ≡ record { answer = Served.Done; desk = set d j (withEvent (watchAt d j) e) }
+      pub is : postOf o d j e ≡ record { answer = Served.Done; desk = set d j (withEvent (watchAt d j) e) }
 
     pub record Denied (j e : ℕ) : Type 0 where
       pub why : Refusal
       pub number : (codeOf why .0 ≡ 19) ⊎ (codeOf why .0 ≡ 12) ⊎ (codeOf why .0 ≡ 20) ⊎ (codeOf why .0 ≡ 21)
-      pub is : postOf t d j e ≡ refused d why
+      pub is : postOf o d j e ≡ refused d why
 
     -- ---- a turn that takes l
     module _ (l : ℕ) where
@@ -79,19 +80,19 @@ module _ (t : List ℕ) where
         pub there : number ≡ after n l passes
         pub inside : number < n
         pub waits : 1 ≤ watchAt d number .waiting
-        pub is : turnOf t d l
-            ≡ record { answer = Served.Heard number (oldest (watchAt d number)) (next (watchAt d number)) (shown (watchAt d number)); desk = set d number (later (watchAt d number)) }
+        pub is : turnOf o d l
+            ≡ record { answer = Served.Heard number (oldest (watchAt d number)) (stateOf (o .number) (next (watchAt d number))) (shown (watchAt d number)); desk = set d number (later (watchAt d number)) }
 
       pub record Silent : Type 0 where
         pub before : Silence n
-        pub is : turnOf t d l ≡ record { answer = Served.NoneWaits l; desk = d }
+        pub is : turnOf o d l ≡ record { answer = Served.NoneWaits l; desk = d }
 
-  module _ (form : isTable t ≡ true) (n : ℕ) (some : 1 ≤ n) (few : n ≤ 64) (d : List Watch) (g : Fine n d) where
+  module _ (form : isTable (o .table) ≡ true) (n : ℕ) (some : 1 ≤ n) (few : n ≤ 64) (d : List Watch) (g : Fine n d) where
     abbrev done : ℕ → ℕ → Outcome
     done j e = record { answer = Served.Done; desk = set d j (withEvent (watchAt d j) e) }
 
     -- the tests of the table and of the desk pass, and the other four are left
-    post-checked : (j e : ℕ) → postOf t d j e
+    post-checked : (j e : ℕ) → postOf o d j e
         ≡ firstOf (refused d)
         ((leb (length d) j, WrongNumber j)
         ∷ (not (isEvent Σ e), WrongEvent j)
@@ -100,7 +101,7 @@ module _ (t : List ℕ) where
         ∷ [])
         (done j e)
     unfolding postBy postOf
-    post-checked j e = rw (form, row-fits Σ S n d g some few, none-wrong Σ S n d g, le-ltb (length d) (length d) (omega arith))
+    post-checked j e = rw (form, row-fits (o .number) Σ S n d g some few, none-foreign (o .number) Σ S n d g, none-wrong (o .number) Σ S n d g, le-ltb (length d) (length d) (omega arith))
 
     pub posted : (j e : ℕ) → Added n d j e ⊎ Denied n d j e
     posted j e = go (leb (length d) j) (isEvent Σ e) (leb 32 (watchAt d j .waiting)) (eqb (counted (watchAt d j)) 4294967295) refl refl refl refl
@@ -125,10 +126,10 @@ module _ (t : List ℕ) where
       abbrev at : ℕ
       at = after (length d) l (passed d l)
 
-      turn-checked : turnOf t d l
-          ≡ cond (ltb (passed d l) (length d)) (heardBy d at (runOf t (watchAt d at .state) (oldest (watchAt d at) ∷ []))) (record { answer = Served.NoneWaits l; desk = d })
+      turn-checked : turnOf o d l
+          ≡ cond (ltb (passed d l) (length d)) (heardBy (o .number) d at (runOf (o .table) (watchAt d at .state) (oldest (watchAt d at) ∷ []))) (record { answer = Served.NoneWaits l; desk = d })
       unfolding turnBy turnOf
-      turn-checked = rw (form, row-fits Σ S n d g some few, none-wrong Σ S n d g, le-ltb (length d) (length d) (omega arith))
+      turn-checked = rw (form, row-fits (o .number) Σ S n d g some few, none-foreign (o .number) Σ S n d g, none-wrong (o .number) Σ S n d g, le-ltb (length d) (length d) (omega arith))
 
       least : Least (length d) (λ k. leb 1 (watchAt d (after (length d) l k) .waiting)) (passed d l)
       least = least-below (length d) (λ k. leb 1 (watchAt d (after (length d) l k) .waiting))
@@ -152,7 +153,7 @@ module _ (t : List ℕ) where
               let w : 1 ≤ watchAt d at .waiting = leb-true 1 (watchAt d at .waiting) (least .here h) in
               let i : at < n = subst (λ (j : ℕ). j < n) (sym (same-after (passed d l))) (after-in n some l (passed d l)) in
               let f = g .fits at i in
-              let e : Event Σ (oldest (watchAt d at)) = oldest-event Σ S (watchAt d at) f w in
+              let e : Event Σ (oldest (watchAt d at)) = oldest-event (o .number) Σ S (watchAt d at) f w in
               inl (record {
                 passes = passed d l;
                 number = at;
@@ -161,6 +162,6 @@ module _ (t : List ℕ) where
                 there = same-after (passed d l);
                 inside = i;
                 waits = w;
-                is = turn-checked ∙ rw q (ap (heardBy d at) (word-run t form (watchAt d at .state) (oldest (watchAt d at) ∷ []) (f .inside) (e, tt)));
+                is = turn-checked ∙ rw q (ap (heardBy (o .number) d at) (word-run (o .table) form (watchAt d at .state) (oldest (watchAt d at) ∷ []) (f .inside) (e, tt)));
               })
           go false q = inr (record { before = silence n (omega (arith, ltb-false (passed d l) (length d) q, g .size)); is = turn-checked ∙ rw q })

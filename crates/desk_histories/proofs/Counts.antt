@@ -61,9 +61,9 @@ module _ (m : Monitor) where
     pub count : w .heard ≡ length es
     pub first : firstStood w ≡ decidedFrom m 0 0 es
 
-  pub heard-fresh : Heard (freshWatch (m .verdict 0)) []
+  pub heard-fresh : (n : ℕ) → Heard (freshWatch n (m .verdict 0)) []
   unfolding decidedFrom
-  heard-fresh = record { state = refl; count = refl; first = go (decides (m .verdict 0)) }
+  heard-fresh n = record { state = refl; count = refl; first = go (decides (m .verdict 0)) }
     where
       go : (b : Bool) → cond (eqb (cond b 1 0) 0) Never (After 0) ≡ cond b (After 0) Never
       go true = refl

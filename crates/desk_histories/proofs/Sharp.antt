@@ -10,6 +10,7 @@ use lib.ListN.{length, replicate}
 use Rattle.sequences.specs.Tabulate.{upTo}
 use Rattle.meaning.specs.TableFiles.{isTable, monitorOf}
 use Rattle.meaning.specs.Runs.{decidedFrom}
+use Rattle.meaning.specs.Openings.{Opening}
 use Rattle.meaning.specs.Desks.{watchAt, postBy, postOf, turnBy, turnOf}
 use Rattle.meaning.specs.Histories.{Action, Post, Turn, Standing, begun, reached, heard, turns}
 use Rattle.meaning.specs.declared.Verdict.the-variants.{Undecided}
@@ -20,16 +21,20 @@ use Rattle.desk_histories.specs.Laws.{FilledWhile}
 abbrev pub table : List ℕ
 table = 5 ∷ 0 ∷ 0 ∷ 2 ∷ 1 ∷ 1 ∷ 0 ∷ 7 ∷ 0 ∷ 1 ∷ 2 ∷ 0 ∷ 0 ∷ 0 ∷ 0 ∷ 0 ∷ []
 
+-- opened with a number
+abbrev pub opening : List ℕ → Opening
+opening t = record { table = t; number = 4660 }
+
 -- a desk of n watches, where event 1 was posted to each and the first counts as heard last
 abbrev pub posted : ℕ → Standing
-posted n = reached table (begun table n 0) (map (λ i. Post i 1) (upTo n))
+posted n = reached (opening table) (begun (opening table) n 0) (map (λ i. Post i 1) (upTo n))
 
 -- and within k turns the first is not heard
 pub record Unheard (n k : ℕ) : Type 0 where
   pub form : isTable table ≡ true
   pub waits : watchAt (posted n .desk) 0 .waiting ≡ 1
   pub many : turns (replicate k Turn) ≡ k
-  pub none : heard table (posted n) 0 (replicate k Turn) ≡ []
+  pub none : heard (opening table) (posted n) 0 (replicate k Turn) ≡ []
 
 pub three : Unheard 3 2
 unfolding isTable decidedFrom postBy postOf turnBy turnOf
@@ -41,7 +46,7 @@ sixty-four = record { form = refl; waits = refl; many = refl; none = refl }
 
 -- so what `in-time` says of n turns is false of k
 pub no-sooner : (n k : ℕ) → Unheard n k
-    → ¬ ((g : List Action) → 1 ≤ watchAt (posted n .desk) 0 .waiting → k ≤ turns g → 1 ≤ length (heard table (posted n) 0 g))
+    → ¬ ((g : List Action) → 1 ≤ watchAt (posted n .desk) 0 .waiting → k ≤ turns g → 1 ≤ length (heard (opening table) (posted n) 0 g))
 no-sooner n k u f = omega (arith, ap length (u .none), f (replicate k Turn) (omega (arith, u .waits)) (omega (arith, u .many)))
 
 -- ---- a verdict that passes
@@ -52,7 +57,7 @@ passing = 5 ∷ 0 ∷ 0 ∷ 2 ∷ 1 ∷ 2 ∷ 0 ∷ 7 ∷ 0 ∷ 1 ∷ 2 ∷ 2 �
 
 -- the watch of a tunnel that has heard one event
 abbrev pub heard-once : Watch
-heard-once = watchAt (reached passing (begun passing 1 0) (Post 0 1 ∷ Turn ∷ []) .desk) 0
+heard-once = watchAt (reached (opening passing) (begun (opening passing) 1 0) (Post 0 1 ∷ Turn ∷ []) .desk) 0
 
 pub record Passed : Type 0 where
   pub form : isTable passing ≡ true
@@ -63,6 +68,6 @@ pub verdict-passed : Passed
 unfolding isTable decidedFrom postBy postOf turnBy turnOf
 verdict-passed = record { form = refl; filled = refl; shown = refl }
 
-pub built-needed : ¬ FilledWhile passing heard-once
+pub built-needed : ¬ FilledWhile (opening passing) heard-once
 unfolding isTable decidedFrom postBy postOf turnBy turnOf
 built-needed q = true≢false q

@@ -13,6 +13,7 @@ use borrow.Author.Tests.{eq-eqb}
 use lib.Dec.{eqb}
 use lib.ListN.{length, length-append}
 use Rattle.meaning.specs.TableFiles.{isTable}
+use Rattle.meaning.specs.Openings.{Opening}
 use Rattle.meaning.specs.Desks.{Outcome, watchAt, oldest, lastOf}
 use Rattle.meaning.specs.Histories.{Action, Post, Turn, Standing, lastAfter, asked, onward, takes, hears, heard, turns}
 use Rattle.rounds.proofs.Rounds.{Apart, nearer, after-is, after-apart, last-own}
@@ -25,10 +26,10 @@ pub record Within (n l i k : ℕ) : Type 0 where
   pub apart : Apart n (lastOf n l) i others
   pub fewer : others < k
 
-module _ (t : List ℕ) (form : isTable t ≡ true) (n : ℕ) (some : 1 ≤ n) (few : n ≤ 64) (i : ℕ) (inside : i < n) where
-  module _ (c : Standing) (g : Fine t n (c .desk)) (waits : 1 ≤ watchAt (c .desk) i .waiting) where
+module _ (o : Opening) (form : isTable (o .table) ≡ true) (n : ℕ) (some : 1 ≤ n) (few : n ≤ 64) (i : ℕ) (inside : i < n) where
+  module _ (c : Standing) (g : Fine o n (c .desk)) (waits : 1 ≤ watchAt (c .desk) i .waiting) where
     -- where nothing waits at the first k numbers, i is none of them
-    silence-ends : (k r : ℕ) → Silence t n (c .desk) (c .last) k → Apart n (lastOf n (c .last)) i r → k ≤ r
+    silence-ends : (k r : ℕ) → Silence o n (c .desk) (c .last) k → Apart n (lastOf n (c .last)) i r → k ≤ r
     silence-ends k r s p = go (decLt r k)
       where
         go : Dec (r < k) → k ≤ r
@@ -39,10 +40,10 @@ module _ (t : List ℕ) (form : isTable t ≡ true) (n : ℕ) (some : 1 ≤ n) (
 
     -- i is heard, or reached before k turns more are over
     abbrev Next : ℕ → Outcome → Type 0
-    Next k o = (1 ≤ length (hears i (o .answer))) ⊎ Within n (lastAfter (o .answer) (c .last)) i k
+    Next k y = (1 ≤ length (hears i (y .answer))) ⊎ Within n (lastAfter (y .answer) (c .last)) i k
 
     -- a turn that hears
-    round-heard : (k : ℕ) → Within n (c .last) i (suc k) → (h : Hearing t n (c .desk) (c .last)) (e : ℕ)
+    round-heard : (k : ℕ) → Within n (c .last) i (suc k) → (h : Hearing o n (c .desk) (c .last)) (e : ℕ)
         → (1 ≤ length (cond (eqb i (h .number)) (e ∷ []) [])) ⊎ Within n (h .number) i k
     round-heard k x h e = go (ℕ-discrete i (h .number))
       where
@@ -50,7 +51,7 @@ module _ (t : List ℕ) (form : isTable t ≡ true) (n : ℕ) (some : 1 ≤ n) (
         way = subst (λ (j : ℕ). Apart n (lastOf n (c .last)) j (h .passes)) (sym (h .there)) (after-is n some (c .last) (h .passes) (h .fewer))
 
         in-row : h .number < n
-        in-row = heard-in t form n some few (c .desk) g (c .last) h
+        in-row = heard-in o form n some few (c .desk) g (c .last) h
 
         shorter : (i ≡ h .number → ⊥) → (r : ℕ) × (r < x .others) × Apart n (h .number) i r
         shorter q = nearer n (lastOf n (c .last)) (h .number) i (h .passes) (x .others) way (x .apart) in-row inside (silence-ends (h .passes) (x .others) (h .before) (x .apart)) (λ p. q (sym p))
@@ -61,33 +62,33 @@ module _ (t : List ℕ) (form : isTable t ≡ true) (n : ℕ) (some : 1 ≤ n) (
             let y = shorter q in
             inr (record { others = y .0; apart = rw (last-own n (h .number) in-row) (y .2); fewer = omega (arith, x .fewer) })
 
-    round-by : (a : Action) (rest : List Action) → Within n (c .last) i (turns (a ∷ rest)) → Next (turns rest) (asked t c a)
-    round-by (Post j e) rest x = go (posted t form n some few (c .desk) g j e)
+    round-by : (a : Action) (rest : List Action) → Within n (c .last) i (turns (a ∷ rest)) → Next (turns rest) (asked o c a)
+    round-by (Post j e) rest x = go (posted o form n some few (c .desk) g j e)
       where
-        go : Added t n (c .desk) j e ⊎ Denied t n (c .desk) j e → Next (turns rest) (asked t c (Post j e))
+        go : Added o n (c .desk) j e ⊎ Denied o n (c .desk) j e → Next (turns rest) (asked o c (Post j e))
         go (inl h) = subst (Next (turns rest)) (sym (h .is)) (inr x)
         go (inr h) = subst (Next (turns rest)) (sym (h .is)) (inr x)
-    round-by Turn rest x = go (turned t form n some few (c .desk) g (c .last))
+    round-by Turn rest x = go (turned o form n some few (c .desk) g (c .last))
       where
-        go : Hearing t n (c .desk) (c .last) ⊎ Silent t n (c .desk) (c .last) → Next (turns rest) (asked t c Turn)
+        go : Hearing o n (c .desk) (c .last) ⊎ Silent o n (c .desk) (c .last) → Next (turns rest) (asked o c Turn)
         go (inl h) = subst (Next (turns rest)) (sym (h .is)) (round-heard (turns rest) x h (oldest (watchAt (c .desk) (h .number))))
         go (inr h) = let z : n ≤ x .others = silence-ends n (x .others) (h .before) (x .apart) in absurd (omega (arith, x .apart .short))
 
-  pub soon : (c : Standing) → Fine t n (c .desk) → 1 ≤ watchAt (c .desk) i .waiting → (h : List Action) → Within n (c .last) i (turns h) → 1 ≤ length (heard t c i h)
+  pub soon : (c : Standing) → Fine o n (c .desk) → 1 ≤ watchAt (c .desk) i .waiting → (h : List Action) → Within n (c .last) i (turns h) → 1 ≤ length (heard o c i h)
   soon c g w [] x = absurd (omega (arith, x .fewer))
   soon c g w (a ∷ rest) x =
       go (round-by c g w a rest x)
-      (still-waits t (watchAt (c .desk) i) (watchAt (asked t c a .desk) i) (takes i a (asked t c a .answer)) (hears i (asked t c a .answer))
-      (g .fits i inside) (good-by t form n some few c g a .fits i inside) (moved-by t form n some few i inside c g a) w)
-      (λ w′ x′. soon (onward t c a) (good-by t form n some few c g a) w′ rest x′)
+      (still-waits o (watchAt (c .desk) i) (watchAt (asked o c a .desk) i) (takes i a (asked o c a .answer)) (hears i (asked o c a .answer))
+      (g .fits i inside) (good-by o form n some few c g a .fits i inside) (moved-by o form n some few i inside c g a) w)
+      (λ w′ x′. soon (onward o c a) (good-by o form n some few c g a) w′ rest x′)
     where
-      sum : length (heard t c i (a ∷ rest)) ≡ length (hears i (asked t c a .answer)) + length (heard t (onward t c a) i rest)
-      sum = length-append (hears i (asked t c a .answer)) (heard t (onward t c a) i rest)
+      sum : length (heard o c i (a ∷ rest)) ≡ length (hears i (asked o c a .answer)) + length (heard o (onward o c a) i rest)
+      sum = length-append (hears i (asked o c a .answer)) (heard o (onward o c a) i rest)
 
-      go : Next c g w (turns rest) (asked t c a)
-          → (1 ≤ length (hears i (asked t c a .answer))) ⊎ (1 ≤ watchAt (onward t c a .desk) i .waiting)
-          → (1 ≤ watchAt (onward t c a .desk) i .waiting → Within n (onward t c a .last) i (turns rest) → 1 ≤ length (heard t (onward t c a) i rest))
-          → 1 ≤ length (heard t c i (a ∷ rest))
+      go : Next c g w (turns rest) (asked o c a)
+          → (1 ≤ length (hears i (asked o c a .answer))) ⊎ (1 ≤ watchAt (onward o c a .desk) i .waiting)
+          → (1 ≤ watchAt (onward o c a .desk) i .waiting → Within n (onward o c a .last) i (turns rest) → 1 ≤ length (heard o (onward o c a) i rest))
+          → 1 ≤ length (heard o c i (a ∷ rest))
       go (inl p) u f = omega (arith, sum)
       go (inr q) (inl p) f = omega (arith, sum)
       go (inr q) (inr p) f = omega (arith, sum, f p q)
