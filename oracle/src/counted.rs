@@ -1,14 +1,16 @@
-//! A table's bytes with counts in hand, as a step and the calls over a desk take them: the bytes
-//! may have changed since they were checked, and the counts may be any number.
+//! A table's bytes with an opening in hand, as a run and the calls over a desk take them: the bytes
+//! may have changed since they were opened, and the opening may be any number.
 
 use crate::mask::{self, Mask};
 use crate::refusal::Refusal;
 use crate::table::{row_length, RunResult, Verdict, HEADER_LENGTH, NO_SUCCESSOR};
 
-/// Bytes of the length that a table of the counts has. Nothing else of them is checked.
+/// Bytes of the length that a table of the opening's counts has. Nothing else of them is checked.
 #[derive(Clone, Copy, Debug)]
 pub struct Counted<'a> {
     bytes: &'a [u8],
+    /// The number of the opening.
+    pub number: u16,
     pub signals: u8,
     pub states: u16,
     /// The mask of the events that can happen, as the row of state 0 says.
@@ -40,17 +42,18 @@ impl Halt {
 }
 
 impl<'a> Counted<'a> {
-    /// The counts are signals * 65536 + states. None where they are no table's, or the bytes have
-    /// not its length.
-    pub fn new(bytes: &'a [u8], counts: u64) -> Option<Self> {
+    /// The opening is signals * 2^32 + number * 65536 + states. None where the counts are no
+    /// table's, or the bytes have not its length.
+    pub fn new(bytes: &'a [u8], opened: u64) -> Option<Self> {
         let signals =
-            u8::try_from(counts >> 16).ok().filter(|signals| (1..=4).contains(signals))?;
-        let states = Some(counts as u16).filter(|states| (1..=256).contains(states))?;
+            u8::try_from(opened >> 32).ok().filter(|signals| (1..=4).contains(signals))?;
+        let states = Some(opened as u16).filter(|states| (1..=256).contains(states))?;
         let length = HEADER_LENGTH + usize::from(states) * row_length(signals);
         if bytes.len() != length {
             return None;
         }
-        let mut counted = Counted { bytes, signals, states, possible: 0 };
+        let number = number_of(opened);
+        let mut counted = Counted { bytes, number, signals, states, possible: 0 };
         let can_happen = |event: &u8| counted.successor(0, *event) != NO_SUCCESSOR;
         counted.possible = mask::of((0..1 << signals).filter(can_happen));
         Some(counted)
@@ -93,9 +96,14 @@ impl<'a> Counted<'a> {
     }
 }
 
-/// The counts of a table with so many signals and states.
-pub fn counts(signals: u8, states: usize) -> u64 {
-    u64::from(signals) << 16 | states as u64
+/// The opening with a number, of a table with so many signals and states.
+pub fn opened(signals: u8, number: u16, states: usize) -> u64 {
+    u64::from(signals) << 32 | u64::from(number) << 16 | states as u64
+}
+
+/// The number of an opening; of any other value what stands in its place.
+pub fn number_of(opened: u64) -> u16 {
+    (opened >> 16) as u16
 }
 
 #[cfg(test)]
@@ -105,26 +113,44 @@ mod tests {
     use crate::table::Monitor;
     use crate::vectors::table_samples::{masked, p12, p12_apart, random_small_monitor};
 
-    fn counts_of(monitor: &Monitor) -> u64 {
-        counts(monitor.signals, monitor.states.len())
+    fn opened_of(monitor: &Monitor, number: u16) -> u64 {
+        opened(monitor.signals, number, monitor.states.len())
     }
 
+    /// P12, two signals and three states, opened with the number 513.
+    const P12: u64 = 2 * (1 << 32) + 513 * 65536 + 3;
+
     #[test]
-    fn counts_that_are_no_tables_and_other_lengths_are_refused() {
+    fn openings_that_are_no_tables_and_other_lengths_are_refused() {
         let table = p12().to_bytes();
-        assert_eq!(counts_of(&p12()), 131_075);
-        let fits = |counts: u64| Counted::new(&table, counts).is_some();
-        assert!(fits(131_075));
-        for other in [0, 3, 131_074, 131_076, 65_539, 131_072, u64::MAX, 14 << 56] {
+        assert_eq!(opened_of(&p12(), 513), P12);
+        let fits = |opened: u64| Counted::new(&table, opened).is_some();
+        assert!(fits(P12));
+        let others = [0, 3, P12 - 1, P12 + 1, P12 - 3, 131_075, P12 - (1 << 32), 14 << 56];
+        for other in others.into_iter().chain([u64::MAX]) {
             assert!(!fits(other), "{other}");
         }
-        for high in 18..64 {
-            assert!(!fits(131_075 + (1 << high)), "bit {high}");
+        for bit in (0..16).chain(32..64) {
+            assert!(!fits(P12 ^ 1 << bit), "bit {bit}");
         }
         for length in (0..table.len()).chain([table.len() + 1]) {
             let bytes = [&table[..], &[0]].concat();
-            assert!(Counted::new(&bytes[..length], 131_075).is_none());
+            assert!(Counted::new(&bytes[..length], P12).is_none());
         }
+    }
+
+    #[test]
+    fn the_number_is_in_bits_16_to_31_and_may_be_any() {
+        let table = p12().to_bytes();
+        for number in [0, 1, 2, 255, 256, 513, 32768, 65535] {
+            let counted = Counted::new(&table, opened_of(&p12(), number)).unwrap();
+            assert_eq!((counted.number, counted.signals, counted.states), (number, 2, 3));
+        }
+        for bit in 16..32 {
+            assert_eq!(Counted::new(&table, P12 ^ 1 << bit).unwrap().number, 513 ^ 1 << (bit - 16));
+        }
+        assert_eq!(number_of(u64::MAX), 65535);
+        assert_eq!(number_of(14 << 56), 0);
     }
 
     #[test]
@@ -132,7 +158,7 @@ mod tests {
         let bytes = vec![0; HEADER_LENGTH + 257 * row_length(5)];
         let fits = |signals: u8, states: usize| {
             let length = HEADER_LENGTH + states * row_length(signals);
-            Counted::new(&bytes[..length], counts(signals, states)).is_some()
+            Counted::new(&bytes[..length], opened(signals, 9, states)).is_some()
         };
         assert!(fits(4, 256) && fits(1, 1));
         assert!(!fits(5, 256) && !fits(4, 257) && !fits(0, 1) && !fits(1, 0));
@@ -145,7 +171,7 @@ mod tests {
             let monitor = random_small_monitor(&mut rng, 12);
             let monitor = masked(&mut rng, monitor);
             let table = monitor.to_bytes();
-            let counted = Counted::new(&table, counts_of(&monitor)).unwrap();
+            let counted = Counted::new(&table, opened_of(&monitor, 7)).unwrap();
             assert_eq!(counted.possible, monitor.possible());
             for (state, event) in (0..14).flat_map(|state| (0..18).map(move |e| (state, e))) {
                 let run = monitor.run(state, &[event]);
@@ -161,7 +187,7 @@ mod tests {
         let step = |changes: &[(usize, u8)], state, event| {
             let mut bytes = table.clone();
             changes.iter().for_each(|&(place, byte)| bytes[place] = byte);
-            Counted::new(&bytes, 131_075).unwrap().step(state, event).map(|end| end.end_state)
+            Counted::new(&bytes, P12).unwrap().step(state, event).map(|end| end.end_state)
         };
         assert_eq!(step(&[], 0, 1), Ok(1));
         assert_eq!(step(&[], 0, 3), Err(Halt::ImpossibleEvent));

@@ -1,4 +1,5 @@
-//! A desk, document 02's C-15 and C-16: a lent row of watches, one per tunnel, all over one table.
+//! A desk, document 02's C-15, C-16 and C-18: a lent row of watches, one per tunnel, all over one
+//! table, opened with a number that every watch carries.
 //!
 //! A tunnel's slots are a queue that is always as long as a watch has slots: what is heard leaves
 //! in front and a 0 enters behind. Whose turn it is comes of the row turned round until it begins
@@ -10,6 +11,7 @@ use std::collections::VecDeque;
 
 use crate::counted::{Counted, Halt};
 use crate::mask;
+use crate::openings::State;
 use crate::refusal::Refusal;
 use crate::table::{RunResult, Verdict};
 
@@ -24,10 +26,12 @@ pub const EVENT_LIMIT: u64 = 4_294_967_295;
 #[derive(Clone, Debug, PartialEq, Eq)]
 pub struct Tunnel {
     pub state: u16,
+    /// The number of the opening of which the state is.
+    pub opening: u16,
     /// How many of the slots count.
     pub waiting: u16,
     /// Not 0 where `first` counts.
-    pub filled: u32,
+    pub filled: u16,
     pub heard: u32,
     /// How many events had been heard when a verdict other than undecided first stood.
     pub first: u32,
@@ -51,7 +55,7 @@ pub enum Fault {
 pub struct Heard {
     pub number: usize,
     pub event: u8,
-    pub state: u16,
+    pub state: State,
     pub verdict: Verdict,
 }
 
@@ -59,12 +63,18 @@ pub struct Heard {
 pub type Served = Result<Option<Heard>, Refusal>;
 
 impl Tunnel {
-    /// State 0, in which this verdict stands; nothing waits and nothing was heard.
-    pub fn fresh(start: Verdict) -> Self {
+    /// State 0 of an opening, in which this verdict stands; nothing waits and nothing was heard.
+    pub fn fresh(opening: u16, start: Verdict) -> Self {
         let slots = VecDeque::from([0; QUEUE_LIMIT]);
-        let mut tunnel = Tunnel { state: 0, waiting: 0, filled: 0, heard: 0, first: 0, slots };
+        let (state, waiting, filled, heard, first) = (0, 0, 0, 0, 0);
+        let mut tunnel = Tunnel { state, opening, waiting, filled, heard, first, slots };
         tunnel.remember(start);
         tunnel
+    }
+
+    /// Where the tunnel stands.
+    pub fn stands(&self) -> State {
+        State { opening: self.opening, number: self.state }
     }
 
     /// The count of heard events at which a verdict first stood, if one did.
@@ -132,34 +142,39 @@ fn judge_row(desk: &[Tunnel]) -> Result<(), Refusal> {
     }
 }
 
-/// 14 for counts that do not fit the bytes, then 18, then 13 at the first wrong watch.
-fn judge<'a>(desk: &[Tunnel], bytes: &'a [u8], counts: u64) -> Result<Counted<'a>, Refusal> {
-    let table = Counted::new(bytes, counts).ok_or(Refusal::new(14, 0))?;
+/// 14 for an opening that does not fit the bytes, then 18, then 24 at the first watch of another
+/// opening, all watches of the row before any is judged by 13, at the first wrong one.
+fn judge<'a>(desk: &[Tunnel], bytes: &'a [u8], opened: u64) -> Result<Counted<'a>, Refusal> {
+    let table = Counted::new(bytes, opened).ok_or(Refusal::new(14, 0))?;
     judge_row(desk)?;
-    match desk.iter().position(|tunnel| !tunnel.faults(&table).is_empty()) {
-        Some(number) => Err(Refusal::new(13, number)),
-        None => Ok(table),
-    }
+    let refuse_first = |by: u8, is_refused: &dyn Fn(&Tunnel) -> bool| {
+        let first = desk.iter().position(is_refused);
+        first.map_or(Ok(()), |number| Err(Refusal::new(by, number)))
+    };
+    refuse_first(24, &|tunnel| tunnel.opening != table.number)?;
+    refuse_first(13, &|tunnel| !tunnel.faults(&table).is_empty())?;
+    Ok(table)
 }
 
-/// Every watch in state 0 with nothing waiting and nothing heard. Order 14, also for the start's
-/// verdict, 18.
-pub fn fresh(desk: &mut [Tunnel], (bytes, counts): (&[u8], u64)) -> Result<(), Refusal> {
-    let start = Counted::new(bytes, counts).and_then(|table| table.verdict(0));
-    let start = start.ok_or(Refusal::new(14, 0))?;
+/// Every watch in state 0 of the opening, with nothing waiting and nothing heard. Order 14, also for
+/// the start's verdict, 18.
+pub fn fresh(desk: &mut [Tunnel], (bytes, opened): (&[u8], u64)) -> Result<(), Refusal> {
+    let start =
+        Counted::new(bytes, opened).and_then(|table| Some((table.number, table.verdict(0)?)));
+    let (number, verdict) = start.ok_or(Refusal::new(14, 0))?;
     judge_row(desk)?;
-    desk.fill(Tunnel::fresh(start));
+    desk.fill(Tunnel::fresh(number, verdict));
     Ok(())
 }
 
-/// Adds an event to a tunnel. Order 14, 18, 13, 19, 12, 20, 21.
+/// Adds an event to a tunnel. Order 14, 18, 24, 13, 19, 12, 20, 21.
 pub fn post(
     desk: &mut [Tunnel],
-    (bytes, counts): (&[u8], u64),
+    (bytes, opened): (&[u8], u64),
     number: usize,
     event: u8,
 ) -> Result<(), Refusal> {
-    let table = judge(desk, bytes, counts)?;
+    let table = judge(desk, bytes, opened)?;
     let refused = |by: u8| Err(Refusal::new(by, number));
     match desk.get_mut(number) {
         None => refused(19),
@@ -185,10 +200,10 @@ pub fn order(row: usize, last: usize) -> VecDeque<usize> {
     numbers
 }
 
-/// Hears the oldest event of the next tunnel that has one waiting, if any has. Order 14, 18, 13;
+/// Hears the oldest event of the next tunnel that has one waiting, if any has. Order 14, 18, 24, 13;
 /// then 14 for what is read of the table.
-pub fn turn(desk: &mut [Tunnel], (bytes, counts): (&[u8], u64), last: usize) -> Served {
-    let table = judge(desk, bytes, counts)?;
+pub fn turn(desk: &mut [Tunnel], (bytes, opened): (&[u8], u64), last: usize) -> Served {
+    let table = judge(desk, bytes, opened)?;
     let next = order(desk.len(), last).into_iter().find(|&number| desk[number].waiting > 0);
     let Some(number) = next else {
         return Ok(None);
@@ -197,7 +212,8 @@ pub fn turn(desk: &mut [Tunnel], (bytes, counts): (&[u8], u64), last: usize) -> 
     let event = tunnel.slots[0];
     let end = table.step(tunnel.state, event).map_err(Halt::refusal)?;
     tunnel.hear(end);
-    Ok(Some(Heard { number, event, state: end.end_state, verdict: end.verdict }))
+    let state = State { opening: table.number, number: end.end_state };
+    Ok(Some(Heard { number, event, state, verdict: end.verdict }))
 }
 
 #[cfg(test)]

@@ -1,9 +1,9 @@
-//! What has happened at a desk since it was fresh, and the laws of C-15 and C-16 over it: who waits
-//! is heard within as many turns as the row has tunnels, whoever else posts; a tunnel's accepted
-//! events are those heard and then those that wait; its state is the end of a run from state 0 over
-//! the events that it has heard; as many are counted as were heard; and what it remembers is that
-//! run's count. Where verdicts last, as in every built table, it remembers one exactly while one
-//! stands.
+//! What has happened at a desk since it was fresh, and the laws of C-15, C-16 and C-18 over it: who
+//! waits is heard within as many turns as the row has tunnels, whoever else posts; a tunnel's
+//! accepted events are those heard and then those that wait; its state is the end of a run from the
+//! start over the events that it has heard, and it and every answer carry the number of the opening;
+//! as many are counted as were heard; and what it remembers is that run's count. Where verdicts
+//! last, as in every built table, it remembers one exactly while one stands.
 //!
 //! A history is told what was answered, and knows nothing of how a desk works.
 
@@ -12,6 +12,8 @@ use crate::table::{Monitor, MonitorState, Verdict};
 
 pub struct History<'a> {
     monitor: &'a Monitor,
+    /// The number of the opening.
+    number: u16,
     tunnels: Vec<Past>,
     longest_wait: usize,
     verdicts_last: bool,
@@ -37,6 +39,7 @@ impl Past {
 pub type Broken = &'static str;
 
 const NOT_THE_STATE: Broken = "the state is not the end of a run over the events heard";
+const NOT_THE_OPENING: Broken = "the number is not that of the opening";
 const NOT_AS_MANY: Broken = "the events counted are not as many as were heard";
 const NOT_THE_COUNT: Broken = "what is remembered is not the count of a run over the events heard";
 const NOT_WHILE_IT_STANDS: Broken = "a verdict is not remembered exactly while one stands";
@@ -53,10 +56,10 @@ fn verdicts_last(monitor: &Monitor) -> bool {
 }
 
 impl<'a> History<'a> {
-    /// Of a fresh row of so many tunnels.
-    pub fn new(monitor: &'a Monitor, row: usize) -> Self {
-        let tunnels = vec![Past::default(); row];
-        History { monitor, tunnels, longest_wait: 0, verdicts_last: verdicts_last(monitor) }
+    /// Of a fresh row of so many tunnels, over a table opened with a number.
+    pub fn new(monitor: &'a Monitor, number: u16, row: usize) -> Self {
+        let (tunnels, verdicts_last) = (vec![Past::default(); row], verdicts_last(monitor));
+        History { monitor, number, tunnels, longest_wait: 0, verdicts_last }
     }
 
     /// No event leads from a verdict back to undecided.
@@ -99,7 +102,8 @@ impl<'a> History<'a> {
         self.longest_wait = self.longest_wait.max(std::mem::take(&mut past.passed));
         let run = self.monitor.run(0, &past.accepted[..past.heard]);
         let end = run.map_err(|_| "an event that no run takes was heard")?;
-        match (heard.state, heard.verdict) == (end.end_state, end.verdict) {
+        match (heard.state.number, heard.verdict) == (end.end_state, end.verdict) {
+            true if heard.state.opening != self.number => Err(NOT_THE_OPENING),
             true => Ok(()),
             false => Err("the answer is not the end of a run over the events heard"),
         }
@@ -116,6 +120,7 @@ impl<'a> History<'a> {
         let stands = self.monitor.states.get(usize::from(tunnel.state)).is_some_and(is_decided);
         let count = tunnel.first_verdict().map(|count| count as usize);
         let laws = [
+            (self.number == tunnel.opening, NOT_THE_OPENING),
             (end.end_state == tunnel.state, NOT_THE_STATE),
             (*heard == tunnel.heard as usize, NOT_AS_MANY),
             (!self.verdicts_last || stands == count.is_some(), NOT_WHILE_IT_STANDS),
@@ -138,13 +143,17 @@ impl<'a> History<'a> {
 mod tests {
     use super::*;
     use crate::builder;
-    use crate::counted::counts;
+    use crate::counted::opened;
     use crate::desk;
+    use crate::openings::State;
     use crate::rng::Rng;
     use crate::vectors::rule_samples::{document_rules, random_short_rule};
     use crate::vectors::table_samples::{
         document_monitors, masked, p12, p3, random_events, random_small_monitor,
     };
+
+    /// The number of every opening.
+    const NUMBER: u16 = 258;
 
     /// A desk, its table and what has happened at it.
     struct Driven<'a> {
@@ -157,9 +166,9 @@ mod tests {
 
     impl<'a> Driven<'a> {
         fn new(monitor: &'a Monitor, bytes: &'a [u8], row: usize) -> Self {
-            let table = (bytes, counts(monitor.signals, monitor.states.len()));
-            let history = History::new(monitor, row);
-            let mut desk = vec![Tunnel::fresh(Verdict::Moot); row];
+            let table = (bytes, opened(monitor.signals, NUMBER, monitor.states.len()));
+            let history = History::new(monitor, NUMBER, row);
+            let mut desk = vec![Tunnel::fresh(1, Verdict::Moot); row];
             desk::fresh(&mut desk, table).unwrap();
             Driven { table, desk, history, last: usize::MAX, refused: 0 }
         }
@@ -239,12 +248,12 @@ mod tests {
     }
 
     fn heard(number: usize, event: u8, state: u16, verdict: Verdict) -> Option<Heard> {
-        Some(Heard { number, event, state, verdict })
+        Some(Heard { number, event, state: State { opening: NUMBER, number: state }, verdict })
     }
 
     /// A history of two tunnels, with events for the first.
     fn with_events<'a>(monitor: &'a Monitor, events: &[u8]) -> History<'a> {
-        let mut history = History::new(monitor, 2);
+        let mut history = History::new(monitor, NUMBER, 2);
         events.iter().for_each(|&event| history.posted(0, event));
         history
     }
@@ -263,6 +272,11 @@ mod tests {
         let not_the_end = Err("the answer is not the end of a run over the events heard");
         assert_eq!(told(heard(0, 1, 0, undecided)), not_the_end);
         assert_eq!(told(heard(0, 1, 1, Verdict::Violated)), not_the_end);
+        for opening in [0, NUMBER - 1, NUMBER + 1, NUMBER ^ 256] {
+            let mut foreign = heard(0, 1, 1, undecided).unwrap();
+            foreign.state.opening = opening;
+            assert_eq!(told(Some(foreign)), Err(NOT_THE_OPENING));
+        }
         let mut wrong_event = with_events(&monitor, &[4]);
         let taken_by_no_run = Err("an event that no run takes was heard");
         assert_eq!(wrong_event.turned(heard(0, 4, 1, undecided)), taken_by_no_run);
@@ -277,7 +291,7 @@ mod tests {
         assert_eq!(history.turned(first), Ok(()));
         let too_many = Err("a tunnel waits for more turns than the row has tunnels");
         assert_eq!(history.turned(first), too_many);
-        assert_eq!(History::new(&monitor, 2).turned(None), Ok(()));
+        assert_eq!(History::new(&monitor, NUMBER, 2).turned(None), Ok(()));
     }
 
     #[test]
@@ -285,7 +299,7 @@ mod tests {
         let monitor = p12();
         let mut history = with_events(&monitor, &[1, 2]);
         history.turned(heard(0, 1, 1, Verdict::Undecided)).unwrap();
-        let fresh = Tunnel::fresh(Verdict::Undecided);
+        let fresh = Tunnel::fresh(NUMBER, Verdict::Undecided);
         let tunnel = |state, waiting, first| {
             let mut tunnel = Tunnel { state, waiting, heard: 1, ..fresh.clone() };
             tunnel.slots[0] = first;
@@ -297,6 +311,8 @@ mod tests {
             assert_eq!(history.check(0, &wrong), not_the_queue);
         }
         assert_eq!(history.check(0, &tunnel(0, 1, 2)), Err(NOT_THE_STATE));
+        let foreign = Tunnel { opening: NUMBER ^ 1, ..tunnel(1, 1, 2) };
+        assert_eq!(history.check(0, &foreign), Err(NOT_THE_OPENING));
         let second_wrong = [tunnel(1, 1, 2), tunnel(1, 0, 0)];
         assert_eq!(history.check_all(&second_wrong), Err(NOT_THE_STATE));
         assert_eq!(history.check_all(&second_wrong[..1]), Err("the row has another length"));
@@ -306,9 +322,9 @@ mod tests {
     }
 
     /// One tunnel over a table in which event 1 leads to satisfied, after two events.
-    fn remembered(monitor: &Monitor, filled: u32, first: u32) -> Result<(), Broken> {
-        let mut history = History::new(monitor, 1);
-        let mut tunnel = Tunnel::fresh(Verdict::Undecided);
+    fn remembered(monitor: &Monitor, filled: u16, first: u32) -> Result<(), Broken> {
+        let mut history = History::new(monitor, NUMBER, 1);
+        let mut tunnel = Tunnel::fresh(NUMBER, Verdict::Undecided);
         for event in [1, 0] {
             history.posted(0, event);
             tunnel.state = monitor.run(tunnel.state, &[event]).unwrap().end_state;
@@ -331,7 +347,7 @@ mod tests {
         passing.states[2].successors = vec![0, 0];
         assert_eq!(remembered(&passing, 1, 1), Ok(()));
         assert_eq!(remembered(&passing, 0, 0), Err(NOT_THE_COUNT));
-        let fresh = |start| History::new(&p3(), 1).check(0, &Tunnel::fresh(start));
+        let fresh = |start| History::new(&p3(), NUMBER, 1).check(0, &Tunnel::fresh(NUMBER, start));
         assert_eq!(fresh(Verdict::Undecided), Ok(()));
         assert_eq!(fresh(Verdict::Satisfied), Err(NOT_WHILE_IT_STANDS));
     }
@@ -348,12 +364,12 @@ mod tests {
                 continue;
             };
             let monitor = Monitor::open(&table[..length]).unwrap();
-            assert!(History::new(&monitor, 1).verdicts_last());
+            assert!(History::new(&monitor, NUMBER, 1).verdicts_last());
             decided += monitor.states.iter().filter(|state| is_decided(state)).count();
         }
         assert!(decided > 100, "{decided}");
         let mut passing = p3();
         passing.states[2].successors[1] = 0;
-        assert!(!History::new(&passing, 1).verdicts_last());
+        assert!(!History::new(&passing, NUMBER, 1).verdicts_last());
     }
 }

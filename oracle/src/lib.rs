@@ -1,7 +1,8 @@
 //! A second reading of document 01 and of the requests for rule texts, for counts between
-//! two bounds, for events that cannot happen, for a desk of many tunnels and for recordings with
-//! gaps, written apart from the watcher: readers, a search for traces, a builder of tables, a desk
-//! and the laws of its histories, two recordings joined, and the maker of the test vectors.
+//! two bounds, for events that cannot happen, for a desk of many tunnels, for recordings with
+//! gaps and for states of several tables, written apart from the watcher: readers, a search for
+//! traces, a builder of tables, a desk and the laws of its histories, two recordings joined,
+//! openings with numbers and their law, and the maker of the test vectors.
 
 pub mod builder;
 pub mod certify;
@@ -10,6 +11,7 @@ pub mod desk;
 pub mod history;
 pub mod lasso;
 pub mod mask;
+pub mod openings;
 pub mod prints;
 pub mod random_masks;
 pub mod random_recordings;

@@ -6,7 +6,7 @@
 
 use std::collections::BTreeSet;
 
-use crate::counted::{counts, Counted};
+use crate::counted::{opened, Counted};
 use crate::mask;
 use crate::refusal::Refusal;
 use crate::table::{Monitor, Verdict};
@@ -224,7 +224,9 @@ pub fn judge(
     let choices = joined(&table, first, second)?;
     let shown = if are_listed(&choices) {
         let monitor = Monitor::open(bytes).ok();
-        let monitor = monitor.filter(|found| counts(found.signals, found.states.len()) == given);
+        let is_given =
+            |found: &Monitor| opened(found.signals, table.number, found.states.len()) == given;
+        let monitor = monitor.filter(is_given);
         by_lists(&table, monitor.as_ref(), &choices)
     } else {
         by_sets(&table, &choices)

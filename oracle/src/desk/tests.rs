@@ -1,20 +1,23 @@
 use super::*;
-use crate::counted::counts;
+use crate::counted::opened;
 use crate::rng::Rng;
 use crate::table::Monitor;
 use crate::vectors::table_samples::{document_monitors, p12, p12_apart};
 
 use Verdict::{Moot, Satisfied, Undecided, Violated};
 
-/// P12 with its counts; `Apart` where p and q never come together.
+/// The number of every opening but where another is said, with two bytes that differ.
+const NUMBER: u16 = 0x1203;
+
+/// P12 opened; `Apart` where p and q never come together.
 fn with_table<T>(is_apart: bool, call: impl FnOnce((&[u8], u64)) -> T) -> T {
     let monitor = if is_apart { p12_apart() } else { p12() };
-    call((&monitor.to_bytes(), counts(2, 3)))
+    call((&monitor.to_bytes(), opened(2, NUMBER, 3)))
 }
 
 /// In state 0, undecided, with nothing waiting and nothing heard.
 fn blank() -> Tunnel {
-    Tunnel::fresh(Undecided)
+    Tunnel::fresh(NUMBER, Undecided)
 }
 
 fn tunnel(state: u16, queue: &[u8]) -> Tunnel {
@@ -32,6 +35,7 @@ fn turned(desk: &mut [Tunnel], last: usize) -> Served {
 }
 
 fn heard(number: usize, event: u8, state: u16, verdict: Verdict) -> Served {
+    let state = State { opening: NUMBER, number: state };
     Ok(Some(Heard { number, event, state, verdict }))
 }
 
@@ -40,11 +44,11 @@ fn refused<T>(number: u8, place: usize) -> Result<T, Refusal> {
 }
 
 /// What is remembered: filled, heard and first.
-fn memory(tunnel: &Tunnel) -> (u32, u32, u32) {
+fn memory(tunnel: &Tunnel) -> (u16, u32, u32) {
     (tunnel.filled, tunnel.heard, tunnel.first)
 }
 
-fn remembering((filled, heard, first): (u32, u32, u32), tunnel: Tunnel) -> Tunnel {
+fn remembering((filled, heard, first): (u16, u32, u32), tunnel: Tunnel) -> Tunnel {
     Tunnel { filled, heard, first, ..tunnel }
 }
 
@@ -56,8 +60,9 @@ fn aged(heard: u32, tunnel: Tunnel) -> Tunnel {
 #[test]
 fn a_fresh_tunnel_has_state_0_with_nothing_waiting_and_nothing_heard() {
     for (start, filled) in [(Undecided, 0), (Satisfied, 1), (Violated, 1), (Moot, 1)] {
-        let fresh = Tunnel::fresh(start);
+        let fresh = Tunnel::fresh(NUMBER, start);
         assert_eq!((fresh.state, fresh.waiting, fresh.queue().count()), (0, 0, 0));
+        assert_eq!(fresh.stands(), State { opening: NUMBER, number: 0 });
         assert_eq!(memory(&fresh), (filled, 0, 0));
         assert_eq!(fresh.first_verdict(), (filled == 1).then_some(0));
         assert!(fresh.free().eq([0; 32]));
@@ -148,11 +153,12 @@ fn a_row_is_neither_empty_nor_above_64() {
 fn fresh_ignores_what_stood_there() {
     for (index, start) in [(0, Satisfied), (1, Violated), (2, Undecided), (5, Moot)] {
         let monitor = &document_monitors()[index];
-        let table = (&monitor.to_bytes()[..], counts(monitor.signals, monitor.states.len()));
-        let over = Tunnel { waiting: 65535, ..tunnel(1, &[0]) };
+        let table =
+            (&monitor.to_bytes()[..], opened(monitor.signals, NUMBER, monitor.states.len()));
+        let over = Tunnel { waiting: 65535, opening: 7, ..tunnel(1, &[0]) };
         let mut desk = [tunnel(65535, &[255]), remembering((9, u32::MAX, 9), over), blank()];
         assert_eq!(fresh(&mut desk, table), Ok(()));
-        let expected = remembering((u32::from(start != Undecided), 0, 0), blank());
+        let expected = remembering((u16::from(start != Undecided), 0, 0), blank());
         assert_eq!(desk, [expected.clone(), expected.clone(), expected]);
     }
 }
@@ -166,11 +172,12 @@ fn fresh_refuses_the_table_before_the_row_and_changes_nothing() {
         bytes
     };
     // The verdicts of states 0 and 1 stand at 11 and 24.
-    let right = counts(2, 3);
+    let right = opened(2, NUMBER, 3);
     let cases = [
         (good.clone(), 0, true),
         (good.clone(), right + 1, true),
         (good.clone(), right | 1 << 40, true),
+        (good.clone(), right ^ 1 << 32, true),
         (good[1..].to_vec(), right, true),
         (with(11, 4), right, true),
         (with(11, 255), right, true),
@@ -178,7 +185,7 @@ fn fresh_refuses_the_table_before_the_row_and_changes_nothing() {
         (with(12, 255), right, false),
         (with(0, 9), right, false),
     ];
-    for (bytes, counts, is_refused) in cases {
+    for (bytes, given, is_refused) in cases {
         for row in [0, 1, 64, 65] {
             let mut desk = vec![tunnel(2, &[1]); row];
             let before = desk.clone();
@@ -187,15 +194,15 @@ fn fresh_refuses_the_table_before_the_row_and_changes_nothing() {
                 0 | 65 => refused(18, 0),
                 _ => Ok(()),
             };
-            assert_eq!(fresh(&mut desk, (&bytes, counts)), expected);
+            assert_eq!(fresh(&mut desk, (&bytes, given)), expected);
             assert_eq!(desk == before, expected.is_err());
         }
     }
 }
 
 /// What one tunnel remembers after each event that it hears.
-fn memories(monitor: &Monitor, mut tunnel: Tunnel, events: &[u8]) -> Vec<(u32, u32, u32)> {
-    let table = (&monitor.to_bytes()[..], counts(monitor.signals, monitor.states.len()));
+fn memories(monitor: &Monitor, mut tunnel: Tunnel, events: &[u8]) -> Vec<(u16, u32, u32)> {
+    let table = (&monitor.to_bytes()[..], opened(monitor.signals, NUMBER, monitor.states.len()));
     let mut all = Vec::new();
     for &event in events {
         let desk = std::slice::from_mut(&mut tunnel);
@@ -216,7 +223,7 @@ fn the_first_verdict_is_remembered_with_its_event_counted() {
     let from_the_start = [(1, 1, 0), (1, 2, 0)];
     for (index, start) in [(0, Satisfied), (1, Violated), (5, Moot)] {
         let monitor = &document_monitors()[index];
-        assert_eq!(memories(monitor, Tunnel::fresh(start), &[0, 1]), from_the_start);
+        assert_eq!(memories(monitor, Tunnel::fresh(NUMBER, start), &[0, 1]), from_the_start);
     }
 }
 
@@ -232,8 +239,8 @@ fn a_verdict_that_passes_stays_remembered() {
 fn what_a_lent_watch_remembers_is_not_judged() {
     let kept = [(7, 6, 3), (7, 7, 3)];
     assert_eq!(memories(&p12(), remembering((7, 5, 3), blank()), &[1, 1]), kept);
-    let larger = [(1 << 31, 6, 99), (1 << 31, 7, 99)];
-    assert_eq!(memories(&p12(), remembering((1 << 31, 5, 99), blank()), &[1, 1]), larger);
+    let larger = [(1 << 15, 6, 99), (1 << 15, 7, 99)];
+    assert_eq!(memories(&p12(), remembering((1 << 15, 5, 99), blank()), &[1, 1]), larger);
     let unfilled = [(0, 6, 99), (1, 7, 7)];
     assert_eq!(memories(&p12(), remembering((0, 5, 99), blank()), &[1, 1]), unfilled);
     // Violated already, and not filled: the next event fills it.
@@ -293,7 +300,7 @@ fn wrong() -> Vec<(Tunnel, Vec<Fault>)> {
 #[test]
 fn the_first_wrong_watch_is_named_and_nothing_changes() {
     let table = p12_apart().to_bytes();
-    let table = Counted::new(&table, counts(2, 3)).unwrap();
+    let table = Counted::new(&table, opened(2, NUMBER, 3)).unwrap();
     for (watch, faults) in wrong() {
         assert_eq!(watch.faults(&table), faults);
         for first in 0..4 {
@@ -351,10 +358,11 @@ fn the_refused_table_comes_before_all_else() {
     let table = p12().to_bytes();
     let mut desk = vec![tunnel(3, &[9]); 65];
     let before = desk.clone();
-    for counts in [0, counts(2, 2), counts(2, 4), counts(3, 3), u64::MAX] {
-        assert_eq!(post(&mut desk, (&table, counts), 99, 9), refused(14, 0));
-        assert_eq!(turn(&mut desk, (&table, counts), 99), refused(14, 0));
-        assert_eq!(fresh(&mut desk, (&table, counts)), refused(14, 0));
+    let others = [opened(2, NUMBER, 2), opened(2, NUMBER, 4), opened(3, NUMBER, 3)];
+    for given in others.into_iter().chain([0, u64::MAX, 24 << 56]) {
+        assert_eq!(post(&mut desk, (&table, given), 99, 9), refused(14, 0));
+        assert_eq!(turn(&mut desk, (&table, given), 99), refused(14, 0));
+        assert_eq!(fresh(&mut desk, (&table, given)), refused(14, 0));
     }
     assert_eq!(desk, before);
 }
@@ -366,7 +374,7 @@ fn a_turn_that_leaves_the_table_is_refused_behind_the_watches() {
     for (place, byte) in [(7 + 7, 3), (7 + 4, 4), (20 + 4, 4)] {
         let mut spoilt = table.clone();
         spoilt[place] = byte;
-        let spoilt = (&spoilt[..], counts(2, 3));
+        let spoilt = (&spoilt[..], opened(2, NUMBER, 3));
         let mut desk = vec![tunnel(0, &[1]), tunnel(2, &[1])];
         let before = desk.clone();
         assert_eq!(turn(&mut desk, spoilt, 1), refused(14, 0));
@@ -381,7 +389,7 @@ fn a_turn_that_leaves_the_table_is_refused_behind_the_watches() {
 fn of_an_emptied_first_row_no_event_can_happen() {
     let mut table = p12().to_bytes();
     table[12..20].fill(255);
-    let table = (&table[..], counts(2, 3));
+    let table = (&table[..], opened(2, NUMBER, 3));
     let mut desk = [tunnel(0, &[])];
     assert_eq!(post(&mut desk, table, 0, 0), refused(12, 0));
     assert_eq!(turn(&mut desk, table, 0), Ok(None));
@@ -415,7 +423,8 @@ fn random_calls_do_what_plain_lists_do() {
         for _ in 0..100 {
             if rng.chance(60) {
                 let (number, event) = (rng.below(row), rng.byte_below(4));
-                let is_taken = post(&mut desk, (&table, counts(2, 3)), number, event).is_ok();
+                let is_taken =
+                    post(&mut desk, (&table, opened(2, NUMBER, 3)), number, event).is_ok();
                 assert_eq!(is_taken, lists[number].len() < 32);
                 if is_taken {
                     lists[number].push(event);
@@ -424,7 +433,7 @@ fn random_calls_do_what_plain_lists_do() {
                 let from = if last < row { last + 1 } else { 0 };
                 let next = (from..row).chain(0..from).find(|&number| !lists[number].is_empty());
                 let expected = next.map(|number| (number, lists[number].remove(0)));
-                let heard = turn(&mut desk, (&table, counts(2, 3)), last).unwrap();
+                let heard = turn(&mut desk, (&table, opened(2, NUMBER, 3)), last).unwrap();
                 assert_eq!(heard.map(|heard| (heard.number, heard.event)), expected);
                 expected.iter().for_each(|&(number, event)| pasts[number].push(event));
                 last = next.unwrap_or(last);
@@ -434,4 +443,116 @@ fn random_calls_do_what_plain_lists_do() {
             assert_eq!((tunnel.heard as usize, tunnel.first_verdict()), (past.len(), broken(past)));
         }
     }
+}
+
+/// Numbers that differ from `NUMBER` in a bit, in a byte, and by one; and the ends.
+fn others() -> impl Iterator<Item = u16> {
+    let near = [NUMBER - 1, NUMBER + 1, NUMBER ^ 0xff, NUMBER ^ 0xff00, 0x0312, 0, 65535];
+    (0..16).map(|bit| NUMBER ^ 1 << bit).chain(near)
+}
+
+fn foreign(opening: u16, tunnel: Tunnel) -> Tunnel {
+    Tunnel { opening, ..tunnel }
+}
+
+#[test]
+fn a_watch_of_another_opening_is_named_wherever_it_stands() {
+    for other in others() {
+        for place in 0..4 {
+            let mut desk = vec![tunnel(0, &[2]); 4];
+            desk[place].opening = other;
+            let before = desk.clone();
+            assert_eq!(posted(&mut desk, 0, 2), refused(24, place));
+            assert_eq!(turned(&mut desk, 0), refused(24, place));
+            assert_eq!(desk, before);
+        }
+    }
+    let mut two = vec![blank(), foreign(1, blank()), foreign(2, blank())];
+    assert_eq!(turned(&mut two, 0), refused(24, 1));
+}
+
+/// A turn at which none waits, and where the foreign watch is not the one whose turn it is.
+#[test]
+fn a_turn_looks_at_every_watch() {
+    assert_eq!(turned(&mut [blank(), foreign(0, blank())], 0), refused(24, 1));
+    let mut desk = [tunnel(0, &[1]), blank(), foreign(NUMBER + 1, blank())];
+    assert_eq!(turned(&mut desk, 2), refused(24, 2));
+}
+
+/// "for all watches before any 13", and behind 14 and 18.
+#[test]
+fn the_numbers_are_judged_behind_the_row_and_before_every_wrong_watch() {
+    for (wrong, _) in wrong() {
+        let mut before_it = [wrong.clone(), blank(), foreign(5, blank())];
+        assert_eq!(posted(&mut before_it, 0, 0), refused(24, 2));
+        assert_eq!(turned(&mut before_it, 0), refused(24, 2));
+        let mut both = [blank(), foreign(5, wrong.clone())];
+        assert_eq!(posted(&mut both, 9, 9), refused(24, 1));
+        assert_eq!(turned(&mut both, 0), refused(24, 1));
+        let mut behind_it = [foreign(5, blank()), wrong];
+        assert_eq!(turned(&mut behind_it, 0), refused(24, 0));
+        behind_it[0].opening = NUMBER;
+        assert_eq!(turned(&mut behind_it, 0), refused(13, 1));
+    }
+    for row in [0, 65] {
+        let mut desk = vec![foreign(5, tunnel(3, &[9])); row];
+        assert_eq!(posted(&mut desk, 99, 9), refused(18, 0));
+        assert_eq!(turned(&mut desk, 99), refused(18, 0));
+    }
+    let table = p12().to_bytes();
+    let mut desk = [foreign(5, tunnel(3, &[9]))];
+    for given in [0, opened(2, NUMBER, 4), opened(5, NUMBER, 3), u64::MAX] {
+        assert_eq!(post(&mut desk, (&table, given), 99, 9), refused(14, 0));
+        assert_eq!(turn(&mut desk, (&table, given), 99), refused(14, 0));
+    }
+}
+
+/// 19, 12, 20 and 21 apply as well, and come later.
+#[test]
+fn the_numbers_are_judged_before_what_is_posted() {
+    let full = tunnel(0, &[0; 32]);
+    let last = aged(u32::MAX, blank());
+    let mut desk = [foreign(0, blank()), full, last];
+    for (number, event, by) in [(3, 0, 19), (0, 4, 12), (0, 3, 12), (1, 0, 20), (2, 0, 21)] {
+        desk[0].opening = 0;
+        assert_eq!(posted(&mut desk, number, event), refused(24, 0));
+        desk[0].opening = NUMBER;
+        assert_eq!(posted(&mut desk, number, event), refused(by, number));
+    }
+}
+
+/// A fresh desk takes the number of its opening, whatever numbers stood there; then it is served
+/// by openings with that number, and by no other.
+#[test]
+fn a_fresh_desk_is_of_its_opening() {
+    let table = p12().to_bytes();
+    for number in others() {
+        let own = (&table[..], opened(2, number, 3));
+        let mut desk = vec![blank(), foreign(1, tunnel(9, &[9])), foreign(2, blank())];
+        assert_eq!(fresh(&mut desk, own), Ok(()));
+        assert!(desk.iter().all(|tunnel| *tunnel == Tunnel::fresh(number, Undecided)));
+        assert_eq!(posted(&mut desk, 1, 1), refused(24, 0));
+        assert_eq!(turned(&mut desk, 1), refused(24, 0));
+        assert_eq!(post(&mut desk, own, 1, 1), Ok(()));
+        let state = State { opening: number, number: 1 };
+        let expected = Heard { number: 1, event: 1, state, verdict: Undecided };
+        assert_eq!(turn(&mut desk, own, 1), Ok(Some(expected)));
+        assert_eq!(desk[1].stands(), state);
+        assert!(desk.iter().all(|tunnel| tunnel.opening == number));
+    }
+}
+
+/// Another table with the same number is not told apart: 13 and 12 go by the table at hand.
+#[test]
+fn two_tables_with_one_number_are_not_told_apart() {
+    let (small, large) = (document_monitors()[2].clone(), p12());
+    let (small, large) = (small.to_bytes(), large.to_bytes());
+    let (small, large) = ((&small[..], opened(1, NUMBER, 3)), (&large[..], opened(2, NUMBER, 3)));
+    let mut desk = [blank()];
+    assert_eq!(fresh(&mut desk, large), Ok(()));
+    assert_eq!(post(&mut desk, large, 0, 1), Ok(()));
+    assert!(turn(&mut desk.clone(), small, 0).is_ok());
+    assert_eq!(post(&mut desk, small, 0, 2), refused(12, 0));
+    assert_eq!(post(&mut desk, large, 0, 2), Ok(()));
+    assert_eq!(turn(&mut desk, small, 0), refused(13, 0));
 }

@@ -8,12 +8,12 @@ use Verdict::{Moot, Satisfied, Undecided, Violated};
 
 type Judged = Result<Verdict, Refusal>;
 
-fn counts_of(monitor: &Monitor) -> u64 {
-    counts(monitor.signals, monitor.states.len())
+fn opened_of(monitor: &Monitor) -> u64 {
+    opened(monitor.signals, 700, monitor.states.len())
 }
 
 fn judged(monitor: &Monitor, first: &[u8], second: &[u8]) -> Judged {
-    judge((&monitor.to_bytes(), counts_of(monitor)), first, second)
+    judge((&monitor.to_bytes(), opened_of(monitor)), first, second)
 }
 
 fn refused<T>(number: u8, place: usize) -> Result<T, Refusal> {
@@ -30,12 +30,12 @@ fn p13() -> Monitor {
     document_monitors().remove(9)
 }
 
-/// The table of P12 with bytes changed since its counts were found. A row has 13 bytes, the first
+/// The table of P12 with bytes changed since it was opened. A row has 13 bytes, the first
 /// begins at 7; its verdict is the fifth, and its successors begin with the sixth.
 fn changed_p12(changes: &[(usize, u8)], first: &[u8], second: &[u8]) -> Judged {
     let mut bytes = p12().to_bytes();
     changes.iter().for_each(|&(place, byte)| bytes[place] = byte);
-    judge((&bytes, 131_075), first, second)
+    judge((&bytes, opened(2, 700, 3)), first, second)
 }
 
 /// The controller knows of each event whether a dose came.
@@ -195,8 +195,8 @@ fn a_joined_event_has_to_be_possible() {
 fn the_order_of_neighbouring_refusals() {
     let apart = p12_apart();
     // 14 before 22; 22 before the events'.
-    assert_eq!(judge((&apart.to_bytes(), 131_076), &[4], &[]), refused(14, 0));
-    assert_eq!(judge((&apart.to_bytes()[1..], 131_075), &[4], &[]), refused(14, 0));
+    assert_eq!(judge((&apart.to_bytes(), opened(2, 700, 4)), &[4], &[]), refused(14, 0));
+    assert_eq!(judge((&apart.to_bytes()[1..], opened(2, 700, 3)), &[4], &[]), refused(14, 0));
     assert_eq!(judged(&apart, &[4, 0, 1], &[1, 0, 1]), refused(22, 0));
     assert_eq!(judged(&apart, &[1, 1, 0, 0], &[1, 0]), refused(22, 0));
     // 12 for a recording before 23, in one event; 23 before 12 for what is joined: 1 and 2 make 3.
@@ -302,7 +302,7 @@ impl Drawn {
     /// Asked of the table with what is possible at each event.
     fn with_choices<T>(&self, ask: impl FnOnce(&Counted, &[Vec<u8>]) -> T) -> T {
         let bytes = self.monitor.to_bytes();
-        let table = Counted::new(&bytes, counts_of(&self.monitor)).unwrap();
+        let table = Counted::new(&bytes, opened_of(&self.monitor)).unwrap();
         let choices = joined(&table, &self.first, &self.second).unwrap();
         ask(&table, &choices)
     }
@@ -343,7 +343,7 @@ fn lists_and_sets_agree_over_bytes_that_are_no_table_any_more() {
             let place = rng.between(7, bytes.len() - 1);
             bytes[place] = *rng.pick(&[0, 3, 4, 8, 255]);
         }
-        let table = Counted::new(&bytes, counts_of(&case.monitor)).unwrap();
+        let table = Counted::new(&bytes, opened_of(&case.monitor)).unwrap();
         let Ok(choices) = joined(&table, &case.first, &case.second) else {
             continue;
         };
@@ -453,7 +453,7 @@ fn first_wins(monitor: &Monitor, first: &[u8], second: &[u8]) -> Judged {
 fn majority(monitor: &Monitor, first: &[u8], second: &[u8]) -> Judged {
     judged(monitor, first, second)?;
     let bytes = monitor.to_bytes();
-    let table = Counted::new(&bytes, counts_of(monitor)).unwrap();
+    let table = Counted::new(&bytes, opened_of(monitor)).unwrap();
     let choices = joined(&table, first, second)?;
     let mut votes = [0; 4];
     for list in completions(&choices) {
@@ -469,7 +469,7 @@ fn joined_check_forgotten(monitor: &Monitor, first: &[u8], second: &[u8]) -> Jud
     match judged(monitor, first, second) {
         Err(Refusal { number: 12, place }) => {
             let bytes = monitor.to_bytes();
-            let table = Counted::new(&bytes, counts_of(monitor)).unwrap();
+            let table = Counted::new(&bytes, opened_of(monitor)).unwrap();
             let [first, second] = [first, second].map(|all| events(all).nth(place).unwrap());
             match faults(&table, first, second).first() {
                 Some(Fault::NoCompletion) => Ok(Satisfied),
@@ -484,7 +484,7 @@ fn joined_check_forgotten(monitor: &Monitor, first: &[u8], second: &[u8]) -> Jud
 fn ends_forgotten(monitor: &Monitor, first: &[u8], second: &[u8]) -> Judged {
     judged(monitor, first, second)?;
     let bytes = monitor.to_bytes();
-    let table = Counted::new(&bytes, counts_of(monitor)).unwrap();
+    let table = Counted::new(&bytes, opened_of(monitor)).unwrap();
     let choices = joined(&table, first, second)?;
     let changes = |state: u16| {
         mask::events(table.possible).any(|e| table.step(state, e).unwrap().end_state != state)
@@ -531,4 +531,16 @@ fn drawn_cases_tell_other_programs_apart() {
         cases.iter().filter(is_told).count()
     });
     assert!(told[0] > 300 && told[1] > 100 && told[2] > 2, "{told:?}");
+}
+
+/// No state is taken, so an opening's number does not matter.
+#[test]
+fn whatever_the_number_is_the_answer_is_the_same() {
+    let table = p12().to_bytes();
+    for number in [0, 1, 255, 256, 65535] {
+        let judge = |first: &[u8], second| judge((&table, opened(2, number, 3)), first, second);
+        assert_eq!(judge(&DOSES, &SILENCE), Ok(Violated));
+        assert_eq!(judge(&DOSES, &ACKNOWLEDGED), Ok(Undecided));
+        assert_eq!(judge(&DOSES, &SILENCE[..4]), refused(22, 0));
+    }
 }
