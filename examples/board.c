@@ -35,34 +35,34 @@ static uint64_t or_stop(const char *what, uint64_t answer) {
 int main(void) {
     static uint8_t table[TEFUJI_TABLE_MAX];
     uint64_t length = or_stop("build", tefuji_build(rule, sizeof rule, table, sizeof table));
-    uint64_t counts = or_stop("check", tefuji_check(table, length));
-    printf("table of %llu bytes, %u signals, %u states\n", (unsigned long long)length, tefuji_signals(counts), tefuji_states(counts));
+    uint64_t opened = or_stop("open", tefuji_open(table, length, 1)); /* the board has one table, so any number will do */
+    printf("table of %llu bytes, %u signals, %u states\n", (unsigned long long)length, tefuji_signals(opened), tefuji_states(opened));
 
     /* What happens in the tunnel: a dose, silence, a second try, the acknowledgement, the next dose. */
     const uint8_t wanted[] = {DOSE, 0, DOSE, ACKNOWLEDGED, DOSE};
-    uint16_t state = 0;
+    uint32_t state = tefuji_start(opened);
     for (size_t i = 0; i < sizeof wanted; i++) {
-        uint64_t answer = or_stop("step", tefuji_step(table, length, counts, state, wanted[i]));
+        uint64_t answer = or_stop("step", tefuji_step(table, length, opened, state, wanted[i]));
         const char *event = wanted[i] == DOSE ? "dose" : wanted[i] == ACKNOWLEDGED ? "acknowledged" : "nothing";
         if (wanted[i] == DOSE && tefuji_verdict(answer) == TEFUJI_VIOLATED) {
             printf("%s: held back\n", event);
             continue; /* the dose does not happen: the watcher stays where it was */
         }
         state = tefuji_state(answer);
-        printf("%s: state %u\n", event, state);
+        printf("%s: state %u\n", event, tefuji_state_number(state));
     }
 
     /* The same events as they would have gone without the watcher, in one call. */
     uint64_t count;
-    uint64_t end = or_stop("run", tefuji_run(table, length, 0, wanted, 3, &count));
+    uint64_t end = or_stop("run", tefuji_run(table, length, opened, tefuji_start(opened), wanted, 3, &count));
     printf("unwatched: verdict %u after %llu events\n", tefuji_verdict(end), (unsigned long long)count);
 
     /* An event that needs a third signal is refused, with its number and place. */
-    uint64_t refused = tefuji_step(table, length, counts, state, 4);
+    uint64_t refused = tefuji_step(table, length, opened, state, 4);
     printf("event 4: refused %u at %llu\n", tefuji_refusal(refused), (unsigned long long)tefuji_place(refused));
 
-    /* A table cut short after it was checked: no verdict, but a refusal. */
-    refused = tefuji_step(table, 20, counts, 1, DOSE);
+    /* A table cut short after it was opened: no verdict, but a refusal. */
+    refused = tefuji_step(table, 20, opened, state, DOSE);
     printf("table cut to 20 bytes: refused %u at %llu\n", tefuji_refusal(refused), (unsigned long long)tefuji_place(refused));
     return 0;
 }

@@ -18,7 +18,7 @@ static const char *const words[] = {"nothing", "dose", "acknowledged"};
 _Static_assert(sizeof(tefuji_watch) == 48, "a watch has no byte but those of its members");
 
 static uint8_t table[TEFUJI_TABLE_MAX];
-static uint64_t length, counts;
+static uint64_t length, opened;
 static tefuji_watch desk[TUNNELS];
 static size_t last = TUNNELS; /* outside the row: the first turn begins with tunnel 0 */
 static int accepted, heard;   /* how many events */
@@ -37,20 +37,20 @@ static void start(void) {
     size_t size = file ? fread(rule, 1, sizeof rule, file) : 0;
     if (file) fclose(file);
     length = or_stop("build", tefuji_build(rule, size, table, sizeof table));
-    counts = or_stop("check", tefuji_check(table, length));
-    or_stop("fresh", tefuji_fresh(desk, TUNNELS, table, length, counts));
+    opened = or_stop("open", tefuji_open(table, length, 1)); /* one table, so any number will do */
+    or_stop("fresh", tefuji_fresh(desk, TUNNELS, table, length, opened));
     printf("%d tunnels, one table of %d bytes\n", TUNNELS, (int)length);
 }
 
 static void post(size_t number, uint8_t event) {
-    uint64_t answer = tefuji_post(desk, TUNNELS, table, length, counts, number, event);
+    uint64_t answer = tefuji_post(desk, TUNNELS, table, length, opened, number, event);
     if (tefuji_refusal(answer))
         printf("event %u to tunnel %d: refused %u at %d\n", event, (int)number, tefuji_refusal(answer), (int)tefuji_place(answer));
     else accepted++;
 }
 
 static uint64_t turn(void) {
-    uint64_t answer = or_stop("turn", tefuji_turn(desk, TUNNELS, table, length, counts, last));
+    uint64_t answer = or_stop("turn", tefuji_turn(desk, TUNNELS, table, length, opened, last));
     last = tefuji_last(answer, last);
     heard += tefuji_heard(answer);
     return answer;
@@ -60,7 +60,7 @@ static void say(uint64_t answer) {
     int held_back = tefuji_event(answer) == DOSE && tefuji_verdict(answer) == TEFUJI_VIOLATED;
     printf("tunnel %d: %s, ", (int)tefuji_number(answer), words[tefuji_event(answer)]);
     if (held_back) printf("held back\n");
-    else printf("state %u\n", tefuji_state(answer));
+    else printf("state %u\n", tefuji_state_number(tefuji_state(answer)));
 }
 
 /* The rule of the second dose is never satisfied for good, so the verdict that a watch remembers is that it was broken. */

@@ -32,20 +32,20 @@ static uint64_t build(const char *path) {
     uint64_t length = tefuji_build(rule, fread(rule, 1, sizeof rule, file), table, sizeof table);
     fclose(file);
     if (tefuji_refusal(length)) printf("%s: refused %u at %d\n", path, tefuji_refusal(length), (int)tefuji_place(length));
-    else printf("%s: %d bytes, %u states\n", path, (int)length, tefuji_states(tefuji_check(table, length)));
+    else printf("%s: %d bytes, %u states\n", path, (int)length, tefuji_states(tefuji_open(table, length, 1)));
     return length;
 }
 
 /* Reads events one at a time from the start, if a table was built. */
 static void watch(uint64_t length, const uint8_t *events, size_t size) {
     if (tefuji_refusal(length)) return;
-    uint64_t counts = tefuji_check(table, length);
-    uint16_t state = 0;
+    uint64_t opened = tefuji_open(table, length, 1);
+    uint32_t state = tefuji_start(opened);
     for (size_t i = 0; i < size; i++) {
-        uint64_t answer = tefuji_step(table, length, counts, state, events[i]);
+        uint64_t answer = tefuji_step(table, length, opened, state, events[i]);
         if (tefuji_refusal(answer)) return;
         state = tefuji_state(answer);
-        printf("event %u: state %u, verdict %u\n", events[i], state, tefuji_verdict(answer));
+        printf("event %u: state %u, verdict %u\n", events[i], tefuji_state_number(state), tefuji_verdict(answer));
     }
 }
 

@@ -20,7 +20,7 @@ enum { DOSE = 1, ACKNOWLEDGED = 2, BOTH = 3 };
 static const char *const words[] = {"undecided", "satisfied", "violated", "moot"};
 
 static uint8_t table[TEFUJI_TABLE_MAX];
-static uint64_t length, counts;
+static uint64_t length, opened;
 
 static uint64_t or_stop(const char *what, uint64_t answer) {
     if (tefuji_refusal(answer)) {
@@ -36,11 +36,11 @@ static void start(void) {
     size_t size = file ? fread(rule, 1, sizeof rule, file) : 0;
     if (file) fclose(file);
     length = or_stop("build", tefuji_build(rule, size, table, sizeof table));
-    counts = or_stop("check", tefuji_check(table, length));
+    opened = or_stop("open", tefuji_open(table, length, 1));
 }
 
 static void judge(const char *what, const uint8_t *first, size_t first_length, const uint8_t *second, size_t second_length) {
-    uint64_t answer = tefuji_judge(table, length, counts, first, first_length, second, second_length);
+    uint64_t answer = tefuji_judge(table, length, opened, first, first_length, second, second_length);
     if (tefuji_refusal(answer)) printf("%s: refused %u at %d\n", what, tefuji_refusal(answer), (int)tefuji_place(answer));
     else printf("%s: %s\n", what, words[tefuji_verdict(answer)]);
 }

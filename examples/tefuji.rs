@@ -23,11 +23,13 @@ pub mod library {
             table: *mut u8,
             table_length: usize,
         ) -> u64;
-        pub fn tefuji_check(table: *const u8, table_length: usize) -> u64;
+        pub fn tefuji_open(table: *const u8, table_length: usize, number: u16) -> u64;
+        pub fn tefuji_start(opened: u64) -> u32;
         pub fn tefuji_run(
             table: *const u8,
             table_length: usize,
-            state: u16,
+            opened: u64,
+            state: u32,
             events: *const u8,
             events_length: usize,
             count: *mut u64,
@@ -35,8 +37,8 @@ pub mod library {
         pub fn tefuji_step(
             table: *const u8,
             table_length: usize,
-            counts: u64,
-            state: u16,
+            opened: u64,
+            state: u32,
             event: u8,
         ) -> u64;
         pub fn tefuji_text(
@@ -50,14 +52,14 @@ pub mod library {
             watches: usize,
             table: *const u8,
             table_length: usize,
-            counts: u64,
+            opened: u64,
         ) -> u64;
         pub fn tefuji_post(
             desk: *mut Watch,
             watches: usize,
             table: *const u8,
             table_length: usize,
-            counts: u64,
+            opened: u64,
             number: usize,
             event: u8,
         ) -> u64;
@@ -66,13 +68,13 @@ pub mod library {
             watches: usize,
             table: *const u8,
             table_length: usize,
-            counts: u64,
+            opened: u64,
             last: usize,
         ) -> u64;
         pub fn tefuji_judge(
             table: *const u8,
             table_length: usize,
-            counts: u64,
+            opened: u64,
             first: *const u8,
             first_length: usize,
             second: *const u8,
@@ -96,7 +98,7 @@ pub const DESK_MAX: usize = 64;
 /// The most events that wait for one tunnel.
 pub const QUEUE_MAX: usize = 32;
 
-/// A refusal: its number, 1 to 23, and its place. What was lent keeps every byte.
+/// A refusal: its number, 1 to 24, and its place. What was lent keeps every byte.
 #[derive(Clone, Copy, Debug, PartialEq, Eq)]
 pub struct Refusal {
     pub number: u8,
@@ -130,10 +132,42 @@ impl fmt::Display for Verdict {
     }
 }
 
+/// A state of a table, with the number of the opening of which it is. An opening with another number refuses it by 24. It may be stored as the 32 bits that
+/// it is, and be read again later; any 32 bits are a state.
+#[derive(Clone, Copy, Debug, PartialEq, Eq, PartialOrd, Ord, Hash)]
+pub struct State(u32);
+
+impl State {
+    pub const fn from_bits(bits: u32) -> Self {
+        State(bits)
+    }
+
+    pub const fn to_bits(self) -> u32 {
+        self.0
+    }
+
+    /// The number of the opening.
+    pub const fn opening(self) -> u16 {
+        (self.0 >> 16) as u16
+    }
+
+    /// The state's own number, by which the table's rows are counted.
+    pub const fn number(self) -> u16 {
+        self.0 as u16
+    }
+}
+
+/// The state's own number.
+impl fmt::Display for State {
+    fn fmt(&self, out: &mut fmt::Formatter<'_>) -> fmt::Result {
+        self.number().fmt(out)
+    }
+}
+
 /// Where an event or a list of events leads.
 #[derive(Clone, Copy, Debug, PartialEq, Eq)]
 pub struct Reached {
-    pub state: u16,
+    pub state: State,
     pub verdict: Verdict,
 }
 
@@ -144,15 +178,19 @@ pub struct Ended {
     pub count: Option<u64>,
 }
 
-/// The watch of one tunnel: the state in which the table stands for it, how many events wait, what it remembers, and the slots, the oldest event first.
-/// The first `waiting` slots count; the others are free. A desk is a row of watches, and a tunnel's number the index of its watch. Any values are a watch.
+/// The watch of one tunnel: the state in which the table stands for it and the number of its opening, how many events wait, what it remembers, and the
+/// slots, the oldest event first. The first `waiting` slots count; the others are free. A desk is a row of watches, and a tunnel's number the index of its
+/// watch. Any values are a watch.
 #[repr(C)]
 #[derive(Clone, Copy, Debug, PartialEq, Eq)]
 pub struct Watch {
+    /// The state's own number. `state()` gives it with the opening's.
     pub state: u16,
+    /// The number of the opening. Openings with another refuse the watch by 24.
+    pub opening: u16,
     pub waiting: u16,
     /// Not 0 where `first` counts. `first_verdict` reads both.
-    pub filled: u32,
+    pub filled: u16,
     /// How many events were heard.
     pub heard: u32,
     pub first: u32,
@@ -163,9 +201,22 @@ pub struct Watch {
 const _: () = assert!(size_of::<Watch>() == 16 + QUEUE_MAX && align_of::<Watch>() == 4);
 
 impl Watch {
-    /// Each byte 0: a row of these is what `Opened::fresh` makes a desk of. It is a fresh watch itself only where the start's verdict is undecided.
-    pub const BLANK: Watch =
-        Watch { state: 0, waiting: 0, filled: 0, heard: 0, first: 0, events: [0; QUEUE_MAX] };
+    /// Each byte 0: a row of these is what `Opened::fresh` makes a desk of. It is a fresh watch itself only for an opening with the number 0, where the
+    /// start's verdict is undecided.
+    pub const BLANK: Watch = Watch {
+        state: 0,
+        opening: 0,
+        waiting: 0,
+        filled: 0,
+        heard: 0,
+        first: 0,
+        events: [0; QUEUE_MAX],
+    };
+
+    /// The state in which the table stands for the tunnel, as a step with the desk's opening takes it.
+    pub fn state(&self) -> State {
+        State((self.opening as u32) << 16 | self.state as u32)
+    }
 
     /// At which of the tunnel's heard events, counted from 1, a verdict other than undecided first stood; 0 before the first, none if not yet.
     pub fn first_verdict(&self) -> Option<u32> {
@@ -189,7 +240,7 @@ fn answered(answer: u64) -> Result<u64, Refusal> {
 }
 
 fn verdict(answer: u64) -> Verdict {
-    match (answer >> 16) as u8 {
+    match (answer >> 32) as u8 {
         0 => Verdict::Undecided,
         1 => Verdict::Satisfied,
         2 => Verdict::Violated,
@@ -198,14 +249,14 @@ fn verdict(answer: u64) -> Verdict {
 }
 
 fn reached(answer: u64) -> Reached {
-    Reached { state: answer as u16, verdict: verdict(answer) }
+    Reached { state: State(answer as u32), verdict: verdict(answer) }
 }
 
 /// Nothing where a turn's answer says that none waits.
 fn heard(answer: u64) -> Option<Heard> {
-    let number = usize::from((answer >> 32) as u8);
-    let heard = Heard { number, event: (answer >> 24) as u8, reached: reached(answer) };
-    (answer >> 40 == 1).then_some(heard)
+    let number = (answer >> 48) as usize & 127;
+    let heard = Heard { number, event: (answer >> 40) as u8, reached: reached(answer) };
+    (answer >> 55 == 1).then_some(heard)
 }
 
 /// Reads a rule text over so many signals, writes its rule file into the front of `rule`, and returns the file's length.
@@ -226,24 +277,6 @@ pub fn build(rule: &[u8], table: &mut [u8]) -> Result<usize, Refusal> {
     answered(answer).map(|length| length as usize)
 }
 
-/// Checks a table's bytes, and runs them from a state over a list of events. The first that is none or cannot happen is refused by 12.
-pub fn run(table: &[u8], state: u16, events: &[u8]) -> Result<Ended, Refusal> {
-    let mut count = 0;
-    // All three are lent for the call.
-    let answer = unsafe {
-        library::tefuji_run(
-            table.as_ptr(),
-            table.len(),
-            state,
-            events.as_ptr(),
-            events.len(),
-            &mut count,
-        )
-    };
-    let reached = answered(answer).map(reached)?;
-    Ok(Ended { reached, count: (count != u64::MAX).then_some(count) })
-}
-
 /// Writes a table as text into the front of `text`, which has at least `TEXT_ROOM` bytes, and returns the length.
 pub fn text(table: &[u8], text: &mut [u8]) -> Result<usize, Refusal> {
     // Both slices are good for their lengths during the call, and a `&mut` overlaps nothing.
@@ -252,47 +285,81 @@ pub fn text(table: &[u8], text: &mut [u8]) -> Result<usize, Refusal> {
     answered(answer).map(|length| length as usize)
 }
 
-/// A table opened once and stepped many times. Only `open` makes one, so the counts are always those of the bytes.
+/// A table opened once, with a number of the program's choice, and run many times. Only `open` makes one, so the counts are always those of the bytes.
+/// States and watches carry the number; give each table one of its own. With two openings of the same number states of the one are taken by the other, and
+/// what is answered goes by the table at hand.
 #[derive(Clone, Copy, Debug)]
 pub struct Opened<'a> {
     bytes: &'a [u8],
-    counts: u64,
+    opened: u64,
 }
 
 impl<'a> Opened<'a> {
-    pub fn open(bytes: &'a [u8]) -> Result<Self, Refusal> {
+    pub fn open(bytes: &'a [u8], number: u16) -> Result<Self, Refusal> {
         // The slice is lent for the call.
-        let answer = unsafe { library::tefuji_check(bytes.as_ptr(), bytes.len()) };
-        answered(answer).map(|counts| Opened { bytes, counts })
+        let answer = unsafe { library::tefuji_open(bytes.as_ptr(), bytes.len(), number) };
+        answered(answer).map(|opened| Opened { bytes, opened })
     }
 
     pub fn signals(self) -> u8 {
-        (self.counts >> 16) as u8
+        (self.opened >> 32) as u8
+    }
+
+    pub fn number(self) -> u16 {
+        (self.opened >> 16) as u16
     }
 
     pub fn states(self) -> u16 {
-        self.counts as u16
+        self.opened as u16
     }
 
-    pub fn step(self, state: u16, event: u8) -> Result<Reached, Refusal> {
-        // The slice is lent for the call.
+    /// The state in which every list of events begins.
+    pub fn start(self) -> State {
+        // The function takes any number.
+        State(unsafe { library::tefuji_start(self.opened) })
+    }
+
+    /// Runs the table from a state over a list of events. A state of an opening with another number is refused by 24, one that the table has not by 13, and
+    /// the first event that is none or cannot happen by 12.
+    pub fn run(self, state: State, events: &[u8]) -> Result<Ended, Refusal> {
+        let mut count = 0;
+        // All three are lent for the call.
         let answer = unsafe {
-            library::tefuji_step(self.bytes.as_ptr(), self.bytes.len(), self.counts, state, event)
+            library::tefuji_run(
+                self.bytes.as_ptr(),
+                self.bytes.len(),
+                self.opened,
+                state.0,
+                events.as_ptr(),
+                events.len(),
+                &mut count,
+            )
         };
+        let reached = answered(answer).map(reached)?;
+        Ok(Ended { reached, count: (count != u64::MAX).then_some(count) })
+    }
+
+    /// A run over one event.
+    pub fn step(self, state: State, event: u8) -> Result<Reached, Refusal> {
+        let (bytes, length) = (self.bytes.as_ptr(), self.bytes.len());
+        // The slice is lent for the call.
+        let answer = unsafe { library::tefuji_step(bytes, length, self.opened, state.0, event) };
         answered(answer).map(reached)
     }
 
-    /// Makes a fresh desk of a row of watches, whatever stood there. A row that is empty or above `DESK_MAX` is refused by 18.
+    /// Makes a fresh desk of a row of watches, whatever stood there; each carries this opening's number. A row that is empty or above `DESK_MAX` is refused
+    /// by 18.
     pub fn fresh(self, desk: &mut [Watch]) -> Result<(), Refusal> {
         let (bytes, length) = (self.bytes.as_ptr(), self.bytes.len());
         // Both slices are lent for the call, and a `&mut` overlaps nothing.
         let answer = unsafe {
-            library::tefuji_fresh(desk.as_mut_ptr(), desk.len(), bytes, length, self.counts)
+            library::tefuji_fresh(desk.as_mut_ptr(), desk.len(), bytes, length, self.opened)
         };
         answered(answer).map(|_| ())
     }
 
-    /// Adds an event to those that wait for the tunnel with this number. 20 says that its queue is full, 21 that it has had 4,294,967,295 events.
+    /// Adds an event to those that wait for the tunnel with this number. A desk of an opening with another number is refused by 24 at its first such watch.
+    /// 20 says that the tunnel's queue is full, 21 that it has had 4,294,967,295 events.
     pub fn post(self, desk: &mut [Watch], number: usize, event: u8) -> Result<(), Refusal> {
         // Both slices are lent for the call, and a `&mut` overlaps nothing.
         let answer = unsafe {
@@ -301,7 +368,7 @@ impl<'a> Opened<'a> {
                 desk.len(),
                 self.bytes.as_ptr(),
                 self.bytes.len(),
-                self.counts,
+                self.opened,
                 number,
                 event,
             )
@@ -310,7 +377,7 @@ impl<'a> Opened<'a> {
     }
 
     /// Hears the oldest event of the next tunnel after `last` that has one waiting, going round; none where none waits, and `last` then stays what it
-    /// was. A number outside the row counts as the last tunnel.
+    /// was. A number outside the row counts as the last tunnel. A desk of an opening with another number is refused by 24, also where none waits.
     pub fn turn(self, desk: &mut [Watch], last: usize) -> Result<Option<Heard>, Refusal> {
         // Both slices are lent for the call, and a `&mut` overlaps nothing.
         let answer = unsafe {
@@ -319,7 +386,7 @@ impl<'a> Opened<'a> {
                 desk.len(),
                 self.bytes.as_ptr(),
                 self.bytes.len(),
-                self.counts,
+                self.opened,
                 last,
             )
         };
@@ -334,7 +401,7 @@ impl<'a> Opened<'a> {
             library::tefuji_judge(
                 self.bytes.as_ptr(),
                 self.bytes.len(),
-                self.counts,
+                self.opened,
                 first.as_ptr(),
                 first.len(),
                 second.as_ptr(),

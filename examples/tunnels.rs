@@ -16,7 +16,7 @@ fn main() -> Result<(), Box<dyn Error>> {
     let rule = std::fs::read(path)?;
     let mut table = vec![0; TABLE_MAX];
     let length = tefuji::build(&rule, &mut table)?;
-    serve(Opened::open(&table[..length])?, posts)
+    serve(Opened::open(&table[..length], 1)?, posts)
 }
 
 fn serve(opened: Opened, posts: &[String]) -> Result<(), Box<dyn Error>> {

@@ -22,15 +22,15 @@ static void run(const char *text) {
     if (refused(written)) return;
     uint64_t length = tefuji_build(rule, written, table, sizeof table);
     if (refused(length)) return;
-    uint64_t counts = tefuji_check(table, length);
+    uint64_t opened = tefuji_open(table, length, 1);
     printf("rule of %d bytes, table of %d bytes\n", (int)written, (int)length);
 
     const uint8_t events[] = {1, 0, 1}; /* a dose, silence, a second dose */
-    uint16_t state = 0;
+    uint32_t state = tefuji_start(opened);
     for (size_t i = 0; i < sizeof events; i++) {
-        uint64_t answer = tefuji_step(table, length, counts, state, events[i]);
+        uint64_t answer = tefuji_step(table, length, opened, state, events[i]);
         state = tefuji_state(answer);
-        printf("event %u: state %u, verdict %u\n", events[i], state, tefuji_verdict(answer));
+        printf("event %u: state %u, verdict %u\n", events[i], tefuji_state_number(state), tefuji_verdict(answer));
     }
 }
 

@@ -26,7 +26,7 @@ static uint8_t table[TEFUJI_TABLE_MAX], text[TEFUJI_TEXT_ROOM];
 
 static void say(const char *what, uint64_t answer) {
     if (tefuji_refusal(answer)) printf("%s: refused %u at %d\n", what, tefuji_refusal(answer), (int)tefuji_place(answer));
-    else printf("%s: state %u, %s\n", what, tefuji_state(answer), words[tefuji_verdict(answer)]);
+    else printf("%s: state %u, %s\n", what, tefuji_state_number(tefuji_state(answer)), words[tefuji_verdict(answer)]);
 }
 
 /* Builds and prints the table of a rule file, and watches a dose, silence and a dose. */
@@ -39,18 +39,18 @@ static void watch(const char *name, const uint8_t *rule, size_t size) {
     printf("%s: rule of %d bytes, table of %d bytes\n", name, (int)size, (int)length);
     fwrite(text, 1, tefuji_text(table, length, text, sizeof text), stdout);
 
-    uint64_t counts = tefuji_check(table, length);
+    uint64_t opened = tefuji_open(table, length, 1);
     const uint8_t events[] = {DOSE, 0, DOSE};
-    uint16_t state = 0;
+    uint32_t state = tefuji_start(opened);
     for (size_t i = 0; i < sizeof events; i++) {
-        uint64_t answer = tefuji_step(table, length, counts, state, events[i]);
+        uint64_t answer = tefuji_step(table, length, opened, state, events[i]);
         say(events[i] == DOSE ? "dose" : "silence", answer);
         state = tefuji_state(answer);
     }
     uint64_t count;
-    tefuji_run(table, length, 0, events, sizeof events, &count);
+    tefuji_run(table, length, opened, tefuji_start(opened), events, sizeof events, &count);
     printf("decided after %d events\n", (int)count);
-    say("both at once", tefuji_step(table, length, counts, 0, BOTH));
+    say("both at once", tefuji_step(table, length, opened, tefuji_start(opened), BOTH));
 }
 
 int main(void) {

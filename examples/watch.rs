@@ -43,14 +43,14 @@ fn watch(rule: &[u8], events: &[u8]) -> Result<(), Refusal> {
     let written = tefuji::text(table, &mut text)?;
     print!("{}", String::from_utf8_lossy(&text[..written]));
 
-    let opened = Opened::open(table)?;
-    let mut state = 0;
+    let opened = Opened::open(table, 1)?;
+    let mut state = opened.start();
     for &event in events {
         let reached = opened.step(state, event)?;
         println!("event {event}: state {} {}", reached.state, reached.verdict);
         state = reached.state;
     }
-    let ended = tefuji::run(table, 0, events)?;
+    let ended = opened.run(opened.start(), events)?;
     match ended.count {
         Some(count) => println!("first decided after {count} events"),
         None => println!("never decided"),
