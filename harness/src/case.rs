@@ -3,6 +3,7 @@
 use std::fmt;
 
 use oracle::desk::Tunnel;
+use oracle::openings::State;
 
 pub struct Case {
     /// The generator's name for it, counted in the summary.
@@ -23,19 +24,28 @@ pub enum Input {
         rooms: Vec<Room>,
         paint: u8,
     },
-    Check {
+    Open {
         table: Vec<u8>,
+        number: u16,
     },
+    /// The opening need not be the table's.
     Run {
         table: Vec<u8>,
-        state: u16,
+        opened: u64,
+        state: State,
         events: Vec<u8>,
         cell: u64,
     },
     Step {
         table: Vec<u8>,
+        number: u16,
         steps: Vec<Step>,
         strays: Vec<(u64, Step)>,
+    },
+    /// Good tables, each with the number of its opening, and runs with them.
+    Openings {
+        tables: Vec<(Vec<u8>, u16)>,
+        runs: Vec<Passed>,
     },
     Text {
         table: Vec<u8>,
@@ -51,6 +61,7 @@ pub enum Input {
     /// A desk that is made fresh first; the table is good, and the first turn takes `last`.
     History {
         table: Vec<u8>,
+        number: u16,
         desk: Vec<Tunnel>,
         last: usize,
         moves: Vec<Move>,
@@ -62,19 +73,19 @@ pub enum Input {
     },
 }
 
-/// Two recordings, and counts that need not be the table's.
+/// Two recordings, and an opening that need not be the table's.
 pub struct Recordings {
-    pub counts: u64,
+    pub opened: u64,
     pub first: Vec<u8>,
     pub second: Vec<u8>,
 }
 
-/// A call over a desk. The counts need not be the table's.
+/// A call over a desk. The opening need not be the table's.
 #[derive(Clone, Copy, Debug)]
 pub enum Call {
-    Fresh { counts: u64 },
-    Post { counts: u64, number: usize, event: u8 },
-    Turn { counts: u64, last: usize },
+    Fresh { opened: u64 },
+    Post { opened: u64, number: usize, event: u8 },
+    Turn { opened: u64, last: usize },
 }
 
 impl Call {
@@ -87,10 +98,10 @@ impl Call {
         }
     }
 
-    pub fn counts(self) -> u64 {
+    pub fn opened(self) -> u64 {
         match self {
-            Call::Fresh { counts } | Call::Post { counts, .. } | Call::Turn { counts, .. } => {
-                counts
+            Call::Fresh { opened } | Call::Post { opened, .. } | Call::Turn { opened, .. } => {
+                opened
             }
         }
     }
@@ -109,13 +120,27 @@ pub enum Move {
     },
     /// Takes the number that the turn before returned.
     Turn,
+    /// A post and a turn with the same table opened with another number.
+    Foreign {
+        number: u16,
+        event: u8,
+    },
 }
 
 /// One event read in one state.
 #[derive(Clone, Copy, Debug)]
 pub struct Step {
-    pub state: u16,
+    pub state: State,
     pub event: u8,
+}
+
+/// A run with one of several openings, from one of the states that are held by then: first the
+/// starts, then what runs returned, counted round.
+#[derive(Clone, Debug)]
+pub struct Passed {
+    pub by: usize,
+    pub from: usize,
+    pub events: Vec<u8>,
 }
 
 /// The length of an output, beside that of the table or the rule file. Where there is none, it is as if a
@@ -148,9 +173,10 @@ impl Input {
         match self {
             Input::Write { .. } => "write",
             Input::Build { .. } => "build",
-            Input::Check { .. } => "check",
+            Input::Open { .. } => "open",
             Input::Run { .. } => "run",
             Input::Step { .. } => "step",
+            Input::Openings { .. } => "openings",
             Input::Text { .. } => "text",
             Input::Desk { .. } => "desk",
             Input::History { .. } => "history",
@@ -170,14 +196,19 @@ impl fmt::Display for Case {
             Input::Build { rule, rooms, paint } => {
                 write!(out, "rule {}\noutputs {rooms:?}, painted {paint}", Hex(rule))
             }
-            Input::Check { table } => write!(out, "table {}", Hex(table)),
-            Input::Run { table, state, events, cell } => {
-                write!(out, "table {}\nstate {state}\n", Hex(table))?;
+            Input::Open { table, number } => write!(out, "table {}, number {number}", Hex(table)),
+            Input::Run { table, opened, state, events, cell } => {
+                write!(out, "table {}\nopening {opened:#x}, {state:?}\n", Hex(table))?;
                 write!(out, "events {}\ncell of the count {cell}", Hex(events))
             }
-            Input::Step { table, steps, strays } => {
-                write!(out, "table {}\nsteps {steps:?}\n", Hex(table))?;
-                write!(out, "steps with other counts {strays:?}")
+            Input::Step { table, number, steps, strays } => {
+                write!(out, "table {}\nnumber {number}, steps {steps:?}\n", Hex(table))?;
+                write!(out, "steps with other openings {strays:?}")
+            }
+            Input::Openings { tables, runs } => {
+                let list = |(table, number): &(Vec<u8>, u16)| format!("{number}: {}", Hex(table));
+                let tables: Vec<String> = tables.iter().map(list).collect();
+                write!(out, "tables by their numbers {}\nruns {runs:?}", tables.join(", "))
             }
             Input::Text { table, length, paint } => {
                 write!(out, "table {}\noutput of {length} bytes, painted {paint}", Hex(table))
@@ -185,8 +216,8 @@ impl fmt::Display for Case {
             Input::Desk { table, desk, calls } => {
                 write!(out, "table {}\n{}calls {calls:?}", Hex(table), Row(desk))
             }
-            Input::History { table, desk, last, moves } => {
-                write!(out, "table {}\n{}", Hex(table), Row(desk))?;
+            Input::History { table, number, desk, last, moves } => {
+                write!(out, "table {}, number {number}\n{}", Hex(table), Row(desk))?;
                 write!(out, "fresh, last heard {last}, then {moves:?}")
             }
             Input::Judge { table, pairs } => {
@@ -199,8 +230,8 @@ impl fmt::Display for Case {
 
 impl fmt::Display for Recordings {
     fn fmt(&self, out: &mut fmt::Formatter<'_>) -> fmt::Result {
-        let Recordings { counts, first, second } = self;
-        write!(out, "counts {counts}, first {}, second {}", Hex(first), Hex(second))
+        let Recordings { opened, first, second } = self;
+        write!(out, "opening {opened:#x}, first {}, second {}", Hex(first), Hex(second))
     }
 }
 
@@ -211,9 +242,12 @@ impl fmt::Display for Row<'_> {
     fn fmt(&self, out: &mut fmt::Formatter<'_>) -> fmt::Result {
         writeln!(out, "{} watches", self.0.len())?;
         for (number, tunnel) in self.0.iter().enumerate() {
-            let Tunnel { state, waiting, filled, heard, first, slots } = tunnel;
+            let Tunnel { state, opening, waiting, filled, heard, first, slots } = tunnel;
             let slots: Vec<u8> = slots.iter().copied().collect();
-            write!(out, "{number}: state {state}, {waiting} waiting, {heard} heard, ")?;
+            write!(
+                out,
+                "{number}: state {state} of {opening}, {waiting} waiting, {heard} heard, "
+            )?;
             writeln!(out, "filled {filled}, first {first}, slots {}", Hex(&slots))?;
         }
         Ok(())

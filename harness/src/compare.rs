@@ -7,6 +7,7 @@ mod build;
 mod desk;
 mod history;
 mod judge;
+mod openings;
 mod run;
 mod step;
 mod text;
@@ -14,6 +15,7 @@ mod write;
 
 use std::fmt::{self, Debug};
 
+use oracle::counted::number_of;
 use oracle::table::Monitor;
 
 use crate::answer;
@@ -45,36 +47,62 @@ pub fn case(case: &Case, tally: &mut Tally) -> Compared {
             write::compare(text, *signals, rooms, *paint, tally)
         }
         Input::Build { rule, rooms, paint } => build::compare(rule, rooms, *paint, tally),
-        Input::Check { table } => check(table, tally),
-        Input::Run { table, state, events, cell } => {
-            run::compare(table, *state, events, *cell, tally)
+        Input::Open { table, number } => open(table, *number, tally),
+        Input::Run { table, opened, state, events, cell } => {
+            run::compare((table, *opened), *state, events, *cell, tally)
         }
-        Input::Step { table, steps, strays } => step::compare(table, steps, strays, tally),
+        Input::Step { table, number, steps, strays } => {
+            step::compare(table, *number, steps, strays, tally)
+        }
+        Input::Openings { tables, runs } => openings::compare(tables, runs, tally),
         Input::Text { table, length, paint } => text::compare(table, *length, *paint, tally),
         Input::Desk { table, desk, calls } => desk::compare(table, desk, calls, tally),
-        Input::History { table, desk, last, moves } => {
-            history::compare(table, desk, *last, moves, tally)
+        Input::History { table, number, desk, last, moves } => {
+            history::compare((table, *number), desk, *last, moves, tally)
         }
         Input::Judge { table, pairs } => judge::compare(table, pairs, tally),
     }
 }
 
-fn check(table: &[u8], tally: &mut Tally) -> Compared {
+fn open(table: &[u8], number: u16, tally: &mut Tally) -> Compared {
     let lent = lent(table);
     let expected = Monitor::open(table);
-    let code = answer::checked(&expected);
-    same_code("answer of check", library::check(&lent), code)?;
+    let code = answer::opening(&expected, number);
+    same_code("answer of open", library::open(&lent, number), code)?;
+    same_start(code)?;
     match &expected {
-        Ok(monitor) => tally.add_masked("check", monitor),
+        Ok(monitor) => tally.add_masked("open", monitor),
         Err(_) => tally.add_spoilt(table),
     }
-    let opened = tefuji::Opened::open(&lent);
-    let counts = opened.map(|opened| (opened.signals(), usize::from(opened.states())));
+    let opened = tefuji::Opened::open(&lent, number);
+    let found = opened.map(|opened| (opened.signals(), usize::from(opened.states())));
     let expected = expected.map(|monitor| (monitor.signals, monitor.states.len()));
-    same("what opening found", counts, expected.map_err(answer::refusal))?;
+    same("what opening found", found, expected.map_err(answer::refusal))?;
+    if let Ok(opened) = opened {
+        let start = opened.start();
+        let parts = (opened.number(), start.opening(), start.number());
+        same("number and start by the wrapper", parts, (number, number, 0))?;
+    }
     same_bytes("the table that was read", &lent, table)?;
-    tally.add_answer("check", refused_by(code));
+    tally.add_answer("open", refused_by(code));
     Ok(())
+}
+
+/// The start of an opening, or of any other value.
+fn same_start(opened: u64) -> Compared {
+    let expected = answer::bits(oracle::openings::start(opened));
+    same("start", library::start(opened), expected)
+}
+
+/// The opening by the wrapper, where the table is good and this is its opening.
+fn wrapped<'a>(
+    table: &'a [u8],
+    monitor: Option<&Monitor>,
+    opened: u64,
+) -> Option<tefuji::Opened<'a>> {
+    let number = number_of(opened);
+    let is_its = answer::opened(monitor?, number) == opened;
+    is_its.then(|| tefuji::Opened::open(table, number).ok()).flatten()
 }
 
 /// A copy in an allocation of exactly its length.
@@ -105,8 +133,8 @@ fn same_code(what: &'static str, library: u64, oracle: u64) -> Compared {
     }
     let shown = |code: u64| match refused_by(code) {
         Some(number) => format!("refused {number} at {}", code << 8 >> 8),
-        None if code >> 40 == 1 => format!("heard {code:#x}"),
-        None => format!("{} * 65536 + {}", code >> 16, code & 65535),
+        None if code >> 55 == 1 => format!("heard {code:#x}"),
+        None => format!("{} * 2^32 + {:#x}", code >> 32, code as u32),
     };
     Err(Difference { what, library: shown(library), oracle: shown(oracle) })
 }

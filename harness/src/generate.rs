@@ -3,6 +3,7 @@
 mod desks;
 mod edge;
 mod events;
+mod openings;
 mod planned;
 mod recordings;
 mod rules;
@@ -11,6 +12,7 @@ mod tables;
 mod texts;
 
 use oracle::rng::Rng;
+use oracle::table::Monitor;
 
 use crate::case::{Case, Input, Room};
 use crate::tefuji::TEXT_ROOM;
@@ -24,8 +26,11 @@ pub struct Made {
     pub bytes: Vec<u8>,
 }
 
+/// The origin of lists of thousands of events.
+const LONG: &str = "long";
+
 /// The sum of the weights in `case`.
-const CASE_WEIGHTS: usize = 150;
+const CASE_WEIGHTS: usize = 156;
 
 impl Made {
     fn new(origin: &'static str, bytes: Vec<u8>) -> Self {
@@ -51,14 +56,15 @@ impl Generator {
         }
         match rng.below(CASE_WEIGHTS) {
             0..=34 => self.build(rng),
-            35..=49 => self.check(rng),
+            35..=49 => self.open(rng),
             50..=74 => self.run(rng),
             75..=89 => self.step(rng),
             90..=99 => self.text(rng),
             100..=111 => self.write(rng),
             112..=129 => desks::case(&self.tables, rng),
             130..=133 => desks::history(&self.tables, rng),
-            _ => recordings::case(&self.tables, rng),
+            134..=149 => recordings::case(&self.tables, rng),
+            _ => openings::case(&self.tables, rng),
         }
     }
 
@@ -75,9 +81,10 @@ impl Generator {
         Case { origin, input: Input::Build { rule: bytes, rooms, paint } }
     }
 
-    fn check(&self, rng: &mut Rng) -> Case {
+    fn open(&self, rng: &mut Rng) -> Case {
         let made = if rng.chance(30) { self.tables.good(rng) } else { self.tables.spoilt(rng) };
-        Case { origin: made.origin, input: Input::Check { table: made.bytes } }
+        let number = openings::number(rng);
+        Case { origin: made.origin, input: Input::Open { table: made.bytes, number } }
     }
 
     fn run(&self, rng: &mut Rng) -> Case {
@@ -86,26 +93,53 @@ impl Generator {
             return self.long_run(rng);
         }
         let Made { origin, bytes: table } = self.mostly_good(rng);
-        let state = events::state(rng, &table);
         let events = events::list(rng, &table);
-        let cell = events::number(rng);
-        Case { origin, input: Input::Run { table, state, events, cell } }
+        self.run_over(rng, origin, table, events)
     }
 
     fn long_run(&self, rng: &mut Rng) -> Case {
         let table = if rng.chance(50) { tables::chain(rng) } else { self.mostly_good(rng).bytes };
-        let state = events::state(rng, &table);
         let events = events::long_list(rng, &table);
+        self.run_over(rng, LONG, table, events)
+    }
+
+    /// One in five over bytes that changed after the table was opened. Of long lists more are run
+    /// from a state with another number, and some runs have that, a state too large and a byte that
+    /// is no event.
+    fn run_over(
+        &self,
+        rng: &mut Rng,
+        origin: &'static str,
+        mut table: Vec<u8>,
+        mut events: Vec<u8>,
+    ) -> Case {
+        let number = openings::number(rng);
+        let opened = events::opened(rng, &table, number);
+        let mut state = events::state(rng, &table, number);
+        if opened >> 32 <= 4 && rng.below(5) == 0 && Monitor::open(&table).is_ok() {
+            let states = u16::from_le_bytes([table[5], table[6]]);
+            desks::change_rows(rng, &mut table, states);
+        }
+        let has_all = !events.is_empty() && rng.below(60) == 0;
+        if has_all || origin == LONG && rng.chance(25) {
+            state.opening = openings::other(rng, number);
+        }
+        if has_all {
+            let place = rng.below(events.len());
+            events[place] = *rng.pick(&[16, 255]);
+            state.number = *rng.pick(&[256, 257, 65535]);
+        }
         let cell = events::number(rng);
-        Case { origin: "long", input: Input::Run { table, state, events, cell } }
+        Case { origin, input: Input::Run { table, opened, state, events, cell } }
     }
 
     fn step(&self, rng: &mut Rng) -> Case {
         let made = if rng.chance(60) { self.tables.good(rng) } else { self.tables.spoilt(rng) };
         let Made { origin, bytes: table } = made;
-        let steps = (0..4).map(|_| events::step(rng, &table)).collect();
+        let number = openings::number(rng);
+        let steps = (0..4).map(|_| events::step(rng, &table, number)).collect();
         let strays = (0..6).map(|_| events::stray(rng, &table)).collect();
-        Case { origin, input: Input::Step { table, steps, strays } }
+        Case { origin, input: Input::Step { table, number, steps, strays } }
     }
 
     fn text(&self, rng: &mut Rng) -> Case {

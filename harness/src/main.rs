@@ -21,10 +21,10 @@ use tally::Tally;
 const HELP: &str = "\
 usage: harness [CASES [SEED]]
 
-Generates so many cases, 270000 unless said otherwise, and compares every answer of the library
+Generates so many cases, 300000 unless said otherwise, and compares every answer of the library
 with the oracle's. The first difference is printed and ends the run with status 1.";
 
-const CASES: u64 = 270_000;
+const CASES: u64 = 300_000;
 const SEED: u64 = 1;
 /// After so many cases a line on standard error says how far the run has come.
 const STRIDE: u64 = 50_000;

@@ -2,6 +2,7 @@
 
 mod desks;
 pub mod judged;
+pub mod openings;
 mod recordings;
 pub mod seen;
 
@@ -9,16 +10,18 @@ use std::collections::BTreeMap;
 use std::fmt;
 
 use oracle::mask;
+use oracle::openings::Arrived;
 use oracle::refusal::Refusal;
-use oracle::table::{Monitor, RunResult};
+use oracle::table::Monitor;
 
 use desks::Desks;
+use openings::Openings;
 use recordings::Recordings;
 
-const KINDS: [&str; 7] = ["write", "build", "check", "run", "step", "text", "judge"];
+const KINDS: [&str; 7] = ["write", "build", "open", "run", "step", "text", "judge"];
 /// What is called in the cases of desks and histories.
 const DESK_KINDS: [&str; 3] = ["fresh", "post", "turn"];
-const REFUSALS: std::ops::RangeInclusive<u8> = 1..=23;
+const REFUSALS: std::ops::RangeInclusive<u8> = 1..=24;
 /// The refusals of write, which have others' numbers and places of its own.
 const WRITE_REFUSALS: [u8; 6] = [15, 4, 16, 7, 8, 10];
 
@@ -27,7 +30,7 @@ const FULL: usize = 256;
 const FULL_TABLES: u64 = 100;
 
 /// What is done with tables and rules that have impossible events.
-const MASKED_KINDS: [&str; 5] = ["build", "check", "run", "step", "text"];
+const MASKED_KINDS: [&str; 5] = ["build", "open", "run", "step", "text"];
 /// The refusals that are new with impossible events.
 const BROUGHT_BY_MASKS: [&str; 5] = [
     "7 by the mask",
@@ -39,9 +42,10 @@ const BROUGHT_BY_MASKS: [&str; 5] = [
 /// The least number of each.
 const SOME_MASKED: u64 = 20;
 
-/// How far a step with counts that need not be the table's comes.
-const STRAYS: [&str; 7] = [
+/// How far a step with an opening that need not be the table's comes.
+const STRAYS: [&str; 8] = [
     "no table's counts or length",
+    "a state with another number",
     "no state or event",
     "an impossible event",
     "a missing successor",
@@ -63,6 +67,7 @@ pub struct Tally {
     masked: BTreeMap<&'static str, u64>,
     brought_by_masks: BTreeMap<&'static str, u64>,
     pub desks: Desks,
+    pub openings: Openings,
     pub recordings: Recordings,
 }
 
@@ -104,7 +109,7 @@ impl Tally {
         kind: &'static str,
         monitor: &Monitor,
         (state, events): (u16, &[u8]),
-        ended: Result<RunResult, Refusal>,
+        ended: Result<Arrived, Refusal>,
     ) {
         let Err(refusal) = ended else {
             return self.add_masked(kind, monitor);
@@ -131,7 +136,7 @@ impl Tally {
         }
     }
 
-    /// Adds a step with counts that need not be the table's, by how far it came.
+    /// Adds a step with an opening that need not be the table's, by how far it came.
     pub fn add_stray(&mut self, came: &'static str) {
         *self.stray_steps.entry(came).or_default() += 1;
     }
@@ -146,12 +151,12 @@ impl Tally {
         let written = WRITE_REFUSALS.iter().filter(|n| !self.refused_by_write.contains_key(n));
         let written = written.map(|number| format!("refusal {number} of write"));
         let strays = STRAYS.iter().filter(|came| !self.stray_steps.contains_key(*came));
-        let strays = strays.map(|came| format!("a step with other counts, {came}"));
+        let strays = strays.map(|came| format!("a step with another opening, {came}"));
         let few = (self.full_tables < FULL_TABLES)
             .then(|| format!("{FULL_TABLES} tables with {FULL} states"));
         let all = kinds.chain(numbers).chain(written).chain(strays).chain(few);
         let all = all.chain(self.missing_of_masks()).chain(self.desks.missing());
-        all.chain(self.recordings.missing()).collect()
+        all.chain(self.recordings.missing()).chain(self.openings.missing()).collect()
     }
 
     /// The same of impossible events, each at least so often.
@@ -182,7 +187,7 @@ impl Tally {
 
 impl fmt::Display for Tally {
     fn fmt(&self, out: &mut fmt::Formatter<'_>) -> fmt::Result {
-        for kind in KINDS.iter().chain(&["desk", "history"]) {
+        for kind in KINDS.iter().chain(&["desk", "history", "openings"]) {
             self.write_kind(out, kind)?;
         }
         for kind in DESK_KINDS {
@@ -194,9 +199,10 @@ impl fmt::Display for Tally {
         write!(out, "accepted with impossible events: {}; ", named(&self.masked))?;
         write!(out, "tables with {FULL} states: {}, ", self.full_tables)?;
         write!(out, "{} of them with impossible events; ", self.full_masked_tables)?;
-        write!(out, "steps with other counts: {}; ", named(&self.stray_steps))?;
+        write!(out, "steps with other openings: {}; ", named(&self.stray_steps))?;
         write!(out, "desks: {}; ", self.desks)?;
-        write!(out, "recordings: {}", self.recordings)
+        write!(out, "recordings: {}; ", self.recordings)?;
+        write!(out, "by the numbers of openings: {}", self.openings)
     }
 }
 

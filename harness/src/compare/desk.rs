@@ -1,6 +1,6 @@
 //! Calls over a desk, on both sides, one after the other.
 
-use oracle::counted::Counted;
+use oracle::counted::{number_of, Counted};
 use oracle::desk::{self, Served, Tunnel};
 use oracle::table::Monitor;
 
@@ -25,17 +25,19 @@ pub fn compare(table: &[u8], desk: &[Tunnel], calls: &[Call], tally: &mut Tally)
 /// has it.
 pub struct Both<'a> {
     table: &'a [u8],
-    /// What checking the table found, if it is good.
-    opened: Option<(Opened<'a>, Monitor)>,
+    /// What opening the table found, if it is good.
+    monitor: Option<Monitor>,
+    /// The wrapper's opening, with the number that was last asked for.
+    wrapped: Option<Opened<'a>>,
     library: Box<[Watch]>,
     oracle: Vec<Tunnel>,
 }
 
 impl<'a> Both<'a> {
     pub fn new(table: &'a [u8], desk: &[Tunnel]) -> Self {
-        let opened = Opened::open(table).ok().zip(Monitor::open(table).ok());
+        let monitor = Monitor::open(table).ok();
         let library = desk.iter().map(answer::watch).collect();
-        Both { table, opened, library, oracle: desk.to_vec() }
+        Both { table, monitor, wrapped: None, library, oracle: desk.to_vec() }
     }
 
     /// The desk as both sides have it.
@@ -43,7 +45,7 @@ impl<'a> Both<'a> {
         &self.oracle
     }
 
-    /// Makes one call on both sides; with the table's own counts also by the wrapper.
+    /// Makes one call on both sides; with an opening of the table also by the wrapper.
     pub fn call(&mut self, call: Call, tally: &mut Tally) -> Result<Served, Difference> {
         let mut wrapped_desk = self.library.clone();
         let before = self.library.clone();
@@ -62,7 +64,7 @@ impl<'a> Both<'a> {
         tally.add_answer(call.kind(), refused_by(code));
         tally.desks.add(&Seen {
             table: self.table,
-            counts: self.counts(),
+            opened: self.opened(call.opened()),
             before: &before,
             desk: &self.oracle,
             call,
@@ -75,28 +77,35 @@ impl<'a> Both<'a> {
     fn both_sides(&mut self, call: Call) -> (u64, Served) {
         let (table, ours, theirs) = (self.table, &mut self.library, &mut self.oracle);
         match call {
-            Call::Fresh { counts } => {
-                let expected = desk::fresh(theirs, (table, counts));
-                (library::fresh(ours, table, counts), expected.map(|()| None))
+            Call::Fresh { opened } => {
+                let expected = desk::fresh(theirs, (table, opened));
+                (library::fresh(ours, table, opened), expected.map(|()| None))
             }
-            Call::Post { counts, number, event } => {
-                let expected = desk::post(theirs, (table, counts), number, event);
-                (library::post(ours, table, counts, number, event), expected.map(|()| None))
+            Call::Post { opened, number, event } => {
+                let expected = desk::post(theirs, (table, opened), number, event);
+                (library::post(ours, table, opened, number, event), expected.map(|()| None))
             }
-            Call::Turn { counts, last } => {
-                let expected = desk::turn(theirs, (table, counts), last);
-                (library::turn(ours, table, counts, last), expected)
+            Call::Turn { opened, last } => {
+                let expected = desk::turn(theirs, (table, opened), last);
+                (library::turn(ours, table, opened, last), expected)
             }
         }
     }
 
     /// The same call by the safe wrapper, where it can make it.
     fn wrapped(
-        &self,
+        &mut self,
         call: Call,
         desk: &mut [Watch],
     ) -> Option<Result<Option<tefuji::Heard>, tefuji::Refusal>> {
-        let (opened, _) = self.opened.as_ref().filter(|_| self.counts() == Some(call.counts()))?;
+        let number = number_of(call.opened());
+        if self.opened(call.opened()) != Some(call.opened()) {
+            return None;
+        }
+        if self.wrapped.map(Opened::number) != Some(number) {
+            self.wrapped = Opened::open(self.table, number).ok();
+        }
+        let opened = self.wrapped?;
         Some(match call {
             Call::Fresh { .. } => opened.fresh(desk).map(|()| None),
             Call::Post { number, event, .. } => opened.post(desk, number, event).map(|()| None),
@@ -106,21 +115,23 @@ impl<'a> Both<'a> {
 
     /// Whether a watch is none of a desk over the table.
     fn is_wrong(&self) -> bool {
-        let table = self.counts().and_then(|counts| Counted::new(self.table, counts));
+        let table = self.opened(0).and_then(|opened| Counted::new(self.table, opened));
         let is_wrong =
             |tunnel: &Tunnel| table.is_some_and(|table| !tunnel.faults(&table).is_empty());
         self.oracle.iter().any(is_wrong)
     }
 
-    /// The counts of a good table.
-    fn counts(&self) -> Option<u64> {
-        self.opened.as_ref().map(|(_, monitor)| answer::counts(monitor))
+    /// The opening of a good table with the number of this one.
+    fn opened(&self, of: u64) -> Option<u64> {
+        self.monitor.as_ref().map(|monitor| answer::opened(monitor, number_of(of)))
     }
 
     /// Each member of each watch is the same; there are no bytes beside them.
     fn same_desk(&self, what: &'static str) -> Compared {
         let is_same = |(ours, theirs): (&Watch, &Tunnel)| {
-            (ours.state, ours.waiting) == (theirs.state, theirs.waiting)
+            (ours.state, ours.opening, ours.waiting)
+                == (theirs.state, theirs.opening, theirs.waiting)
+                && ours.state() == answer::state(theirs.stands())
                 && (ours.filled, ours.heard, ours.first)
                     == (theirs.filled, theirs.heard, theirs.first)
                 && theirs.slots == ours.events

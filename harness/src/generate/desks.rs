@@ -1,5 +1,5 @@
 //! Desks and the calls over them: any watches, some of them wrong, over a table that may have
-//! changed since it was checked; and histories from a fresh desk over a good one.
+//! changed since it was opened; and histories from a fresh desk over a good one.
 
 use oracle::counted;
 use oracle::desk::{Tunnel, QUEUE_LIMIT};
@@ -7,6 +7,7 @@ use oracle::rng::Rng;
 use oracle::table::{row_length, HEADER_LENGTH, NO_SUCCESSOR};
 
 use super::events::{self, Events};
+use super::openings;
 use super::tables::Tables;
 use super::Made;
 use crate::case::{Call, Case, Input, Move};
@@ -15,27 +16,28 @@ use crate::case::{Call, Case, Input, Move};
 const WRONG_ROWS: [usize; 6] = [0, 0, 65, 65, 66, 257];
 /// Rows of which every number is asked for sooner or later, and those at the limit.
 const ROWS: [usize; 9] = [1, 2, 3, 5, 31, 63, 64, 64, 64];
-/// What may say that a verdict is remembered; all but 0 do, also where the low bytes are 0.
-const FILLED: [u32; 13] = [0, 0, 0, 0, 0, 1, 1, 1, 2, 7, 256, 1 << 16, 1 << 31];
+/// What may say that a verdict is remembered; all but 0 do, also where the low byte is 0.
+const FILLED: [u16; 13] = [0, 0, 0, 0, 0, 1, 1, 1, 2, 7, 256, 1 << 12, 1 << 15];
 
 /// Bytes that stand where a verdict should.
 const NO_VERDICTS: [u8; 4] = [4, 5, 128, 255];
 
-/// A table, the counts that its check answered, and what they say.
+/// A table, what opening it with a number answered, and what that says.
 struct Held {
     origin: &'static str,
     table: Vec<u8>,
-    counts: u64,
+    number: u16,
+    opened: u64,
     states: u16,
     events: Events,
 }
 
 impl Held {
-    fn new(Made { origin, bytes: table }: Made) -> Self {
+    fn new(Made { origin, bytes: table }: Made, number: u16) -> Self {
         let (signals, states) = (table[4], u16::from_le_bytes([table[5], table[6]]));
-        let counts = counted::counts(signals, states.into());
+        let opened = counted::opened(signals, number, states.into());
         let events = Events::over(signals, &table);
-        Held { origin, table, counts, states, events }
+        Held { origin, table, number, opened, states, events }
     }
 
     /// One in five has other bytes by now.
@@ -48,11 +50,15 @@ impl Held {
         self
     }
 
-    /// The table's counts, or others, once in so many.
-    fn counts(&self, rng: &mut Rng, others: usize) -> u64 {
+    /// The table's opening, or others, once in so many; now and then with another number.
+    fn opened(&self, rng: &mut Rng, others: usize) -> u64 {
+        let number = match rng.below(30) {
+            0 => openings::other(rng, self.number),
+            _ => self.number,
+        };
         match rng.below(others) {
-            0 => events::stray_counts(rng, &self.table),
-            _ => self.counts,
+            0 => events::stray_opened(rng, &self.table, number),
+            _ => counted::opened((self.opened >> 32) as u8, number, self.states.into()),
         }
     }
 
@@ -77,7 +83,8 @@ impl Held {
         let slots = (0..QUEUE_LIMIT).map(&mut slot).collect();
         let heard = heard(rng, waiting as u32);
         let (filled, first) = (*rng.pick(&FILLED), first(rng, heard));
-        Tunnel { state, waiting: waiting as u16, filled, heard, first, slots }
+        let (opening, waiting) = (self.number, waiting as u16);
+        Tunnel { state, opening, waiting, filled, heard, first, slots }
     }
 
     fn desk(&self, rng: &mut Rng, row: usize) -> Vec<Tunnel> {
@@ -126,12 +133,12 @@ impl Held {
     fn call(&self, rng: &mut Rng, row: usize) -> Call {
         let call = rng.below(20);
         if call < 3 {
-            return Call::Fresh { counts: self.counts(rng, 4) };
+            return Call::Fresh { opened: self.opened(rng, 4) };
         }
-        let counts = self.counts(rng, 8);
+        let opened = self.opened(rng, 8);
         match call {
-            3..=12 => Call::Post { counts, number: number(rng, row), event: self.event(rng) },
-            _ => Call::Turn { counts, last: number(rng, row) },
+            3..=12 => Call::Post { opened, number: number(rng, row), event: self.event(rng) },
+            _ => Call::Turn { opened, last: number(rng, row) },
         }
     }
 }
@@ -198,7 +205,8 @@ fn first(rng: &mut Rng, heard: u32) -> u32 {
 
 /// Any watches, wrong or not, one call after the other.
 pub fn case(tables: &Tables, rng: &mut Rng) -> Case {
-    let held = Held::new(tables.good(rng)).perhaps_changed(rng);
+    let (made, own) = (tables.good(rng), openings::number(rng));
+    let held = Held::new(made, own).perhaps_changed(rng);
     let row = if rng.below(8) == 0 { *rng.pick(&WRONG_ROWS) } else { good_row(rng) };
     let mut desk = held.desk(rng, row);
     if row > 0 && rng.chance(40) {
@@ -208,26 +216,49 @@ pub fn case(tables: &Tables, rng: &mut Rng) -> Case {
             held.spoil(rng, &mut desk[number]);
         }
     }
+    if row > 0 && rng.chance(20) {
+        hand_over(rng, &mut desk, own);
+    }
     let calls = (0..rng.between(2, 7)).map(|_| held.call(rng, row)).collect();
     Case { origin: held.origin, input: Input::Desk { table: held.table, desk, calls } }
 }
 
+/// Gives some watches to openings with other numbers, or all to one.
+fn hand_over(rng: &mut Rng, desk: &mut [Tunnel], own: u16) {
+    if rng.below(6) == 0 {
+        let other = openings::other(rng, own);
+        desk.iter_mut().for_each(|tunnel| tunnel.opening = other);
+    }
+    for _ in 0..rng.between(1, 2) {
+        let any = rng.below(desk.len());
+        let number = *rng.pick(&[0, desk.len() - 1, any]);
+        desk[number].opening = openings::other(rng, own);
+    }
+}
+
 /// From a fresh desk, whatever stood there before.
 pub fn history(tables: &Tables, rng: &mut Rng) -> Case {
-    let held = Held::new(tables.good(rng));
+    let (made, own) = (tables.good(rng), openings::number(rng));
+    let held = Held::new(made, own);
     let row = good_row(rng);
     let mut desk = held.desk(rng, row);
     desk.iter_mut().for_each(|tunnel| held.spoil(rng, tunnel));
+    desk.iter_mut().for_each(|tunnel| tunnel.opening = openings::number(rng));
     let last = number(rng, row);
     let moves = if rng.chance(40) { crowded(&held, rng, row) } else { moves(&held, rng, row) };
-    Case { origin: held.origin, input: Input::History { table: held.table, desk, last, moves } }
+    let (origin, table) = (held.origin, held.table);
+    Case { origin, input: Input::History { table, number: own, desk, last, moves } }
 }
 
-/// Posts, most of them to a few tunnels, and turns, in any order.
+/// Posts, most of them to a few tunnels, and turns, in any order; now and then with another opening.
 fn moves(held: &Held, rng: &mut Rng, row: usize) -> Vec<Move> {
     let posts = *rng.pick(&[30, 50, 70, 95]);
     let busy = rng.between(1, row);
     let mut next = |_| {
+        if rng.below(60) == 0 {
+            let number = openings::other(rng, held.number);
+            return Move::Foreign { number, event: held.event(rng) };
+        }
         if !rng.chance(posts) {
             return Move::Turn;
         }

@@ -13,8 +13,8 @@ use oracle::random_masks::any_mask;
 use oracle::rng::Rng;
 use oracle::rule::{kind, Rule};
 
-use super::events;
 use super::planned::Drawing;
+use super::{events, openings};
 use crate::case::{Case, Input, Room};
 use crate::tefuji::TABLE_MAX;
 
@@ -56,9 +56,11 @@ fn case_of(rng: &mut Rng, number: u64, origin: &'static str, rule: Rule) -> Case
     let rule = rule.to_bytes();
     if number % 5 == 4 {
         let table = table_of(&rule);
-        let (state, events) = (events::state(rng, &table), events::list(rng, &table));
+        let number = openings::number(rng);
+        let opened = events::opened(rng, &table, number);
+        let (state, events) = (events::state(rng, &table, number), events::list(rng, &table));
         let cell = events::number(rng);
-        return Case { origin, input: Input::Run { table, state, events, cell } };
+        return Case { origin, input: Input::Run { table, opened, state, events, cell } };
     }
     let paint = rng.byte_below(256);
     let rooms = vec![Room::ShortBy(1), Room::Exact, Room::LongerBy(rng.between(1, 100))];

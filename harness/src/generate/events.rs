@@ -1,8 +1,12 @@
-//! States, events and counts to run a table with. The table need not be good.
+//! States, events and openings to run a table with. The table need not be good.
 
+use oracle::counted;
+use oracle::openings::State;
 use oracle::rng::Rng;
-use oracle::table::{row_length, HEADER_LENGTH, NO_SUCCESSOR};
+use oracle::table::{row_length, Monitor, HEADER_LENGTH, NO_SUCCESSOR};
 
+use super::openings;
+use crate::answer;
 use crate::case::Step;
 
 /// The lengths about which the library starts to copy rows.
@@ -30,13 +34,26 @@ pub fn number(rng: &mut Rng) -> u64 {
     *rng.pick(&[0, 1, u64::MAX, low, high << 32 | low])
 }
 
-/// Mostly a state of the table, now and then one that it has not.
-pub fn state(rng: &mut Rng, table: &[u8]) -> u16 {
-    let states = states(table);
-    match rng.below(20) {
+/// Mostly a state of the table, now and then one that it has not; mostly with the number of the
+/// opening, now and then with another.
+pub fn state(rng: &mut Rng, table: &[u8], opening: u16) -> State {
+    let (states, any) = (states(table), rng.below(65536) as u16);
+    let number = match rng.below(20) {
         0 => *rng.pick(&[states, states.wrapping_add(1), states.wrapping_add(256), 256, 65535]),
-        1 => rng.below(65536) as u16,
+        1 => *rng.pick(&[any, opening]),
         _ => rng.below(usize::from(states).max(1)) as u16,
+    };
+    match rng.below(6) {
+        0 => State { opening: openings::other(rng, opening), number },
+        _ => State { opening, number },
+    }
+}
+
+/// What opening the table with a number answers, a refusal too, or another opening.
+pub fn opened(rng: &mut Rng, table: &[u8], number: u16) -> u64 {
+    match rng.below(8) {
+        0 => stray_opened(rng, table, number),
+        _ => answer::opening(&Monitor::open(table), number),
     }
 }
 
@@ -122,49 +139,51 @@ pub fn long_list(rng: &mut Rng, table: &[u8]) -> Vec<u8> {
     events
 }
 
-pub fn step(rng: &mut Rng, table: &[u8]) -> Step {
+pub fn step(rng: &mut Rng, table: &[u8], opening: u16) -> Step {
     let all = Events::of(rng, table);
-    let state = state(rng, table);
+    let state = state(rng, table, opening);
     let event = if rng.chance(85) { all.good(rng) } else { all.bad(rng) };
     Step { state, event }
 }
 
-/// Counts of a table that would have as many bytes, whatever stands in them: those of a table whose
-/// bytes changed after it was checked. Over this many signals, if there are such.
-fn fitting(table: &[u8], signals: u8) -> Option<u64> {
+/// The opening with a number of a table that would have as many bytes, whatever stands in them: that
+/// of a table whose bytes changed after it was opened. Over this many signals, if there is such.
+fn fitting(table: &[u8], signals: u8, number: u16) -> Option<u64> {
     let rows = table.len().checked_sub(HEADER_LENGTH)?;
     let states = rows / row_length(signals);
     let fits = rows % row_length(signals) == 0;
-    fits.then_some(u64::from(signals) * 65536 + states as u64)
+    fits.then_some(counted::opened(signals, number, states))
 }
 
-/// Counts that need not be the table's.
-pub fn stray_counts(rng: &mut Rng, table: &[u8]) -> u64 {
-    let any = number(rng);
-    let refusal = rng.below(24) as u64 * (1 << 56) + rng.below(300) as u64;
-    let fit: Vec<u64> = (1..=4).filter_map(|signals| fitting(table, signals)).collect();
+/// An opening that need not be the table's, mostly with this number.
+pub fn stray_opened(rng: &mut Rng, table: &[u8], number: u16) -> u64 {
+    let any = self::number(rng);
+    let refusal = rng.below(25) as u64 * (1 << 56) + rng.below(300) as u64;
+    let fit: Vec<u64> = (1..=4).filter_map(|signals| fitting(table, signals, number)).collect();
+    let with = |signals: u8, states: usize| counted::opened(signals, number, states);
     match rng.below(13) {
         0 => any,
         1 => refusal,
-        2 => 4 * 65536 + 65535,
-        3 => rng.between(0, 6) as u64 * 65536,
-        4 => 5 * 65536 + u64::from(states(table)),
-        5 => rng.between(0, 5) as u64 * 65536 + rng.below(65536) as u64,
-        6 => rng.between(0, 5) as u64 * 65536 + rng.below(300) as u64,
+        2 => with(4, 65535),
+        3 => with(rng.byte_below(7), 0),
+        4 => with(5, states(table).into()),
+        5 => with(rng.byte_below(6), rng.below(65536)),
+        6 => with(rng.byte_below(6), rng.below(300)),
         7 if !fit.is_empty() => rng.pick(&fit).wrapping_add(rng.below(3) as u64).wrapping_sub(1),
-        // The table's, if only its low bytes were read.
-        8 if !fit.is_empty() => *rng.pick(&fit) | 1 << rng.between(24, 63),
+        // The table's, if only the lowest bits of its signals were read.
+        8 if !fit.is_empty() => *rng.pick(&fit) | 1 << rng.between(35, 63),
         _ if !fit.is_empty() => *rng.pick(&fit),
-        _ => u64::from(signals(rng, table)) * 65536 + u64::from(states(table)),
+        _ => with(signals(rng, table), states(table).into()),
     }
 }
 
-/// A step with counts that need not be the table's.
+/// A step with an opening that need not be the table's.
 pub fn stray(rng: &mut Rng, table: &[u8]) -> (u64, Step) {
-    let counts = stray_counts(rng, table);
-    let mut step = step(rng, table);
+    let number = openings::number(rng);
+    let opened = stray_opened(rng, table, number);
+    let mut step = step(rng, table, number);
     if rng.chance(60) {
-        step.state = rng.below(((counts % 65536) as usize).max(1)) as u16;
+        step.state.number = rng.below(((opened % 65536) as usize).max(1)) as u16;
     }
-    (counts, step)
+    (opened, step)
 }

@@ -1,5 +1,5 @@
 //! Pairs of recordings of the same events: with any gaps, some of them wrong, over a table that may
-//! have changed since it was checked.
+//! have changed since it was opened.
 
 use oracle::counted::{self, Counted};
 use oracle::random_recordings::{recording, two_recordings};
@@ -10,6 +10,7 @@ use oracle::vectors::table_samples as samples;
 
 use super::desks::change_rows;
 use super::events::{self, Events};
+use super::openings;
 use super::tables::{perhaps_masked, Tables};
 use super::Made;
 use crate::case::{Case, Input, Recordings};
@@ -20,7 +21,8 @@ const AROUND_256: [usize; 3] = [255, 256, 257];
 const KNOWN: [usize; 7] = [0, 20, 50, 50, 80, 95, 100];
 
 pub fn case(tables: &Tables, rng: &mut Rng) -> Case {
-    let held = Held::new(table(tables, rng)).perhaps_changed(rng);
+    let (made, number) = (table(tables, rng), openings::number(rng));
+    let held = Held::new(made, number).perhaps_changed(rng);
     let pairs = (0..rng.between(3, 5)).map(|_| held.recordings(rng)).collect();
     Case { origin: held.origin, input: Input::Judge { table: held.table, pairs } }
 }
@@ -92,22 +94,23 @@ fn ring(signals: u8, verdict: Verdict) -> Monitor {
     monitor
 }
 
-/// A table, the counts that its check answered, and the events that can happen.
+/// A table, what opening it with a number answered, and the events that can happen.
 struct Held {
     origin: &'static str,
     table: Vec<u8>,
-    counts: u64,
+    number: u16,
+    opened: u64,
     signals: u8,
     states: u16,
     events: Events,
 }
 
 impl Held {
-    fn new(Made { origin, bytes: table }: Made) -> Self {
+    fn new(Made { origin, bytes: table }: Made, number: u16) -> Self {
         let (signals, states) = (table[4], u16::from_le_bytes([table[5], table[6]]));
-        let counts = counted::counts(signals, states.into());
+        let opened = counted::opened(signals, number, states.into());
         let events = Events::over(signals, &table);
-        Held { origin, table, counts, signals, states, events }
+        Held { origin, table, number, opened, signals, states, events }
     }
 
     /// Some have other bytes by now, in many rows or at one place.
@@ -150,9 +153,9 @@ impl Held {
         }
     }
 
-    /// The table as it is read with its own counts.
+    /// The table as it is read with its own opening.
     fn counted(&self) -> Counted<'_> {
-        Counted::new(&self.table, self.counts).expect("the length is as it was")
+        Counted::new(&self.table, self.opened).expect("the length is as it was")
     }
 
     fn recordings(&self, rng: &mut Rng) -> Recordings {
@@ -165,11 +168,11 @@ impl Held {
         if rng.below(10) == 0 {
             spoil_lengths(rng, [&mut first, &mut second]);
         }
-        let counts = match rng.below(10) {
-            0 => events::stray_counts(rng, &self.table),
-            _ => self.counts,
+        let opened = match rng.below(10) {
+            0 => events::stray_opened(rng, &self.table, self.number),
+            _ => self.opened,
         };
-        Recordings { counts, first, second }
+        Recordings { opened, first, second }
     }
 
     /// Mostly few events, now and then hundreds, or a thousand and more.

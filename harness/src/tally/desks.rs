@@ -6,22 +6,31 @@ use std::fmt;
 use oracle::desk::{Tunnel, ROW_LIMIT};
 use oracle::history::History;
 
+use super::openings::BY_NUMBERS;
 use super::seen::Seen;
 use super::{is_seldom, named};
 
 /// The least number of each of these.
 const SOME: u64 = 20;
 
-/// The order in which a post is refused; a turn only by the first three, a fresh desk by the first
+/// The order in which a post is refused; a turn only by the first four, a fresh desk by the first
 /// two.
-const ORDER: [u8; 7] = [14, 18, 13, 19, 12, 20, 21];
+const ORDER: [u8; 8] = [14, 18, 24, 13, 19, 12, 20, 21];
 /// A tunnel outside the row has no queue, and has heard nothing.
 const APART: [(u8, u8); 2] = [(19, 20), (19, 21)];
 
 const BY_ROW: [&str; 2] = ["18 empty", "18 above 64"];
 /// What a post and a turn have in common.
-const BY_BOTH: [&str; 22] = [
+const BY_BOTH: [&str; 32] = [
     "14 by counts or length",
+    "24 at the first watch",
+    "24 in between",
+    "24 at the row's end",
+    "24 with a later foreign watch",
+    "24 of all watches",
+    "24 behind a wrong watch",
+    "24 at a wrong watch",
+    "24 before a wrong watch",
     "13 by a state",
     "13 by over 32 waiting",
     "13 by a byte that is no event",
@@ -43,6 +52,8 @@ const BY_BOTH: [&str; 22] = [
     "with 4294967294 heard, 0 waiting",
     "with 4294967294 heard, 1 waiting",
     "with 4294967263 heard, 32 waiting",
+    "with the number 0",
+    "with the number 65535",
 ];
 const BY_POST: [&str; 16] = [
     "19 at the row's end",
@@ -62,8 +73,9 @@ const BY_POST: [&str; 16] = [
     "of the last event",
     "to a filled watch",
 ];
-const BY_TURN: [&str; 19] = [
+const BY_TURN: [&str; 20] = [
     "14 by what it reads",
+    "24 though none waits",
     "none waits",
     "heard with 32 waiting",
     "heard at the next number",
@@ -80,15 +92,19 @@ const BY_TURN: [&str; 19] = [
     "kept at a verdict",
     "kept where undecided",
     "kept filled by more than 1",
-    "kept filled in the high bytes",
+    "kept filled in the high byte",
     "kept first above heard",
 ];
-const BY_FRESH: [&str; 11] = [
+const BY_FRESH: [&str; 15] = [
     "14 by counts or length",
     "14 by what it reads",
     "14 by counts or length, also 18",
     "14 by what it reads, also 18",
     "over a wrong watch",
+    "over a foreign watch",
+    "with the number 0",
+    "with the number 65535",
+    "with another number",
     "of 64",
     "over what is no table",
     "with the start undecided",
@@ -96,7 +112,7 @@ const BY_FRESH: [&str; 11] = [
     "with the start violated",
     "with the start moot",
 ];
-const BY_HISTORY: [&str; 7] = [
+const BY_HISTORY: [&str; 9] = [
     "of 64",
     "waits as long as the row",
     "waits as long as 64",
@@ -104,6 +120,8 @@ const BY_HISTORY: [&str; 7] = [
     "where verdicts last, remembered from an event",
     "where verdicts last, none remembered",
     "where verdicts pass, remembered",
+    "with another opening, refused by 24",
+    "with another opening, refused by 24, and heard",
 ];
 
 #[derive(Default)]
@@ -126,8 +144,9 @@ impl Desks {
         }
     }
 
-    /// Adds a history that has come to an end, with the desk as it stands then.
-    pub fn add_history(&mut self, history: &History, desk: &[Tunnel]) {
+    /// Adds a history that has come to an end, with the desk as it stands then, and how often it
+    /// was tried with another opening.
+    pub fn add_history(&mut self, history: &History, desk: &[Tunnel], strangers: usize) {
         let row = desk.len();
         let (is_full, is_tight) = (row == ROW_LIMIT, row > 1 && history.longest_wait() == row);
         let lasts = history.verdicts_last();
@@ -140,6 +159,8 @@ impl Desks {
             lasts && firsts().any(|first| first > Some(0)),
             lasts && firsts().any(|first| first.is_none()),
             !lasts && firsts().any(|first| first.is_some()),
+            strangers > 0,
+            strangers > 0 && desk.iter().any(|tunnel| tunnel.heard > 0),
         ]);
         words.filter(|(_, is_so)| *is_so).for_each(|(words, _)| self.meet("history", words));
         self.histories += 1;
@@ -153,8 +174,8 @@ impl Desks {
     pub fn missing(&self) -> Vec<String> {
         let wanted = [
             ("fresh", [&BY_ROW[..], &BY_FRESH].concat()),
-            ("post", [&BY_ROW[..], &BY_BOTH, &BY_POST].concat()),
-            ("turn", [&BY_ROW[..], &BY_BOTH, &BY_TURN].concat()),
+            ("post", [&BY_ROW[..], &BY_BOTH, &BY_NUMBERS, &BY_POST].concat()),
+            ("turn", [&BY_ROW[..], &BY_BOTH, &BY_NUMBERS, &BY_TURN].concat()),
             ("history", BY_HISTORY.to_vec()),
         ];
         let none = BTreeMap::new();
@@ -163,7 +184,7 @@ impl Desks {
             let few = words.iter().filter(move |words| is_seldom(met, words, SOME));
             few.map(move |words| format!("{SOME} times {kind}: {words}"))
         });
-        let orders = [("fresh", &ORDER[..2]), ("post", &ORDER), ("turn", &ORDER[..3])];
+        let orders = [("fresh", &ORDER[..2]), ("post", &ORDER), ("turn", &ORDER[..4])];
         let pairs = orders.iter().flat_map(|(kind, order)| self.missing_pairs(kind, order));
         words.chain(pairs).collect()
     }

@@ -2,7 +2,7 @@
 
 use std::collections::BTreeSet;
 
-use oracle::counted::{Counted, Halt};
+use oracle::counted::{number_of, Counted, Halt};
 use oracle::mask;
 use oracle::recordings::{self, are_listed, completion_count, completions, ended, events};
 use oracle::recordings::{Fault, Seen, Side};
@@ -36,14 +36,19 @@ impl Judged<'_> {
         all.into_iter().filter(|(is_so, _)| *is_so).map(|(_, words)| words).collect()
     }
 
-    /// The table by the counts that were given, if they fit.
+    /// The opening of a good table, with the number that was given.
+    fn own(&self) -> Option<u64> {
+        Some(answer::opened(self.monitor?, number_of(self.pair.opened)))
+    }
+
+    /// The table by the opening that was given, if it fits.
     fn counted(&self) -> Option<Counted<'_>> {
-        Counted::new(self.table, self.pair.counts)
+        Counted::new(self.table, self.pair.opened)
     }
 
     /// The same, or else by the table's own.
     fn table(&self) -> Option<Counted<'_>> {
-        self.counted().or_else(|| Counted::new(self.table, answer::counts(self.monitor?)))
+        self.counted().or_else(|| Counted::new(self.table, self.own()?))
     }
 
     /// The events that both recordings have, whatever the lengths.
@@ -194,7 +199,7 @@ impl Judged<'_> {
     /// Behind how many of the first events a way first leaves the table, and why. A good one is
     /// never left.
     fn leaving(&self, table: &Counted, count: usize) -> Option<(usize, Vec<Halt>)> {
-        if self.monitor.is_some_and(|monitor| answer::counts(monitor) == self.pair.counts) {
+        if self.own() == Some(self.pair.opened) {
             return None;
         }
         if table.verdict(0).is_none() {
@@ -253,7 +258,7 @@ impl Judged<'_> {
     fn judged(&self, table: &Counted, choices: &[Vec<u8>], verdict: Verdict) -> Words {
         let pairs = self.pairs();
         let (count, completions) = (pairs.len(), completion_count(choices));
-        let is_one = completions == 1;
+        let (number, is_one) = (table.number, completions == 1);
         let is = |other: Verdict| verdict == other;
         let knows = |pick: fn(&(Seen, Seen)) -> u8| pairs.iter().any(|pair| pick(pair) != 0);
         let is_unknown = count > 0 && !knows(|(first, second)| first.known | second.known);
@@ -284,6 +289,9 @@ impl Judged<'_> {
                 "each knows what the other does not",
             ),
             (self.monitor.is_none() && !is_one, "over what is no table"),
+            (number == 0, "with the number 0"),
+            (number == 65535, "with the number 65535"),
+            (number != 0 && number != 65535, "with another number"),
             (count == 255, "255 events"),
             (count == 256, "256 events"),
             (count == 257, "257 events"),

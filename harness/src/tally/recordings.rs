@@ -10,7 +10,7 @@ use super::{is_seldom, named};
 const SOME: u64 = 20;
 
 /// All that has to be met: refusals, and what was answered.
-const WANTED: [&str; 89] = [
+const WANTED: [&str; 92] = [
     "14 by counts or length",
     "14 before 22",
     "14 before 12",
@@ -84,6 +84,9 @@ const WANTED: [&str; 89] = [
     "known to both",
     "each knows what the other does not",
     "over what is no table",
+    "with the number 0",
+    "with the number 65535",
+    "with another number",
     "255 events",
     "256 events",
     "257 events",

@@ -1,11 +1,12 @@
 //! What a single call over a desk met, in the words under which it is counted.
 
-use oracle::counted::Counted;
+use oracle::counted::{number_of, Counted};
 use oracle::desk::{Fault, Heard, Served, Tunnel, EVENT_LIMIT, QUEUE_LIMIT, ROW_LIMIT};
 use oracle::mask;
 use oracle::refusal::Refusal;
 use oracle::table::Verdict;
 
+use super::openings;
 use crate::case::Call;
 use crate::tefuji::Watch;
 
@@ -15,8 +16,8 @@ const PLACES: usize = 1 << 56;
 /// A call over a desk and what it came to.
 pub struct Seen<'a> {
     pub table: &'a [u8],
-    /// What checking the table answers, if it is good.
-    pub counts: Option<u64>,
+    /// What opening the table with the call's number answers, if it is good.
+    pub opened: Option<u64>,
     /// As it was lent.
     pub before: &'a [Watch],
     /// As the call left it; after a refusal, as it was.
@@ -52,6 +53,7 @@ impl Seen<'_> {
         let mut all = vec![
             (!is_table, 14),
             (row == 0 || row > ROW_LIMIT, 18),
+            (!is_fresh && !self.foreign().is_empty(), 24),
             (!is_fresh && !self.wrong().is_empty(), 13),
         ];
         if let Call::Post { number, event, .. } = self.call {
@@ -67,17 +69,17 @@ impl Seen<'_> {
         all.into_iter().filter(|(applies, _)| *applies).map(|(_, number)| number).collect()
     }
 
-    /// The table by the counts that were given, if they fit.
+    /// The table by the opening that was given, if it fits.
     fn counted(&self) -> Option<Counted<'_>> {
-        Counted::new(self.table, self.call.counts())
+        Counted::new(self.table, self.call.opened())
     }
 
     /// The same, or else by the table's own.
     fn table(&self) -> Option<Counted<'_>> {
-        self.counted().or_else(|| Counted::new(self.table, self.counts?))
+        self.counted().or_else(|| Counted::new(self.table, self.opened?))
     }
 
-    /// The verdict of state 0, if the counts fit and it is one.
+    /// The verdict of state 0, if the opening fits and it is one.
     fn start(&self) -> Option<Verdict> {
         self.counted().and_then(|table| table.verdict(0))
     }
@@ -91,6 +93,17 @@ impl Seen<'_> {
         (0..self.desk.len()).filter(is_wrong).collect()
     }
 
+    /// The number of the opening that was given.
+    fn own(&self) -> u16 {
+        number_of(self.call.opened())
+    }
+
+    /// The numbers of the watches of another opening.
+    fn foreign(&self) -> Vec<usize> {
+        let is_foreign = |number: &usize| self.desk[*number].opening != self.own();
+        (0..self.desk.len()).filter(is_foreign).collect()
+    }
+
     fn is_full_row(&self) -> bool {
         self.desk.len() == ROW_LIMIT
     }
@@ -100,6 +113,7 @@ impl Seen<'_> {
             (18, _) => {
                 vec![(self.desk.is_empty(), "18 empty"), (!self.desk.is_empty(), "18 above 64")]
             }
+            (24, _) => self.foreign_watch(refusal.place),
             (13, _) => self.wrong_watch(),
             (19, Call::Post { number, .. }) => self.outside(number),
             (12, Call::Post { event, .. }) => {
@@ -152,16 +166,39 @@ impl Seen<'_> {
     }
 
     fn made_fresh(&self) -> Words {
-        let start = self.start();
+        let (start, own) = (self.start(), self.own());
         vec![
             (self.is_remade, "over a wrong watch"),
             (self.is_full_row(), "of 64"),
-            (self.counts.is_none(), "over what is no table"),
+            (self.before.iter().any(|watch| watch.opening != own), "over a foreign watch"),
+            (own == 0, "with the number 0"),
+            (own == 65535, "with the number 65535"),
+            (own != 0 && own != 65535, "with another number"),
+            (self.opened.is_none(), "over what is no table"),
             (start == Some(Verdict::Undecided), "with the start undecided"),
             (start == Some(Verdict::Satisfied), "with the start satisfied"),
             (start == Some(Verdict::Violated), "with the start violated"),
             (start == Some(Verdict::Moot), "with the start moot"),
         ]
+    }
+
+    /// Where the first watch of another opening stands, beside the wrong ones, and its number.
+    fn foreign_watch(&self, first: usize) -> Words {
+        let (foreign, wrong) = (self.foreign(), self.wrong());
+        let (row, is_turn) = (self.desk.len(), matches!(self.call, Call::Turn { .. }));
+        let waits = self.desk.iter().any(|tunnel| tunnel.waiting > 0);
+        let others = vec![
+            (row > 1 && first == 0, "24 at the first watch"),
+            (first > 0 && first + 1 < row, "24 in between"),
+            (row > 1 && first + 1 == row, "24 at the row's end"),
+            (foreign.len() > 1, "24 with a later foreign watch"),
+            (row > 1 && foreign.len() == row, "24 of all watches"),
+            (wrong.iter().any(|&number| number < first), "24 behind a wrong watch"),
+            (wrong.contains(&first), "24 at a wrong watch"),
+            (wrong.iter().any(|&number| number > first), "24 before a wrong watch"),
+            (is_turn && !waits, "24 though none waits"),
+        ];
+        [others, openings::numbers(self.desk[first].opening, self.own())].concat()
     }
 
     /// What is wrong with the first wrong watch, where it is one thing, and where it stands.
@@ -245,7 +282,7 @@ impl Seen<'_> {
             (is_filled && !is_undecided, "kept at a verdict"),
             (is_filled && is_undecided, "kept where undecided"),
             (was.filled > 1, "kept filled by more than 1"),
-            (is_filled && was.filled & 255 == 0, "kept filled in the high bytes"),
+            (is_filled && was.filled & 255 == 0, "kept filled in the high byte"),
             (is_filled && was.first > heard, "kept first above heard"),
         ]
     }
@@ -262,6 +299,8 @@ impl Seen<'_> {
             self.before.iter().any(|watch| (watch.heard, watch.waiting) == (heard, waiting))
         };
         vec![
+            (self.own() == 0, "with the number 0"),
+            (self.own() == 65535, "with the number 65535"),
             (has_others, "with other bytes in free slots"),
             (is_masked, "with impossible events"),
             (has(4_294_967_295, 0), "with 4294967295 heard, 0 waiting"),
