@@ -12,7 +12,7 @@ use oracle::vectors::rule_samples::{one_too_many, p12, shared_nexts};
 use crate::clock::Work;
 use crate::plain_recordings;
 use crate::running::random_table;
-use crate::serving::built;
+use crate::serving::{built, NUMBER};
 use crate::tefuji::Opened;
 
 const SEED: u64 = 0x5eed_0000_0000_000c;
@@ -51,29 +51,29 @@ pub fn recordings(table: &[u8], count: usize) -> [Vec<u8>; 2] {
 }
 
 /// The states in which a run can stand, on average over all events.
-fn average_states(table: &[u8], counts: u64, [first, second]: &[Vec<u8>; 2]) -> f64 {
-    let table = counted::Counted::new(table, counts).expect("the counts are the table's");
+fn average_states(table: &[u8], opened: u64, [first, second]: &[Vec<u8>; 2]) -> f64 {
+    let table = counted::Counted::new(table, opened).expect("the opening is the table's");
     let choices = oracle::recordings::joined(&table, first, second).expect("nothing is wrong");
     let sets = oracle::recordings::sets(&table, &choices).expect("the table is good");
     sets.iter().map(|set| set.len()).sum::<usize>() as f64 / sets.len() as f64
 }
 
 fn print_row(work: &Work, name: &str, table: &[u8], count: usize) {
-    let opened = Opened::open(table).expect("the table is good");
-    let counts = counted::counts(opened.signals(), opened.states().into());
+    let opened = Opened::open(table, NUMBER).expect("the table is good");
+    let given = counted::opened(opened.signals(), NUMBER, opened.states().into());
     let lent = recordings(table, count);
     let [first, second] = &lent;
     let our_answer = opened.judge_recordings(first, second).map(|verdict| verdict as u8);
-    let plain_answer = plain_recordings::judge(table, counts, first, second);
+    let plain_answer = plain_recordings::judge(table, given, first, second);
     assert_eq!(
         our_answer.map_err(|refusal| (refusal.number, refusal.place as usize)),
         plain_answer
     );
-    let states = average_states(table, counts, &lent);
+    let states = average_states(table, given, &lent);
     let ours = work.nanoseconds(|| opened.judge_recordings(black_box(first), second)) / 1000.0;
-    let plain = work.nanoseconds(|| {
-        plain_recordings::judge(black_box(table), counts, black_box(first), second)
-    }) / 1000.0;
+    let plain = work
+        .nanoseconds(|| plain_recordings::judge(black_box(table), given, black_box(first), second))
+        / 1000.0;
     println!("| {name} | {count} | {states:.1} | {ours:.2} | {plain:.2} | {:.1} |", ours / plain);
 }
 

@@ -8,25 +8,26 @@ const EVENTS_MAX: u64 = u32::MAX as u64;
 /// A refusal's number and place.
 pub type Refused = (u8, usize);
 
-/// What a turn heard: number, event, successor and its verdict.
-pub type Heard = (usize, u8, u16, u8);
+/// What a turn heard: number, event, successor with the opening's number, and its verdict.
+pub type Heard = (usize, u8, u32, u8);
 
-/// A table's bytes with counts in hand.
+/// A table's bytes with an opening in hand.
 struct Table<'a> {
+    number: u16,
     bytes: &'a [u8],
     events: usize,
     states: usize,
 }
 
 impl<'a> Table<'a> {
-    fn new(bytes: &'a [u8], counts: u64) -> Result<Self, Refused> {
-        let (signals, states) = (counts >> 16, (counts & 65535) as usize);
+    fn new(bytes: &'a [u8], opened: u64) -> Result<Self, Refused> {
+        let (signals, states) = (opened >> 32, (opened & 65535) as usize);
         if !(1..=4).contains(&signals) || !(1..=256).contains(&states) {
             return Err((14, 0));
         }
         let events = 1 << signals;
         match bytes.len() == 7 + states * (5 + 2 * events) {
-            true => Ok(Table { bytes, events, states }),
+            true => Ok(Table { number: (opened >> 16) as u16, bytes, events, states }),
             false => Err((14, 0)),
         }
     }
@@ -69,33 +70,38 @@ fn judge_row(desk: &[Watch]) -> Result<(), Refused> {
     }
 }
 
-fn judge<'a>(desk: &[Watch], bytes: &'a [u8], counts: u64) -> Result<Table<'a>, Refused> {
-    let table = Table::new(bytes, counts)?;
+fn judge<'a>(desk: &[Watch], bytes: &'a [u8], opened: u64) -> Result<Table<'a>, Refused> {
+    let table = Table::new(bytes, opened)?;
     judge_row(desk)?;
+    if let Some(number) = desk.iter().position(|watch| watch.opening != table.number) {
+        return Err((24, number));
+    }
     match desk.iter().position(|watch| !table.fits(watch)) {
         Some(number) => Err((13, number)),
         None => Ok(table),
     }
 }
 
-pub fn fresh(desk: &mut [Watch], bytes: &[u8], counts: u64) -> Result<(), Refused> {
-    let start = Table::new(bytes, counts)?.verdict(0);
+pub fn fresh(desk: &mut [Watch], bytes: &[u8], opened: u64) -> Result<(), Refused> {
+    let table = Table::new(bytes, opened)?;
+    let start = table.verdict(0);
     if start > 3 {
         return Err((14, 0));
     }
     judge_row(desk)?;
-    desk.fill(Watch { filled: u32::from(start != 0), ..Watch::BLANK });
+    let filled = u16::from(start != 0);
+    desk.fill(Watch { opening: table.number, filled, ..Watch::BLANK });
     Ok(())
 }
 
 pub fn post(
     desk: &mut [Watch],
     bytes: &[u8],
-    counts: u64,
+    opened: u64,
     number: usize,
     event: u8,
 ) -> Result<(), Refused> {
-    let table = judge(desk, bytes, counts)?;
+    let table = judge(desk, bytes, opened)?;
     let watch = desk.get_mut(number).ok_or((19, number))?;
     if !table.is_event(event) {
         return Err((12, number));
@@ -113,10 +119,10 @@ pub fn post(
 pub fn turn(
     desk: &mut [Watch],
     bytes: &[u8],
-    counts: u64,
+    opened: u64,
     last: usize,
 ) -> Result<Option<Heard>, Refused> {
-    let table = judge(desk, bytes, counts)?;
+    let table = judge(desk, bytes, opened)?;
     let last = last.min(desk.len() - 1);
     let mut order = (last + 1..desk.len()).chain(0..=last);
     let Some(number) = order.find(|&number| desk[number].waiting > 0) else {
@@ -137,5 +143,6 @@ pub fn turn(
     }
     watch.events.copy_within(1.., 0);
     watch.events[QUEUE_MAX - 1] = 0;
-    Ok(Some((number, event, successor as u16, verdict)))
+    let state = u32::from(table.number) << 16 | successor as u32;
+    Ok(Some((number, event, state, verdict)))
 }

@@ -6,8 +6,8 @@ pub type Refused = (u8, usize);
 const STATES_MAX: usize = 256;
 
 /// The verdict, or a refusal by 14, 22, for each event 12, 23, 12, and 14 where a way leaves the table.
-pub fn judge(table: &[u8], counts: u64, first: &[u8], second: &[u8]) -> Result<u8, Refused> {
-    let (signals, states) = (counts >> 16, (counts & 65535) as usize);
+pub fn judge(table: &[u8], opened: u64, first: &[u8], second: &[u8]) -> Result<u8, Refused> {
+    let (signals, states) = (opened >> 32, (opened & 65535) as usize);
     if !(1..=4).contains(&signals) || !(1..=STATES_MAX).contains(&states) {
         return Err((14, 0));
     }
@@ -82,7 +82,7 @@ pub fn judge(table: &[u8], counts: u64, first: &[u8], second: &[u8]) -> Result<u
 #[cfg(test)]
 mod tests {
     use super::*;
-    use oracle::counted::counts;
+    use oracle::counted::opened;
     use oracle::random_recordings::recording;
     use oracle::recordings;
     use oracle::rng::Rng;
@@ -109,9 +109,9 @@ mod tests {
                     bytes.push(0);
                 }
             }
-            let counts = counts(monitor.signals, monitor.states.len());
-            let ours = judge(&table, counts, &lent[0], &lent[1]);
-            let oracle = recordings::judge((&table, counts), &lent[0], &lent[1]);
+            let given = opened(monitor.signals, 700, monitor.states.len());
+            let ours = judge(&table, given, &lent[0], &lent[1]);
+            let oracle = recordings::judge((&table, given), &lent[0], &lent[1]);
             assert_eq!(ours, oracle.map(|v| v.to_byte()).map_err(|r| (r.number, r.place)));
             met[usize::from(ours.unwrap_or_else(|(number, _)| number))] += 1;
         }

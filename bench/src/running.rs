@@ -8,9 +8,11 @@ use oracle::table::{Monitor, MonitorState, Verdict};
 use oracle::vectors::table_samples::leaving;
 
 use crate::clock::Work;
-use crate::tefuji::{self, Opened};
+use crate::tefuji::{Opened, State};
 
 const SEED: u64 = 0x5eed_0000_0000_0009;
+/// The number of every opening.
+const NUMBER: u16 = 4660;
 
 /// A table whose states are all undecided, so that a run looks at every verdict.
 pub fn random_table(rng: &mut Rng, signals: u8, states: u16) -> Monitor {
@@ -29,20 +31,22 @@ fn u16_at(bytes: &[u8], place: usize) -> u16 {
     u16::from_le_bytes([bytes[place], bytes[place + 1]])
 }
 
-/// The successors, one row after the other, and the verdicts.
+/// The successors, one row after the other, and the verdicts; and the number with which it was opened.
 struct Decoded {
+    number: u16,
     successors: Vec<u16>,
     verdicts: Vec<u8>,
     events: usize,
 }
 
 impl Decoded {
-    fn of(table: &[u8]) -> Self {
+    fn of(table: &[u8], number: u16) -> Self {
         let events = 1 << table[4];
         let rows = table[7..].chunks(5 + 2 * events);
         let successors =
             rows.clone().flat_map(|row| (0..events).map(|event| u16_at(row, 5 + 2 * event)));
         Decoded {
+            number,
             successors: successors.collect(),
             verdicts: rows.clone().map(|row| row[4]).collect(),
             events,
@@ -58,14 +62,18 @@ impl Decoded {
         state
     }
 
-    /// The same job as a run: refuses a wrong event, and counts up to the first verdict.
+    /// The same job as a run: refuses a state of another opening or none of the table and a wrong event, and counts up to the first verdict.
     fn run(
         &self,
+        from: State,
         events: &[u8],
         is_event: impl Fn(u8) -> bool,
-    ) -> Option<(u16, u8, Option<usize>)> {
-        let mut state = 0u16;
-        let mut count = (self.verdicts[0] != 0).then_some(0);
+    ) -> Option<(State, u8, Option<usize>)> {
+        let mut state = from.number();
+        if from.opening() != self.number || usize::from(state) >= self.verdicts.len() {
+            return None;
+        }
+        let mut count = (self.verdicts[usize::from(state)] != 0).then_some(0);
         for (index, &event) in events.iter().enumerate() {
             if !is_event(event) {
                 return None;
@@ -75,7 +83,8 @@ impl Decoded {
                 count = Some(index + 1);
             }
         }
-        Some((state, self.verdicts[usize::from(state)], count))
+        let end = State::from_bits(u32::from(self.number) << 16 | u32::from(state));
+        Some((end, self.verdicts[usize::from(state)], count))
     }
 }
 
@@ -89,8 +98,8 @@ fn bare_walk(table: &[u8], events: &[u8]) -> u16 {
     state
 }
 
-fn steps(opened: Opened, events: &[u8]) -> u16 {
-    let mut state = 0;
+fn steps(opened: Opened, events: &[u8]) -> State {
+    let mut state = opened.start();
     for &event in events {
         state = opened.step(state, event).expect("the event can happen").state;
     }
@@ -121,18 +130,22 @@ fn report_run(
     events: &[u8],
     is_event: impl Fn(u8) -> bool + Copy,
 ) {
-    let decoded = Decoded::of(table);
-    let opened = Opened::open(table).expect("the table is well-formed");
-    let end = tefuji::run(table, 0, events).expect("the run is good").reached.state;
-    assert_eq!(end, decoded.follow(events));
-    assert_eq!(end, bare_walk(table, events));
+    let decoded = Decoded::of(table, NUMBER);
+    let opened = Opened::open(table, NUMBER).expect("the table is well-formed");
+    let start = opened.start();
+    let end = opened.run(start, events).expect("the run is good").reached.state;
+    assert_eq!((end.number(), end.opening()), (decoded.follow(events), NUMBER));
+    assert_eq!(end.number(), bare_walk(table, events));
     assert_eq!(end, steps(opened, events));
-    assert_eq!(Some((end, 0, None)), decoded.run(events, is_event));
+    assert_eq!(Some((end, 0, None)), decoded.run(start, events, is_event));
+    let foreign = State::from_bits(start.to_bits() ^ 1 << 16);
+    assert_eq!(decoded.run(foreign, events, is_event), None);
+    assert_eq!(opened.run(foreign, events).map_err(|refusal| refusal.number), Err(24));
     let per_event = |total: f64| total / work.events as f64;
-    let proved =
-        per_event(work.nanoseconds(|| tefuji::run(black_box(table), 0, black_box(events))));
+    let proved = per_event(work.nanoseconds(|| opened.run(black_box(start), black_box(events))));
     let plain = per_event(work.nanoseconds(|| decoded.follow(black_box(events))));
-    let same_job = per_event(work.nanoseconds(|| decoded.run(black_box(events), is_event)));
+    let same_job =
+        per_event(work.nanoseconds(|| decoded.run(black_box(start), black_box(events), is_event)));
     let bare = per_event(work.nanoseconds(|| bare_walk(black_box(table), black_box(events))));
     let stepped = per_event(work.nanoseconds(|| steps(opened, black_box(events))));
     println!(
@@ -144,7 +157,7 @@ fn report_run(
 }
 
 fn report_opening(work: &Work, name: &str, table: &[u8]) {
-    let proved = work.nanoseconds(|| Opened::open(black_box(table)).is_ok()) / 1000.0;
+    let proved = work.nanoseconds(|| Opened::open(black_box(table), NUMBER).is_ok()) / 1000.0;
     let plain = work.nanoseconds(|| Monitor::open(black_box(table)).is_ok()) / 1000.0;
     println!("| {name} | {} | {proved:.2} | {plain:.2} |", table.len());
 }

@@ -17,6 +17,8 @@ use crate::plain_desk;
 use crate::tefuji::{self, Heard, Opened, Watch, DESK_MAX, QUEUE_MAX};
 
 const SEED: u64 = 0x5eed_0000_0000_000b;
+/// The number of every opening.
+pub const NUMBER: u16 = 4660;
 /// The tunnel that is heard last. The next one is served.
 const LAST: usize = 30;
 const SERVED: usize = LAST + 1;
@@ -44,7 +46,8 @@ pub fn desk(table: &[u8], waiting: usize) -> Vec<Watch> {
     let mut rng = Rng::new(SEED);
     let monitor = Monitor::open(table).expect("the table is good");
     let mut watch = |_| {
-        let mut watch = Watch { waiting: waiting as u16, heard: 1000, ..Watch::BLANK };
+        let waits = waiting as u16;
+        let mut watch = Watch { opening: NUMBER, waiting: waits, heard: 1000, ..Watch::BLANK };
         watch.state = rng.below(monitor.states.len()) as u16;
         let events = random_events(&mut rng, &monitor, waiting);
         watch.events[..waiting].copy_from_slice(&events);
@@ -55,7 +58,7 @@ pub fn desk(table: &[u8], waiting: usize) -> Vec<Watch> {
 
 /// What a turn heard, as the plain desk says it.
 fn parts(heard: Heard) -> plain_desk::Heard {
-    (heard.number, heard.event, heard.reached.state, heard.reached.verdict as u8)
+    (heard.number, heard.event, heard.reached.state.to_bits(), heard.reached.verdict as u8)
 }
 
 /// Nanoseconds of one call, after which the served watch is put back.
@@ -92,23 +95,23 @@ pub fn report(work: &Work) {
         "\n| serving a desk of {DESK_MAX}, ns a call | proved | plain | ratio |\n|---|---|---|---|"
     );
     for (name, table) in &tables() {
-        let opened = Opened::open(table).expect("the table is good");
-        let counts = counted::counts(opened.signals(), opened.states().into());
+        let opened = Opened::open(table, NUMBER).expect("the table is good");
+        let given = counted::opened(opened.signals(), NUMBER, opened.states().into());
         let ours = |desk: &mut [Watch]| opened.fresh(desk).expect(GOOD);
-        let plain = |desk: &mut [Watch]| plain_desk::fresh(desk, table, counts).expect(GOOD);
+        let plain = |desk: &mut [Watch]| plain_desk::fresh(desk, table, given).expect(GOOD);
         print_row(work, format!("fresh, {name}"), desk(table, QUEUE_MAX), ours, plain);
         for waiting in [0, QUEUE_MAX - 1] {
             let name = format!("post, {waiting} waiting for each, {name}");
             let ours = |desk: &mut [Watch]| opened.post(desk, SERVED, 0).expect(GOOD);
             let plain =
-                |desk: &mut [Watch]| plain_desk::post(desk, table, counts, SERVED, 0).expect(GOOD);
+                |desk: &mut [Watch]| plain_desk::post(desk, table, given, SERVED, 0).expect(GOOD);
             print_row(work, name, desk(table, waiting), ours, plain);
         }
         for waiting in [0, 1, 3, QUEUE_MAX] {
             let name = format!("turn, {waiting} waiting for each, {name}");
             let ours = |desk: &mut [Watch]| opened.turn(desk, LAST).expect(GOOD).map(parts);
             let plain =
-                |desk: &mut [Watch]| plain_desk::turn(desk, table, counts, LAST).expect(GOOD);
+                |desk: &mut [Watch]| plain_desk::turn(desk, table, given, LAST).expect(GOOD);
             print_row(work, name, desk(table, waiting), ours, plain);
         }
     }

@@ -9,7 +9,7 @@ use oracle::vectors::rule_samples::{one_too_many, shared_nexts};
 
 use crate::building;
 use crate::judging;
-use crate::serving;
+use crate::serving::{self, NUMBER};
 use crate::tefuji::{self, Opened, DESK_MAX, QUEUE_MAX};
 use crate::writing;
 
@@ -89,30 +89,31 @@ fn measure_making() {
     }
 }
 
-/// Checks, runs, steps and prints the table of a rule in which event 0 can happen.
+/// Opens, runs, steps and prints the table of a rule in which event 0 can happen.
 fn measure_using(which: &str, rule: &[u8]) {
     let mut table = vec![0; tefuji::TABLE_MAX];
     let length = tefuji::build(rule, &mut table).expect("the rule is good");
     let table = &table[..length];
     let events = vec![0; 5000];
     let mut text = vec![0; tefuji::TEXT_ROOM];
-    let opened = Opened::open(table).expect("a table");
-    print(&format!("check{which}"), OTHERS, || _ = black_box(Opened::open(table)));
+    let opened = Opened::open(table, NUMBER).expect("a table");
+    let start = opened.start();
+    print(&format!("open{which}"), OTHERS, || _ = black_box(Opened::open(table, NUMBER)));
     for (name, count, allowed) in [
         ("run, 10 events", 10, OTHERS),
         ("run, 4,095 events", 4095, OTHERS),
         ("run, 4,096 events", 4096, LONG_RUNS),
     ] {
         let name = format!("{name}{which}");
-        print(&name, allowed, || _ = black_box(tefuji::run(table, 0, &events[..count])));
+        print(&name, allowed, || _ = black_box(opened.run(start, &events[..count])));
     }
-    print(&format!("step{which}"), OTHERS, || _ = black_box(opened.step(0, 0)));
+    print(&format!("step{which}"), OTHERS, || _ = black_box(opened.step(start, 0)));
     print(&format!("text{which}"), OTHERS, || _ = black_box(tefuji::text(table, &mut text)));
 }
 
 /// A fresh desk; posts and turns at a full row, with nothing waiting and with all slots but one or all taken.
 fn measure_serving(which: &str, table: &[u8]) {
-    let opened = Opened::open(table).expect("a table");
+    let opened = Opened::open(table, NUMBER).expect("a table");
     let mut desk = serving::desk(table, QUEUE_MAX);
     print(&format!("fresh, {which}"), OTHERS, || _ = black_box(opened.fresh(&mut desk)));
     for waiting in [0, QUEUE_MAX - 1] {
@@ -129,7 +130,7 @@ fn measure_serving(which: &str, table: &[u8]) {
 
 /// A short pair of recordings and a long one.
 fn measure_judging(which: &str, table: &[u8]) {
-    let opened = Opened::open(table).expect("a table");
+    let opened = Opened::open(table, NUMBER).expect("a table");
     for count in judging::LENGTHS {
         let [first, second] = judging::recordings(table, count);
         let name = format!("judge, {count} events, {which}");
