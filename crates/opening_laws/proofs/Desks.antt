@@ -5,7 +5,7 @@ use mathlib.Core.Path.{_≡_, refl, sym, ap, _∙_, subst}
 use mathlib.Core.Logic.{_⊎_, inl, inr}
 use mathlib.Core.List.{List, [], _∷_, _++_, append-nil, append-assoc}
 use mathlib.Core.Bool.{Bool, true, false, cond, not}
-use Prim.Native.Nat.{ℕ, _≤_, _<_}
+use Prim.Native.Nat.{ℕ, _≤_}
 use native.Mathlib.Omega.{arith}
 use borrow.Author.Tests.{lt-ltb, eq-eqb, ne-eqb, eqb-true, eqb-false}
 use lib.Dec.{eqb}
@@ -21,7 +21,6 @@ use Rattle.meaning.specs.declared.Verdict.{Verdict}
 use Rattle.meaning.specs.declared.State.{State}
 use Rattle.meaning.specs.declared.Served.{Served}
 use Rattle.meaning.specs.declared.Served.the-variants as Served
-use Rattle.meaning.specs.declared.Watch.{Watch}
 use Rattle.table_layout.proofs.Form.{states-some, table-header}
 use Rattle.desk_histories.proofs.Rows.{good-fresh, row-fits}
 use Rattle.desk_histories.proofs.Answers.{Σ, S, Fine}

@@ -1,18 +1,15 @@
 -- States under distinct numbers: what is known of each that is held, and the theorem.
 --     state-right     refused by 24 exactly with another opening, and otherwise demand 2's verdict for all events since the start
 use mathlib.Core.Path.{_≡_, refl, sym, ap, _∙_, subst}
-use mathlib.Core.List.{List, [], _∷_, _++_}
+use mathlib.Core.List.{List, _++_}
 use mathlib.Core.Bool.{true}
 use Prim.Native.Nat.{ℕ, _<_}
 use Rattle.meaning.specs.Traces.{Word}
 use Rattle.meaning.specs.Verdicts.{Judged}
-use Rattle.meaning.specs.Monitors.{follow, shows}
+use Rattle.meaning.specs.Monitors.{follow}
 use Rattle.meaning.specs.TableFiles.{isTable, statesIn}
-use Rattle.meaning.specs.Openings.{Opening, stateOf, runFrom}
 use Rattle.meaning.specs.declared.Verdict.{Verdict}
-use Rattle.meaning.specs.declared.Decided.{Decided}
 use Rattle.meaning.specs.declared.State.{State}
-use Rattle.meaning.specs.declared.Arrived.the-variants as Arrived
 use Rattle.table_layout.proofs.Form.{states-some, table-header}
 use Rattle.moore.proofs.Words.{word-append, follow-append}
 use Rattle.building.proofs.Running.{word-same}

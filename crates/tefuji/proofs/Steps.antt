@@ -1,8 +1,8 @@
 -- A run, a judgement of recordings, a fresh desk, a post and a turn with an opening as one number: those that opening a table answered, and those that none can.
 use mathlib.Core.Path.{_≡_, refl, sym, ap, subst, _∙_}
-use mathlib.Core.List.{List, [], _∷_}
+use mathlib.Core.List.{List}
 use mathlib.Core.Bool.{Bool, true, false, cond}
-use Prim.Native.Nat.{ℕ, _+_, _*_, _/_, _%_, _^_, _≤_, _<_}
+use Prim.Native.Nat.{ℕ, _+_, _*_, _/_, _%_, _^_, _<_}
 use native.Mathlib.Omega.{arith}
 use borrow.Author.Tests.{lt-leb, ltb-true}
 use lib.Dec.{ltb}
@@ -10,7 +10,7 @@ use Rattle.sequences.proofs.Tests.{fails}
 use Rattle.meaning.specs.TableFiles.{signalsIn, statesIn, isTable, countsTests, checkedOf}
 use Rattle.meaning.specs.Runs.{countsFit}
 use Rattle.meaning.specs.Openings.{opening, stateOf, startOf, runFromIn, runFrom}
-use Rattle.meaning.specs.Desks.{Outcome, refused, freshIn, freshOf}
+use Rattle.meaning.specs.Desks.{refused, freshIn, freshOf}
 use Rattle.meaning.specs.Recordings.{judgedIn, judgedOf}
 use Rattle.meaning.specs.declared.Refusal.{Refusal}
 use Rattle.meaning.specs.declared.Refusal.the-variants.{WrongTable}
