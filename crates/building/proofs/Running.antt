@@ -8,13 +8,13 @@ use native.Mathlib.Omega.{arith}
 use lib.ListN.{length, take, get_or}
 use borrow.Author.Tests.{lt-ltb, le-ltb, eq-eqb}
 use Rattle.sequences.proofs.Loops.{least-is}
-use Rattle.meaning.specs.Traces.{Alphabet, isEvent, Word}
+use Rattle.meaning.specs.Traces.{Alphabet, is_event, Word}
 use Rattle.meaning.specs.Verdicts.{Property, Judged}
 use Rattle.meaning.specs.Monitors.{Monitor, follow, shows}
-use Rattle.meaning.specs.RuleFiles.{alphabetOf, propertyOf}
-use Rattle.meaning.specs.TableFiles.{isTable, alphabetIn, signalsIn, statesIn, successor, monitorOf}
-use Rattle.meaning.specs.Runs.{decides, decidedFrom, end_of, firstBad, ranOf, run_of}
-use Rattle.meaning.specs.Openings.{Opening, state_of, carried, ownRun, run_from}
+use Rattle.meaning.specs.RuleFiles.{alphabet_of, property_of}
+use Rattle.meaning.specs.TableFiles.{is_table, alphabet_in, signals_in, states_in, successor, monitor_of}
+use Rattle.meaning.specs.Runs.{decides, decided_from, end_of, first_bad, ran_of, run_of}
+use Rattle.meaning.specs.Openings.{Opening, state_of, carried, own_run, run_from}
 use Rattle.meaning.specs.declared.Verdict.{Verdict}
 use Rattle.meaning.specs.declared.Verdict.TheVariants.{Undecided, Satisfied, Violated, Moot}
 use Rattle.meaning.specs.declared.Decided.{Decided}
@@ -25,59 +25,59 @@ use Rattle.meaning.specs.declared.Ran.TheVariants.{Ended}
 use Rattle.meaning.specs.declared.Arrived.TheVariants as Arrived
 use Rattle.table_layout.proofs.Form.{event-test, test-event, table-header, states-some, table-inside}
 use Rattle.building.specs.Build.{BuiltRight}
-use Rattle.building.specs.Running.{CountRight, RunRight, StepRight, stepsFrom, steps}
+use Rattle.building.specs.Running.{CountRight, RunRight, StepRight, steps_from, steps}
 
 -- ---- the count of a run of any monitor
 
-abbrev verdictAfter : Monitor → ℕ → List ℕ → Bool
-verdictAfter m s w = decides (m.verdict (follow m s w))
+abbrev verdict_after : Monitor → ℕ → List ℕ → Bool
+verdict_after m s w = decides (m.verdict (follow m s w))
 
 abbrev Counted : Monitor → ℕ → ℕ → List ℕ → Decided → Type 0
-Counted m n s es (After j) = (i : ℕ) × (j ≡ n + i) × (i ≤ length es) × (verdictAfter m s (take i es) ≡ true) × ((k : ℕ) → k < i → verdictAfter m s (take k es) ≡ false)
-Counted m n s es Never = (k : ℕ) → k ≤ length es → verdictAfter m s (take k es) ≡ false
+Counted m n s es (After j) = (i : ℕ) × (j ≡ n + i) × (i ≤ length es) × (verdict_after m s (take i es) ≡ true) × ((k : ℕ) → k < i → verdict_after m s (take k es) ≡ false)
+Counted m n s es Never = (k : ℕ) → k ≤ length es → verdict_after m s (take k es) ≡ false
 
 counted_next : (m : Monitor) (n s e : ℕ) (es : List ℕ) (d : Decided) → decides (m.verdict s) ≡ false → Counted m (suc n) (m.next s e) es d → Counted m n s (e ∷ es) d
 counted_next m n s e es (After j) f (i, p, l, t, b) = (suc i, omega arith, omega arith, t, below)
   where
-    below : (k : ℕ) → k < suc i → verdictAfter m s (take k (e ∷ es)) ≡ false
+    below : (k : ℕ) → k < suc i → verdict_after m s (take k (e ∷ es)) ≡ false
     below zero h = f
     below (suc k) h = b k (omega arith)
 counted_next m n s e es Never f b = below
   where
-    below : (k : ℕ) → k ≤ suc (length es) → verdictAfter m s (take k (e ∷ es)) ≡ false
+    below : (k : ℕ) → k ≤ suc (length es) → verdict_after m s (take k (e ∷ es)) ≡ false
     below zero h = f
     below (suc k) h = b k (omega arith)
 
-counted : (m : Monitor) (n s : ℕ) (es : List ℕ) → Counted m n s es (decidedFrom m n s es)
-unfolding decidedFrom
+counted : (m : Monitor) (n s : ℕ) (es : List ℕ) → Counted m n s es (decided_from m n s es)
+unfolding decided_from
 counted m n s [] = go (decides (m.verdict s)) refl
   where
     go : (b : Bool) → decides (m.verdict s) ≡ b → Counted m n s [] (cond b (After n) Never)
     go true q = (0, omega arith, omega arith, q, λ k h. absurd (omega arith))
     go false q = below
       where
-        below : (k : ℕ) → k ≤ 0 → verdictAfter m s (take k []) ≡ false
+        below : (k : ℕ) → k ≤ 0 → verdict_after m s (take k []) ≡ false
         below zero h = q
         below (suc k) h = absurd (omega arith)
 counted m n s (e ∷ es) = go (decides (m.verdict s)) refl (counted m (suc n) (m.next s e) es)
   where
-    go : (b : Bool) → decides (m.verdict s) ≡ b → Counted m (suc n) (m.next s e) es (decidedFrom m (suc n) (m.next s e) es)
-        → Counted m n s (e ∷ es) (cond b (After n) (decidedFrom m (suc n) (m.next s e) es))
+    go : (b : Bool) → decides (m.verdict s) ≡ b → Counted m (suc n) (m.next s e) es (decided_from m (suc n) (m.next s e) es)
+        → Counted m n s (e ∷ es) (cond b (After n) (decided_from m (suc n) (m.next s e) es))
     go true q c = (0, omega arith, omega arith, q, λ k h. absurd (omega arith))
-    go false q c = counted_next m n s e es (decidedFrom m (suc n) (m.next s e) es) q c
+    go false q c = counted_next m n s e es (decided_from m (suc n) (m.next s e) es) q c
 
 -- ---- words
 
-all-good : (Σ : Alphabet) (es : List ℕ) → Word Σ es → (k : ℕ) → k < length es → not (isEvent Σ (get_or es k 0)) ≡ false
+all-good : (Σ : Alphabet) (es : List ℕ) → Word Σ es → (k : ℕ) → k < length es → not (is_event Σ (get_or es k 0)) ≡ false
 all-good Σ [] a k h = absurd (omega arith)
 all-good Σ (e ∷ es) a zero h = ap not (event-test Σ e a.0)
 all-good Σ (e ∷ es) a (suc k) h = all-good Σ es a.1 k (omega arith)
 
-none-bad : (Σ : Alphabet) (es : List ℕ) → Word Σ es → firstBad Σ es ≡ length es
-none-bad Σ es a = least-is (length es) (λ i. not (isEvent Σ (get_or es i 0))) (length es) (omega arith) (all-good Σ es a) (λ h. absurd (omega arith))
+none-bad : (Σ : Alphabet) (es : List ℕ) → Word Σ es → first_bad Σ es ≡ length es
+none-bad Σ es a = least-is (length es) (λ i. not (is_event Σ (get_or es i 0))) (length es) (omega arith) (all-good Σ es a) (λ h. absurd (omega arith))
 
 -- words over alphabets with the same events
-pub word_same : (Σ Σ' : Alphabet) → ((e : ℕ) → isEvent Σ' e ≡ isEvent Σ e) → (es : List ℕ) → Word Σ es → Word Σ' es
+pub word_same : (Σ Σ' : Alphabet) → ((e : ℕ) → is_event Σ' e ≡ is_event Σ e) → (es : List ℕ) → Word Σ es → Word Σ' es
 word_same Σ Σ' q [] a = tt
 word_same Σ Σ' q (e ∷ es) a = (test-event Σ' e (q e ∙ event-test Σ e a.0), word_same Σ Σ' q es a.1)
 
@@ -95,10 +95,10 @@ undecided Moot q = let z : ◌≡◌ {A = ℕ} 0 1 = cc in absurd (omega arith)
 -- ---- the run
 
 module _ (Σ : Alphabet) (L : Property) (m : Monitor) (start : m.start ≡ 0) (says : (w : List ℕ) → Word Σ w → (v : Verdict) → (shows m w ≡ v) ↔ Judged Σ L w v) (es : List ℕ) (a : Word Σ es) where
-  from_start : (k : ℕ) → verdictAfter m 0 (take k es) ≡ decides (shows m (take k es))
+  from_start : (k : ℕ) → verdict_after m 0 (take k es) ≡ decides (shows m (take k es))
   from_start k = ap (λ (s : ℕ). decides (m.verdict (follow m s (take k es)))) (sym start)
 
-  not_yet : (k : ℕ) → verdictAfter m 0 (take k es) ≡ false → Judged Σ L (take k es) Undecided
+  not_yet : (k : ℕ) → verdict_after m 0 (take k es) ≡ false → Judged Σ L (take k es) Undecided
   not_yet k q = (says (take k es) (word-take Σ k es a) Undecided).0 (undecided (shows m (take k es)) (sym (from_start k) ∙ q))
 
   count-right : (d : Decided) → Counted m 0 0 es d → CountRight Σ L es d
@@ -109,56 +109,56 @@ module _ (Σ : Alphabet) (L : Property) (m : Monitor) (start : m.start ≡ 0) (s
   count-right Never b = λ k h. not_yet k (b k h)
 
   end-right : RunRight Σ L es (end_of m 0 es)
-  end-right = ((says es a (m.verdict (follow m 0 es))).0 (ap (λ (s : ℕ). m.verdict (follow m s es)) start), count-right (decidedFrom m 0 0 es) (counted m 0 0 es))
+  end-right = ((says es a (m.verdict (follow m 0 es))).0 (ap (λ (s : ℕ). m.verdict (follow m s es)) start), count-right (decided_from m 0 0 es) (counted m 0 0 es))
 
   -- where the run takes the same events
-  run-right : (own : Alphabet) → ((e : ℕ) → isEvent own e ≡ isEvent Σ e) → 0 < m.states → RunRight Σ L es (ranOf m own 0 es)
+  run-right : (own : Alphabet) → ((e : ℕ) → is_event own e ≡ is_event Σ e) → 0 < m.states → RunRight Σ L es (ran_of m own 0 es)
   run-right own q h = rw (lt-ltb 0 m.states h, none-bad own es (word_same Σ own q es a), le-ltb (length es) (length es) (omega arith)) end-right
 
 -- the second theorem: building and running together
-pub built-run : (file table : List ℕ) (b : BuiltRight file table) (es : List ℕ) → Word (alphabetOf b.rule) es
-    → RunRight (alphabetOf b.rule) (propertyOf b.rule) es (run_of table 0 es)
+pub built-run : (file table : List ℕ) (b : BuiltRight file table) (es : List ℕ) → Word (alphabet_of b.rule) es
+    → RunRight (alphabet_of b.rule) (property_of b.rule) es (run_of table 0 es)
 built-run file table b es a =
-    rw b.demand-3.form
-    (run-right (alphabetOf b.rule) (propertyOf b.rule) (monitorOf table) refl (b.demand-2.verdicts table b.built) es a
-    (alphabetIn table (signalsIn table)) b.demand-3.events (states-some table (table-header table b.demand-3.form)))
+    rw b.demand_3.form
+    (run-right (alphabet_of b.rule) (property_of b.rule) (monitor_of table) refl (b.demand_2.verdicts table b.built) es a
+    (alphabet_in table (signals_in table)) b.demand_3.events (states-some table (table-header table b.demand_3.form)))
 
 -- ---- stepping
 
 -- a step over a table, whose successors are its states
-module _ (t : List ℕ) (form : isTable t ≡ true) where
+module _ (t : List ℕ) (form : is_table t ≡ true) where
   -- a run over events that can happen is not refused
-  pub word-run : (s : ℕ) (es : List ℕ) → s < statesIn t → Word (alphabetIn t (signalsIn t)) es → run_of t s es ≡ end_of (monitorOf t) s es
-  word-run s es l a = rw (form, lt-ltb s (statesIn t) l, none-bad (alphabetIn t (signalsIn t)) es a, le-ltb (length es) (length es) (omega arith))
+  pub word-run : (s : ℕ) (es : List ℕ) → s < states_in t → Word (alphabet_in t (signals_in t)) es → run_of t s es ≡ end_of (monitor_of t) s es
+  word-run s es l a = rw (form, lt-ltb s (states_in t) l, none-bad (alphabet_in t (signals_in t)) es a, le-ltb (length es) (length es) (omega arith))
 
   -- stepping ends where the events lead, with the verdict of that state
-  steps-end : (s : ℕ) (d : Decided) (es : List ℕ) → s < statesIn t → Word (alphabetIn t (signalsIn t)) es
-      → (d' : Decided) × (stepsFrom t (Ended s ((monitorOf t).verdict s) d) es ≡ Ended (follow (monitorOf t) s es) ((monitorOf t).verdict (follow (monitorOf t) s es)) d')
-  unfolding stepsFrom
+  steps-end : (s : ℕ) (d : Decided) (es : List ℕ) → s < states_in t → Word (alphabet_in t (signals_in t)) es
+      → (d' : Decided) × (steps_from t (Ended s ((monitor_of t).verdict s) d) es ≡ Ended (follow (monitor_of t) s es) ((monitor_of t).verdict (follow (monitor_of t) s es)) d')
+  unfolding steps_from
   steps-end s d [] l a = (d, refl)
   steps-end s d (e ∷ es) l a =
       let q = word-run s (e ∷ []) l (a.0, tt) in
-      let h = steps-end (successor t (signalsIn t) s e) (decidedFrom (monitorOf t) 0 s (e ∷ [])) es (table-inside t form s e l a.0) a.1 in
-      (h.0, ap (λ (r : Ran). stepsFrom t r es) q ∙ h.1)
+      let h = steps-end (successor t (signals_in t) s e) (decided_from (monitor_of t) 0 s (e ∷ [])) es (table-inside t form s e l a.0) a.1 in
+      (h.0, ap (λ (r : Ran). steps_from t r es) q ∙ h.1)
 
 -- ---- an opening
 
 -- from a state that carries the opening's number, whichever opening gave it, a run is that of the table at hand
-pub own-run : (o : Opening) → isTable o.table ≡ true → (s : ℕ) (es : List ℕ) → run_from o (state_of o.number s) es ≡ carried o.number (run_of o.table s es)
+pub own-run : (o : Opening) → is_table o.table ≡ true → (s : ℕ) (es : List ℕ) → run_from o (state_of o.number s) es ≡ carried o.number (run_of o.table s es)
 own-run o form s es =
-    ap (λ (b : Bool). cond b (ownRun o.number (state_of o.number s) (run_of o.table s es)) (Arrived.Refused WrongTable)) form
+    ap (λ (b : Bool). cond b (own_run o.number (state_of o.number s) (run_of o.table s es)) (Arrived.Refused WrongTable)) form
     ∙ ap (λ (b : Bool). cond b (carried o.number (run_of o.table s es)) (Arrived.Refused (WrongOpening 0))) (eq-eqb o.number o.number refl)
 
 -- ---- stepping through a list
 
 -- the third theorem: stepping event by event is never refused, and after every list the last step shows demand 2's verdict
-pub built-steps : (file table : List ℕ) (b : BuiltRight file table) (es : List ℕ) → Word (alphabetOf b.rule) es
-    → StepRight (alphabetOf b.rule) (propertyOf b.rule) es (steps table es)
+pub built-steps : (file table : List ℕ) (b : BuiltRight file table) (es : List ℕ) → Word (alphabet_of b.rule) es
+    → StepRight (alphabet_of b.rule) (property_of b.rule) es (steps table es)
 built-steps file table b es a =
-    let form = b.demand-3.form in
+    let form = b.demand_3.form in
     let some = states-some table (table-header table form) in
-    let word = word_same (alphabetOf b.rule) (alphabetIn table (signalsIn table)) b.demand-3.events es a in
-    let end = steps-end table form 0 (decidedFrom (monitorOf table) 0 0 []) es some word in
-    let q : steps table es ≡ Ended _ (shows (monitorOf table) es) _ = ap (λ (r : Ran). stepsFrom table r es) (word-run table form 0 [] some tt) ∙ end.1 in
-    subst (λ (r : Ran). StepRight (alphabetOf b.rule) (propertyOf b.rule) es r) (sym q)
-    ((b.demand-2.verdicts table b.built es a (shows (monitorOf table) es)).0 refl)
+    let word = word_same (alphabet_of b.rule) (alphabet_in table (signals_in table)) b.demand_3.events es a in
+    let end = steps-end table form 0 (decided_from (monitor_of table) 0 0 []) es some word in
+    let q : steps table es ≡ Ended _ (shows (monitor_of table) es) _ = ap (λ (r : Ran). steps_from table r es) (word-run table form 0 [] some tt) ∙ end.1 in
+    subst (λ (r : Ran). StepRight (alphabet_of b.rule) (property_of b.rule) es r) (sym q)
+    ((b.demand_2.verdicts table b.built es a (shows (monitor_of table) es)).0 refl)

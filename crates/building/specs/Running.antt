@@ -30,10 +30,10 @@ abbrev pub step : List ℕ → Ran → ℕ → Ran
 step table (Ended s v d) e = run_of table s (e ∷ [])
 step table (Refused r) e = Refused r
 
-unfoldable pub stepsFrom : List ℕ → Ran → List ℕ → Ran
-stepsFrom table r [] = r
-stepsFrom table r (e ∷ es) = stepsFrom table (step table r e) es
+unfoldable pub steps_from : List ℕ → Ran → List ℕ → Ran
+steps_from table r [] = r
+steps_from table r (e ∷ es) = steps_from table (step table r e) es
 
 -- stepping through the events one at a time, from state 0, where a run over no event stands
 abbrev pub steps : List ℕ → List ℕ → Ran
-steps table es = stepsFrom table (run_of table 0 []) es
+steps table es = steps_from table (run_of table 0 []) es

@@ -1,14 +1,14 @@
 // Answers as one number: what was asked for, or a refusal with its number in the top byte and its place below.
 ghost use Rattle.std.specs.Prelude.{◌≡◌, ◌<◌, ◌^◌};
-ghost use Rattle.meaning.specs.TableFiles.{verdictNumber};
+ghost use Rattle.meaning.specs.TableFiles.{verdict_number};
 ghost use Rattle.meaning.specs.declared.Served.TheVariants.{Heard};
-ghost use Rattle.codes.specs.Codes.{placeCode, refusalCode, writtenCode, builtCode, stateCode, stateIn, openedCode, number_of, startCode, arrivedCode, countCode, countAfter, shownCode, textCode, numberCode, servedCode, openingIn};
+ghost use Rattle.codes.specs.Codes.{place_code, refusal_code, written_code, built_code, state_code, state_in, opened_code, number_of, start_code, arrived_code, count_code, count_after, shown_code, text_code, number_code, served_code, opening_in};
 
 use meaning::{Arrived, Built, Checked, Decided, Refusal, Served, Shown, State, Verdict, Written};
 use text_pieces::Text;
 
 fn place_code(place: usize) -> u64
-    ensures { (result ≡ placeCode place) × (result < 2 ^ 56) }
+    ensures { (result ≡ place_code place) × (result < 2 ^ 56) }
 {
     if place < 72057594037927936 {
         return place as u64;
@@ -17,14 +17,14 @@ fn place_code(place: usize) -> u64
 }
 
 pub fn refusal_code(why: Refusal) -> u64
-    ensures { result ≡ refusalCode why }
+    ensures { result ≡ refusal_code why }
 {
     let number = why.number() as u64;
     number * 72057594037927936 + place_code(why.place())
 }
 
 pub fn written_code(written: Written) -> u64
-    ensures { result ≡ writtenCode written }
+    ensures { result ≡ written_code written }
 {
     match written {
         Written::Rule(n) => n as u64,
@@ -33,7 +33,7 @@ pub fn written_code(written: Written) -> u64
 }
 
 pub fn built_code(built: Built) -> u64
-    ensures { result ≡ builtCode built }
+    ensures { result ≡ built_code built }
 {
     match built {
         Built::Table(n) => n as u64,
@@ -43,14 +43,14 @@ pub fn built_code(built: Built) -> u64
 
 // A state as one number: the number of its opening times 65,536, and its own.
 fn state_code(state: State) -> u64
-    ensures { (result ≡ stateCode state) × (result < 2 ^ 32) }
+    ensures { (result ≡ state_code state) × (result < 2 ^ 32) }
 {
     state.opening as u64 * 65536 + state.number as u64
 }
 
 // The state in a number.
 pub fn state_in(state: u32) -> State
-    ensures { result ≡ stateIn state }
+    ensures { result ≡ state_in state }
 {
     State {
         opening: (state / 65536) as u16,
@@ -60,7 +60,7 @@ pub fn state_in(state: u32) -> State
 
 // An opening as one number: its signals times 2^32, its number times 65,536, and its states.
 pub fn opened_code(number: u16, checked: Checked) -> u64
-    ensures { result ≡ openedCode number checked }
+    ensures { result ≡ opened_code number checked }
 {
     match checked {
         Checked::Table { signals, states } => {
@@ -79,14 +79,14 @@ fn opening_number(opened: u64) -> u16
 
 // The start of an opening, as one number.
 pub fn start_code(opened: u64) -> u32
-    ensures { result ≡ startCode opened }
+    ensures { result ≡ start_code opened }
 {
     let number = opening_number(opened);
     number as u32 * 65536
 }
 
 fn verdict_number(verdict: Verdict) -> u64
-    ensures { (result ≡ verdictNumber verdict) × (result < 4) }
+    ensures { (result ≡ verdict_number verdict) × (result < 4) }
 {
     match verdict {
         Verdict::Undecided => 0,
@@ -97,7 +97,7 @@ fn verdict_number(verdict: Verdict) -> u64
 }
 
 pub fn arrived_code(arrived: Arrived) -> u64
-    ensures { result ≡ arrivedCode arrived }
+    ensures { result ≡ arrived_code arrived }
 {
     match arrived {
         Arrived::At {
@@ -110,7 +110,7 @@ pub fn arrived_code(arrived: Arrived) -> u64
 }
 
 fn count_code(decided: Decided) -> u64
-    ensures { result ≡ countCode decided }
+    ensures { result ≡ count_code decided }
 {
     match decided {
         Decided::After(n) => n as u64,
@@ -120,7 +120,7 @@ fn count_code(decided: Decided) -> u64
 
 // Where the count goes after a run.
 pub fn count_after(arrived: Arrived, was: u64) -> u64
-    ensures { result ≡ countAfter arrived was }
+    ensures { result ≡ count_after arrived was }
 {
     match arrived {
         Arrived::At {
@@ -133,7 +133,7 @@ pub fn count_after(arrived: Arrived, was: u64) -> u64
 }
 
 pub fn shown_code(shown: Shown) -> u64
-    ensures { result ≡ shownCode shown }
+    ensures { result ≡ shown_code shown }
 {
     match shown {
         Shown::Verdict(verdict) => verdict_number(verdict) * 4294967296,
@@ -142,7 +142,7 @@ pub fn shown_code(shown: Shown) -> u64
 }
 
 pub fn text_code(text: Text) -> u64
-    ensures { result ≡ textCode text }
+    ensures { result ≡ text_code text }
 {
     match text {
         Text::Written(n) => n as u64,
@@ -151,7 +151,7 @@ pub fn text_code(text: Text) -> u64
 }
 
 fn number_code(number: usize) -> u64
-    ensures { (result ≡ numberCode number) × (result < 128) }
+    ensures { (result ≡ number_code number) × (result < 128) }
 {
     if number < 128 {
         return number as u64;
@@ -160,7 +160,7 @@ fn number_code(number: usize) -> u64
 }
 
 fn heard_code(number: usize, event: u8, state: State, verdict: Verdict) -> u64
-    ensures { result ≡ servedCode (Heard number event state verdict) }
+    ensures { result ≡ served_code (Heard number event state verdict) }
 {
     let tunnel = number_code(number) * 281474976710656;
     let events = event as u64 * 1099511627776;
@@ -169,7 +169,7 @@ fn heard_code(number: usize, event: u8, state: State, verdict: Verdict) -> u64
 }
 
 pub fn served_code(served: Served) -> u64
-    ensures { result ≡ servedCode served }
+    ensures { result ≡ served_code served }
 {
     match served {
         Served::Done => 0,
@@ -194,7 +194,7 @@ pub struct Opening {
 
 // The opening in a number; with 0 signals and 0 states, which no table has, where it is none that opening answers.
 pub fn opening_in(opened: u64) -> Opening
-    ensures { result ≡ openingIn opened }
+    ensures { result ≡ opening_in opened }
 {
     let number = opening_number(opened);
     let signals = opened / 4294967296;

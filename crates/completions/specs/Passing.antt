@@ -5,9 +5,9 @@ use Rattle.sequences.specs.Tabulate.{every, joined}
 use Rattle.meaning.specs.Traces.{Event}
 use Rattle.meaning.specs.Monitors.{follow}
 use Rattle.meaning.specs.RuleFiles.{first_of}
-use Rattle.meaning.specs.TableFiles.{alphabetIn, monitorIn}
-use Rattle.meaning.specs.Runs.{onTable}
-use Rattle.meaning.specs.Recordings.{agrees, Completion, completions, joinedList, verdictOver, eventChecks}
+use Rattle.meaning.specs.TableFiles.{alphabet_in, monitor_in}
+use Rattle.meaning.specs.Runs.{on_table}
+use Rattle.meaning.specs.Recordings.{agrees, Completion, completions, joined_list, verdict_over, event_checks}
 use Rattle.meaning.specs.declared.Verdict.{Verdict}
 use Rattle.meaning.specs.declared.Verdict.TheVariants.{Undecided, Satisfied, Violated, Moot}
 use Rattle.meaning.specs.declared.Refusal.{Refusal}
@@ -15,7 +15,7 @@ use Rattle.meaning.specs.declared.Refusal.TheVariants.{WrongTable}
 use Rattle.meaning.specs.declared.Seen.{Seen}
 use Rattle.meaning.specs.declared.Shown.{Shown}
 use Rattle.meaning.specs.declared.Shown.TheVariants as Shown
-use Rattle.state_sets.specs.Sets.{Has, Among, Moved, allShow}
+use Rattle.state_sets.specs.Sets.{Has, Among, Moved, all_show}
 
 -- no check of the list refuses; and the first that does refuses by x
 pub record Cleared (cs : List (Bool × Refusal)) : Type 0 where
@@ -29,27 +29,27 @@ pub record Steps (t : List ℕ) (P S : ℕ) (r : Seen) (old new : List Bool) (ok
   pub count : ℕ
   pub events : List ℕ
   pub some : 1 ≤ count
-  pub chosen : (e : ℕ) → Among count events e → Event (alphabetIn t P) e × T (agrees P r e)
-  pub all : (e : ℕ) → Event (alphabetIn t P) e → T (agrees P r e) → Among count events e
+  pub chosen : (e : ℕ) → Among count events e → Event (alphabet_in t P) e × T (agrees P r e)
+  pub all : (e : ℕ) → Event (alphabet_in t P) e → T (agrees P r e) → Among count events e
   pub moved : Moved t P S count events S old new ok
 
 -- The set has exactly the states in which the completions of the recorded events rs end, while none has left the table; or one has left it.
 pub record Reached (t : List ℕ) (P S : ℕ) (rs : List Seen) (inside : Bool) (set : List Bool) : Type 0 where
   pub long : length set ≡ 256
-  pub reached : inside ≡ true → (s : ℕ) → Has set s → (w : List ℕ) × Completion (alphabetIn t P) P rs w × (follow (monitorIn t P S) 0 w ≡ s)
-  pub marked : inside ≡ true → (w : List ℕ) → Completion (alphabetIn t P) P rs w → (onTable t P S 0 w ≡ true) × Has set (follow (monitorIn t P S) 0 w)
-  pub left : inside ≡ false → (w : List ℕ) × Completion (alphabetIn t P) P rs w × (onTable t P S 0 w ≡ false)
+  pub reached : inside ≡ true → (s : ℕ) → Has set s → (w : List ℕ) × Completion (alphabet_in t P) P rs w × (follow (monitor_in t P S) 0 w ≡ s)
+  pub marked : inside ≡ true → (w : List ℕ) → Completion (alphabet_in t P) P rs w → (on_table t P S 0 w ≡ true) × Has set (follow (monitor_in t P S) 0 w)
+  pub left : inside ≡ false → (w : List ℕ) × Completion (alphabet_in t P) P rs w × (on_table t P S 0 w ≡ false)
 
 -- what is answered of the set at the end
 abbrev pub concluded : List ℕ → ℕ → ℕ → List Bool → Bool → Shown
 concluded t P S set inside =
     cond inside
-    (Shown.Verdict (cond (allShow t P S set 1) Satisfied (cond (allShow t P S set 2) Violated (cond (allShow t P S set 3) Moot Undecided))))
+    (Shown.Verdict (cond (all_show t P S set 1) Satisfied (cond (all_show t P S set 2) Violated (cond (all_show t P S set 3) Moot Undecided))))
     (Shown.Refused WrongTable)
 
 -- what is answered after the lengths
-unfoldable pub eventsJudged : List ℕ → ℕ → ℕ → List ℕ → List ℕ → Shown
-eventsJudged t P S a b =
-    let ws = completions (alphabetIn t P) P (joinedList a b) in
-    first_of Shown.Refused (joined (length a / 2) (eventChecks (alphabetIn t P) P a b))
-    (cond (every (map (onTable t P S 0) ws)) (Shown.Verdict (verdictOver (monitorIn t P S) ws)) (Shown.Refused WrongTable))
+unfoldable pub events_judged : List ℕ → ℕ → ℕ → List ℕ → List ℕ → Shown
+events_judged t P S a b =
+    let ws = completions (alphabet_in t P) P (joined_list a b) in
+    first_of Shown.Refused (joined (length a / 2) (event_checks (alphabet_in t P) P a b))
+    (cond (every (map (on_table t P S 0) ws)) (Shown.Verdict (verdict_over (monitor_in t P S) ws)) (Shown.Refused WrongTable))

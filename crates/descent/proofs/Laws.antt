@@ -11,7 +11,7 @@ use Rattle.meaning.specs.Grammar.{Tree, leaf, pre, bin, rightward}
 use Rattle.grammar.specs.Descent.{Level, More}
 use Rattle.grammar.proofs.Descending.{level-leaf, level-other, level-inside, level-over, level-up, more-end, more-none, more_left, more-right}
 use native.Mathlib.Decide.{dec_lt}
-use Rattle.descent.specs.Laying.{Laid, put, lay, laidAs, Read, Onward, Moved, Skips}
+use Rattle.descent.specs.Laying.{Laid, put, lay, laid_as, Read, Onward, Moved, Skips}
 use Rattle.descent.specs.declared.Cursor.{Cursor}
 
 pub set_past : (s : List ℕ) (i v : ℕ) → length s ≤ i → set s i v ≡ s
@@ -33,7 +33,7 @@ module _ (s : List ℕ) where
   past : (i : ℕ) → length s ≤ i → drop i s ≡ []
   past i h = drop_of_length-le s h
 
-  pub read-over : {i : ℕ} {o : List ℕ} {c : ℕ} {o' : List ℕ} {r : Cursor} → length s ≤ i → i ≤ length s → put o c 4 0 0 ≡ laidAs o' r → r.at ≡ i → Read s 0 i o c o' r
+  pub read-over : {i : ℕ} {o : List ℕ} {c : ℕ} {o' : List ℕ} {r : Cursor} → length s ≤ i → i ≤ length s → put o c 4 0 0 ≡ laid_as o' r → r.at ≡ i → Read s 0 i o c o' r
   unfolding lay
   read-over {i} {o} {c} {o'} {r} h u e a = record {
     tree = leaf 4;
@@ -43,7 +43,7 @@ module _ (s : List ℕ) where
     within = omega arith;
   }
 
-  pub read-leaf : {i : ℕ} {o : List ℕ} {c : ℕ} {o' : List ℕ} {r : Cursor} → i < length s → get_or s i 0 < 6 → put o c (get_or s i 0) 0 0 ≡ laidAs o' r → r.at ≡ i + 1 → Read s 0 i o c o' r
+  pub read-leaf : {i : ℕ} {o : List ℕ} {c : ℕ} {o' : List ℕ} {r : Cursor} → i < length s → get_or s i 0 < 6 → put o c (get_or s i 0) 0 0 ≡ laid_as o' r → r.at ≡ i + 1 → Read s 0 i o c o' r
   unfolding lay
   read-leaf {i} {o} {c} {o'} {r} h l e a = record {
     tree = leaf (get_or s i 0);
@@ -54,7 +54,7 @@ module _ (s : List ℕ) where
   }
 
   pub read-pre : {i : ℕ} {o : List ℕ} {c : ℕ} {o₁ : List ℕ} {d : Cursor} {o' : List ℕ} {r : Cursor} → i < length s → 6 ≤ get_or s i 0 → (get_or s i 0 ≡ 10 → ⊥)
-      → Read s 0 (i + 1) o c o₁ d → put o₁ d.count (get_or s i 0) d.root 0 ≡ laidAs o' r → r.at ≡ d.at → Read s 0 i o c o' r
+      → Read s 0 (i + 1) o c o₁ d → put o₁ d.count (get_or s i 0) d.root 0 ≡ laid_as o' r → r.at ≡ d.at → Read s 0 i o c o' r
   unfolding lay
   read-pre {i} {o} {c} {o₁} {d} {o'} {r} h l u p e a = record {
     tree = pre (get_or s i 0) p.tree;
@@ -109,13 +109,13 @@ module _ (s : List ℕ) where
     within = omega arith;
   }
 
-  sign-laid : (n : ℕ) (o : List ℕ) (c : Cursor) (o₁ : List ℕ) (d : Cursor) (o' : List ℕ) (r : Cursor) (a b : Tree) (o₀ : List ℕ) (c₀ x : ℕ) → x ≡ 12 + n → lay a o₀ c₀ ≡ laidAs o c → lay b o c.count ≡ laidAs o₁ d
-      → put o₁ d.count x c.root d.root ≡ laidAs o' r → lay (bin (12 + n) a b) o₀ c₀ ≡ laidAs o' r
+  sign-laid : (n : ℕ) (o : List ℕ) (c : Cursor) (o₁ : List ℕ) (d : Cursor) (o' : List ℕ) (r : Cursor) (a b : Tree) (o₀ : List ℕ) (c₀ x : ℕ) → x ≡ 12 + n → lay a o₀ c₀ ≡ laid_as o c → lay b o c.count ≡ laid_as o₁ d
+      → put o₁ d.count x c.root d.root ≡ laid_as o' r → lay (bin (12 + n) a b) o₀ c₀ ≡ laid_as o' r
   unfolding lay
   sign-laid n o c o₁ d o' r a b o₀ c₀ x q e f g = rw (sym q, e, f) g
 
   pub moved-right : {n : ℕ} {c : Cursor} {o : List ℕ} {o₁ : List ℕ} {d : Cursor} {o' : List ℕ} {r : Cursor} → c.at < length s → get_or s c.at 0 ≡ 12 + n → rightward n ≡ true
-      → Read s (n + 1) (c.at + 1) o c.count o₁ d → put o₁ d.count (get_or s c.at 0) c.root d.root ≡ laidAs o' r → r.at ≡ d.at → Moved s n c o o' r
+      → Read s (n + 1) (c.at + 1) o c.count o₁ d → put o₁ d.count (get_or s c.at 0) c.root d.root ≡ laid_as o' r → r.at ≡ d.at → Moved s n c o o' r
   moved-right {n} {c} {o} {o₁} {d} {o'} {r} h q f p e u = record {
     from = λ a o₀ c₀ l. record {
       tree = bin (12 + n) a p.tree;
@@ -127,7 +127,7 @@ module _ (s : List ℕ) where
   }
 
   pub moved-left : {n : ℕ} {c : Cursor} {o : List ℕ} {o₁ : List ℕ} {d : Cursor} {o₂ : List ℕ} {m : Cursor} {o' : List ℕ} {r : Cursor} → c.at < length s → get_or s c.at 0 ≡ 12 + n → rightward n ≡ false
-      → Read s n (c.at + 1) o c.count o₁ d → put o₁ d.count (get_or s c.at 0) c.root d.root ≡ laidAs o₂ m → m.at ≡ d.at → Moved s n m o₂ o' r → Moved s n c o o' r
+      → Read s n (c.at + 1) o c.count o₁ d → put o₁ d.count (get_or s c.at 0) c.root d.root ≡ laid_as o₂ m → m.at ≡ d.at → Moved s n m o₂ o' r → Moved s n c o o' r
   moved-left {n} {c} {o} {o₁} {d} {o₂} {m} {o'} {r} h q f p e u w = record {
     from = λ a o₀ c₀ l.
         let g = w.from (bin (12 + n) a p.tree) o₀ c₀ (sign-laid n o c o₁ d o₂ m a p.tree o₀ c₀ (get_or s c.at 0) q l p.laid e) in record {

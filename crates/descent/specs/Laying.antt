@@ -20,14 +20,14 @@ lay (leaf x) o c = put o c x 0 0
 lay (pre x t) o c = let s = lay t o c in put s.out s.count x s.root 0
 lay (bin x a b) o c = let s = lay a o c in let u = lay b s.out s.count in put u.out u.count x s.root u.root
 
-abbrev pub laidAs : List ℕ → Cursor → Laid
-laidAs o r = record { out = o; count = r.count; root = r.root }
+abbrev pub laid_as : List ℕ → Cursor → Laid
+laid_as o r = record { out = o; count = r.count; root = r.root }
 
 -- what `level` did: from `place` on it read a tree at level n, as far as r says, and laid it
 pub record Read (signs : List ℕ) (n place : ℕ) (o : List ℕ) (c : ℕ) (o' : List ℕ) (r : Cursor) : Type 0 where
   pub tree : Tree
   pub level : Level n (drop place signs) tree (drop r.at signs)
-  pub laid : lay tree o c ≡ laidAs o' r
+  pub laid : lay tree o c ≡ laid_as o' r
   pub ahead : place ≤ r.at
   pub within : r.at ≤ length signs
 
@@ -35,10 +35,10 @@ pub record Read (signs : List ℕ) (n place : ℕ) (o : List ℕ) (c : ℕ) (o' 
 pub record Onward (signs : List ℕ) (n : ℕ) (c : Cursor) (a : Tree) (o₀ : List ℕ) (c₀ : ℕ) (o' : List ℕ) (r : Cursor) : Type 0 where
   pub tree : Tree
   pub more : More n a (drop c.at signs) tree (drop r.at signs)
-  pub laid : lay tree o₀ c₀ ≡ laidAs o' r
+  pub laid : lay tree o₀ c₀ ≡ laid_as o' r
 
 pub record Moved (signs : List ℕ) (n : ℕ) (c : Cursor) (o : List ℕ) (o' : List ℕ) (r : Cursor) : Type 0 where
-  pub from : (a : Tree) (o₀ : List ℕ) (c₀ : ℕ) → lay a o₀ c₀ ≡ laidAs o c → Onward signs n c a o₀ c₀ o' r
+  pub from : (a : Tree) (o₀ : List ℕ) (c₀ : ℕ) → lay a o₀ c₀ ≡ laid_as o c → Onward signs n c a o₀ c₀ o' r
   pub ahead : c.at ≤ r.at
   pub within : r.at ≤ length signs
 

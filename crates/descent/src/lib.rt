@@ -1,7 +1,7 @@
 // A reader of signs by levels: it lays three bytes for each occurrence, the operator after its operands: the sign, and the numbers of its operands.
 ghost use Rattle.std.specs.Prelude.{◌≡◌, ℕ, ◌+◌, ◌≤◌, ◌<◌, length, set};
 ghost use Rattle.meaning.specs.Grammar.{rightward};
-ghost use Rattle.descent.specs.Laying.{put, laidAs, Read, Moved, Skips};
+ghost use Rattle.descent.specs.Laying.{put, laid_as, Read, Moved, Skips};
 
 // How far the signs were read, how many occurrences were laid, and the number of the last tree's root.
 #[derive(Drop)]
@@ -22,7 +22,7 @@ fn store(out: &mut [u8], i: usize, v: u8)
 
 // Lays one occurrence; the 65th and later ones are dropped.
 fn emit(out: &mut [u8], at: usize, count: usize, x: u8, a: u8, b: u8) -> Cursor
-    ensures { (put out.old count x a b ≡ laidAs out.new result) × (result.at ≡ at) }
+    ensures { (put out.old count x a b ≡ laid_as out.new result) × (result.at ≡ at) }
 {
     if count < 64 {
         store(out, 3 * count, x);

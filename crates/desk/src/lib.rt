@@ -1,9 +1,9 @@
 // A lent row of watches: a fresh one is made, and posts and turns change one watch of it.
 ghost use Rattle.std.specs.Prelude.{◌≡◌, ◌&&◌, ◌≤◌, length, set};
-ghost use Rattle.meaning.specs.Runs.{countsFit, in_table};
-ghost use Rattle.meaning.specs.Desks.{freshIn};
-ghost use Rattle.desk_tasks.specs.Surveys.{servedIn};
-ghost use Rattle.desk.specs.Filling.{unfilled, fillingOf, filled};
+ghost use Rattle.meaning.specs.Runs.{counts_fit, in_table};
+ghost use Rattle.meaning.specs.Desks.{fresh_in};
+ghost use Rattle.desk_tasks.specs.Surveys.{served_in};
+ghost use Rattle.desk.specs.Filling.{unfilled, filling_of, filled};
 
 use desk_survey::survey;
 use desk_tasks::Request;
@@ -34,7 +34,7 @@ fn no_filling(why: Refusal) -> Filling
 
 // Whether the counts are those of a table of as many bytes, and its start shows one of the four verdicts.
 fn starts(t: &[u8], signals: u8, states: u16) -> bool
-    ensures { result ≡ (countsFit t.now signals states && in_table t.now signals states 0) }
+    ensures { result ≡ (counts_fit t.now signals states && in_table t.now signals states 0) }
 {
     if counts_fit(t, signals, states) {
         return in_table(t, signals, states, 0);
@@ -44,7 +44,7 @@ fn starts(t: &[u8], signals: u8, states: u16) -> bool
 
 // 14 and 18, or the whole row is filled.
 fn filling_of(t: &[u8], signals: u8, states: u16, opening: u16, length: usize) -> Filling
-    ensures { result ≡ fillingOf opening t.now signals states length }
+    ensures { result ≡ filling_of opening t.now signals states length }
 {
     if !starts(t, signals, states) {
         return no_filling(Refusal::WrongTable);
@@ -81,7 +81,7 @@ pub fn fresh<'d, 't>(
     states: u16,
     opening: u16,
 ) -> Served
-    ensures { (result ≡ (freshIn opening t.now signals states desk.old).answer) × (desk.new ≡ (freshIn opening t.now signals states desk.old).desk) }
+    ensures { (result ≡ (fresh_in opening t.now signals states desk.old).answer) × (desk.new ≡ (fresh_in opening t.now signals states desk.old).desk) }
 {
     let f = filling_of(t, signals, states, opening, desk.len());
     fill(desk, f.upto, f.watch);
@@ -107,7 +107,7 @@ pub fn serve<'d, 't>(
     states: u16,
     request: Request,
 ) -> Served
-    ensures { (result ≡ (servedIn t.now signals states request desk.old).answer) × (desk.new ≡ (servedIn t.now signals states request desk.old).desk) }
+    ensures { (result ≡ (served_in t.now signals states request desk.old).answer) × (desk.new ≡ (served_in t.now signals states request desk.old).desk) }
 {
     let r = survey(desk, t, signals, states, request);
     put(desk, r.number, r.watch);

@@ -16,10 +16,10 @@ use lib.Seq.{take-length}
 use Rattle.meaning.specs.Traces.{Alphabet, Word}
 use Rattle.meaning.specs.Verdicts.{Property, Judged}
 use Rattle.meaning.specs.Monitors.{Monitor, follow, shows}
-use Rattle.meaning.specs.RuleFiles.{alphabetOf, propertyOf}
-use Rattle.meaning.specs.TableFiles.{alphabetIn, signalsIn, monitorOf}
-use Rattle.meaning.specs.Runs.{decides, decidedFrom}
-use Rattle.meaning.specs.Desks.{firstStood, freshWatch, withoutOldest}
+use Rattle.meaning.specs.RuleFiles.{alphabet_of, property_of}
+use Rattle.meaning.specs.TableFiles.{alphabet_in, signals_in, monitor_of}
+use Rattle.meaning.specs.Runs.{decides, decided_from}
+use Rattle.meaning.specs.Desks.{first_stood, fresh_watch, without_oldest}
 use Rattle.meaning.specs.declared.Verdict.{Verdict}
 use Rattle.meaning.specs.declared.Verdict.TheVariants.{Undecided, Satisfied, Violated, Moot}
 use Rattle.meaning.specs.declared.Decided.{Decided}
@@ -45,13 +45,13 @@ noted-past true k r r' c n q = refl
 noted-past false k r r' c n q = q
 
 decided-one : (m : Monitor) (n s : ℕ) (es : List ℕ) (e k : ℕ) → k ≡ n + length es + 1
-    → decidedFrom m n s (es ++ (e ∷ [])) ≡ noted (decidedFrom m n s es) (decides (m.verdict (m.next (follow m s es) e))) k
-unfolding decidedFrom
+    → decided_from m n s (es ++ (e ∷ [])) ≡ noted (decided_from m n s es) (decides (m.verdict (m.next (follow m s es) e))) k
+unfolding decided_from
 decided-one m n s [] e k q =
     let p : suc n ≡ k = omega arith in
     noted-past (decides (m.verdict s)) n Never _ _ k (ap (λ (j : ℕ). cond (decides (m.verdict (m.next s e))) (After j) Never) p)
 decided-one m n s (x ∷ es) e k q =
-    noted-past (decides (m.verdict s)) n (decidedFrom m (suc n) (m.next s x) es) _ _ k (decided-one m (suc n) (m.next s x) es e k (omega arith))
+    noted-past (decides (m.verdict s)) n (decided_from m (suc n) (m.next s x) es) _ _ k (decided-one m (suc n) (m.next s x) es e k (omega arith))
 
 -- ---- a watch
 
@@ -59,10 +59,10 @@ module _ (m : Monitor) where
   pub record Heard (w : Watch) (es : List ℕ) : Type 0 where
     pub state : w.state ≡ follow m 0 es
     pub count : w.heard ≡ length es
-    pub first : firstStood w ≡ decidedFrom m 0 0 es
+    pub first : first_stood w ≡ decided_from m 0 0 es
 
-  pub heard-fresh : (n : ℕ) → Heard (freshWatch n (m.verdict 0)) []
-  unfolding decidedFrom
+  pub heard-fresh : (n : ℕ) → Heard (fresh_watch n (m.verdict 0)) []
+  unfolding decided_from
   heard-fresh n = record { state = refl; count = refl; first = go (decides (m.verdict 0)) }
     where
       go : (b : Bool) → cond (eqb (cond b 1 0) 0) Never (After 0) ≡ cond b (After 0) Never
@@ -70,7 +70,7 @@ module _ (m : Monitor) where
       go false = refl
 
   -- an event fills the number exactly if none stood, and the verdict is decided
-  first_one : (w : Watch) (s : ℕ) (v : Verdict) → firstStood (withoutOldest w s v) ≡ noted (firstStood w) (decides v) (w.heard + 1)
+  first_one : (w : Watch) (s : ℕ) (v : Verdict) → first_stood (without_oldest w s v) ≡ noted (first_stood w) (decides v) (w.heard + 1)
   first_one w s v = go (eqb w.filled 0) (decides v) refl
     where
       go : (a b : Bool) → eqb w.filled 0 ≡ a
@@ -80,7 +80,7 @@ module _ (m : Monitor) where
       go false b q = rw q
 
   -- the event e is heard
-  pub heard-one : (w : Watch) (es : List ℕ) (e : ℕ) → Heard w es → Heard (withoutOldest w (m.next w.state e) (m.verdict (m.next w.state e))) (es ++ (e ∷ []))
+  pub heard-one : (w : Watch) (es : List ℕ) (e : ℕ) → Heard w es → Heard (without_oldest w (m.next w.state e) (m.verdict (m.next w.state e))) (es ++ (e ∷ []))
   heard-one w es e h = record {
     state = ap (λ (s : ℕ). m.next s e) h.state ∙ sym (follow-append m 0 es (e ∷ []));
     count = omega (arith, h.count, length-append es (e ∷ []));
@@ -95,7 +95,7 @@ abbrev pub stood : Decided → Bool
 stood (After k) = true
 stood Never = false
 
-pub filled-stood : (w : Watch) → not (eqb w.filled 0) ≡ stood (firstStood w)
+pub filled-stood : (w : Watch) → not (eqb w.filled 0) ≡ stood (first_stood w)
 filled-stood w = go (eqb w.filled 0)
   where
     go : (b : Bool) → not b ≡ stood (cond b Never (After w.first))
@@ -107,18 +107,18 @@ word_cut Σ zero es a = (tt, a)
 word_cut Σ (suc k) [] a = (tt, tt)
 word_cut Σ (suc k) (e ∷ es) a = let h = word_cut Σ k es a.1 in ((a.0, h.0), h.1)
 
-module _ (file t : List ℕ) (b : BuiltRight file t) (es : List ℕ) (a : Word (alphabetOf b.rule) es) where
+module _ (file t : List ℕ) (b : BuiltRight file t) (es : List ℕ) (a : Word (alphabet_of b.rule) es) where
   abbrev Σ : Alphabet
-  Σ = alphabetOf b.rule
+  Σ = alphabet_of b.rule
 
   abbrev L : Property
-  L = propertyOf b.rule
+  L = property_of b.rule
 
   abbrev m : Monitor
-  m = monitorOf t
+  m = monitor_of t
 
   says : (w : List ℕ) → Word Σ w → (v : Verdict) → (shows m w ≡ v) ↔ Judged Σ L w v
-  says = b.demand-2.verdicts t b.built
+  says = b.demand_2.verdicts t b.built
 
   -- a decided verdict after the first k events is the one after all
   stays : (k : ℕ) (v : Verdict) → decides v ≡ true → shows m (take k es) ≡ v → true ≡ decides (shows m es)
@@ -135,14 +135,14 @@ module _ (file t : List ℕ) (b : BuiltRight file t) (es : List ℕ) (a : Word (
   stands k u Undecided q = absurd (u ((says (take k es) (word_cut Σ k es a).0 Undecided).0 q))
 
   -- the run's count is right
-  count-right : CountRight Σ L es (decidedFrom m 0 0 es)
+  count-right : CountRight Σ L es (decided_from m 0 0 es)
   count-right =
-      let form = b.demand-3.form in
-      let own = word_same Σ (alphabetIn t (signalsIn t)) b.demand-3.events es a in
+      let form = b.demand_3.form in
+      let own = word_same Σ (alphabet_in t (signals_in t)) b.demand_3.events es a in
       (subst (RunRight Σ L es) (word-run t form 0 es (states-some t (table-header t form)) own) (built-run file t b es a)).1
 
-  pub stood-while : stood (decidedFrom m 0 0 es) ≡ decides (shows m es)
-  stood-while = go (decidedFrom m 0 0 es) count-right
+  pub stood-while : stood (decided_from m 0 0 es) ≡ decides (shows m es)
+  stood-while = go (decided_from m 0 0 es) count-right
     where
       go : (d : Decided) → CountRight Σ L es d → stood d ≡ decides (shows m es)
       go (After k) r = stands k r.1 (shows m (take k es)) refl

@@ -3,10 +3,10 @@ use mathlib.Core.Path.{◌≡◌, refl}
 use mathlib.Core.List.{List, [], ◌∷◌}
 use Prim.Native.Nat.{ℕ}
 use lib.ListN.{replicate}
-use Rattle.meaning.specs.TableFiles.{isTable}
-use Rattle.meaning.specs.Runs.{decidedFrom}
+use Rattle.meaning.specs.TableFiles.{is_table}
+use Rattle.meaning.specs.Runs.{decided_from}
 use Rattle.meaning.specs.Openings.{state_of}
-use Rattle.meaning.specs.Desks.{Outcome, watchAt, postBy, post_of, turnBy, turn_of}
+use Rattle.meaning.specs.Desks.{Outcome, watch_at, post_by, post_of, turn_by, turn_of}
 use Rattle.meaning.specs.declared.Refusal.TheVariants.{WrongWatch, CountFull}
 use Rattle.meaning.specs.declared.Verdict.TheVariants.{Undecided}
 use Rattle.meaning.specs.declared.Served.TheVariants as Served
@@ -26,11 +26,11 @@ pub record Edge : Type 0 where
   pub post-last : (post_of (opening table) edge 1 1).answer ≡ Served.Refused (CountFull 1)
   -- a turn takes both watches, and hears the last event of the one that waits
   pub turn : (turn_of (opening table) edge 0).answer ≡ Served.Heard 1 0 (state_of 4660 0) Undecided
-  pub count : watchAt (turn_of (opening table) edge 0).desk 1 ≡ counting 4294967295 0
+  pub count : watch_at (turn_of (opening table) edge 0).desk 1 ≡ counting 4294967295 0
   -- one event more is 13, also where 32 bits would hold the sum wrapped
   pub past : (turn_of (opening table) (counting 4294967295 1 ∷ []) 0).answer ≡ Served.Refused (WrongWatch 0)
   pub far-past : (turn_of (opening table) (counting 4294967295 32 ∷ []) 0).answer ≡ Served.Refused (WrongWatch 0)
 
 pub at-the-edge : Edge
-unfolding isTable decidedFrom postBy post_of turnBy turn_of
+unfolding is_table decided_from post_by post_of turn_by turn_of
 at-the-edge = record { post-full = refl; post-last = refl; turn = refl; count = refl; past = refl; far-past = refl }

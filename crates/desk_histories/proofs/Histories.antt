@@ -16,11 +16,11 @@ use lib.Seq.{take-append_seam, get_or-set_same}
 use Rattle.meaning.specs.Traces.{Word}
 use Rattle.meaning.specs.Monitors.{follow, ShowsVerdicts}
 use Rattle.meaning.specs.Refusals.{code_of}
-use Rattle.meaning.specs.RuleFiles.{alphabetOf}
-use Rattle.meaning.specs.TableFiles.{isTable, monitorOf}
+use Rattle.meaning.specs.RuleFiles.{alphabet_of}
+use Rattle.meaning.specs.TableFiles.{is_table, monitor_of}
 use Rattle.meaning.specs.Runs.{decides, end_of}
 use Rattle.meaning.specs.Openings.{Opening, state_of, start_of, carried, run_from}
-use Rattle.meaning.specs.Desks.{Outcome, firstStood, freshWatch, noWatch, stands, watchAt, oldest, rowFits, last_of, fresh_of}
+use Rattle.meaning.specs.Desks.{Outcome, first_stood, fresh_watch, no_watch, stands, watch_at, oldest, row_fits, last_of, fresh_of}
 use Rattle.meaning.specs.Histories.{Action, Post, Turn, Standing, begun, reached, asked, accepted, heard, turns}
 use Rattle.meaning.specs.declared.Refusal.{Refusal}
 use Rattle.meaning.specs.declared.Verdict.{Verdict}
@@ -39,16 +39,16 @@ use Rattle.desk_histories.proofs.Answers.{Σ, S, Fine, next, later, Added, Denie
 use Rattle.desk_histories.proofs.Moves.{Moved, good-all, moved_all}
 use Rattle.desk_histories.proofs.Turns.{Within, soon}
 
-module _ (o : Opening) (form : isTable o.table ≡ true) (n l : ℕ) (some : 1 ≤ n) (few : n ≤ 64) where
+module _ (o : Opening) (form : is_table o.table ≡ true) (n l : ℕ) (some : 1 ≤ n) (few : n ≤ 64) where
   first : 1 ≤ S o
   first = states-some o.table (table-header o.table form)
 
   -- a watch of a fresh desk
   abbrev fresh : Watch
-  fresh = freshWatch o.number ((monitorOf o.table).verdict 0)
+  fresh = fresh_watch o.number ((monitor_of o.table).verdict 0)
 
   fresh-good : Fine o n (begun o n l).desk
-  fresh-good = good-fresh o.number (Σ o) (S o) ((monitorOf o.table).verdict 0) n first
+  fresh-good = good-fresh o.number (Σ o) (S o) ((monitor_of o.table).verdict 0) n first
 
   good : (h : List Action) → Fine o n (reached o (begun o n l) h).desk
   good h = good-all o form n some few (begun o n l) fresh-good h
@@ -57,25 +57,25 @@ module _ (o : Opening) (form : isTable o.table ≡ true) (n l : ℕ) (some : 1 �
 
   module _ (h : List Action) (i : ℕ) (inside : i < n) where
     abbrev now : Watch
-    now = watchAt (reached o (begun o n l) h).desk i
+    now = watch_at (reached o (begun o n l) h).desk i
 
     moved : Moved o fresh now (accepted o (begun o n l) i h) (heard o (begun o n l) i h)
     moved =
-        subst (λ (w : Watch). Moved o w now (accepted o (begun o n l) i h) (heard o (begun o n l) i h)) (get_or-replicate n i fresh noWatch inside)
+        subst (λ (w : Watch). Moved o w now (accepted o (begun o n l) i h) (heard o (begun o n l) i h)) (get_or-replicate n i fresh no_watch inside)
         (moved_all o form n some few i inside (begun o n l) fresh-good h)
 
-    remembered : Heard (monitorOf o.table) now (heard o (begun o n l) i h)
-    remembered = moved.heard [] (heard-fresh (monitorOf o.table) o.number)
+    remembered : Heard (monitor_of o.table) now (heard o (begun o n l) i h)
+    remembered = moved.heard [] (heard-fresh (monitor_of o.table) o.number)
 
     -- what was heard are the first of the events that were accepted
     heard-first : take (length (heard o (begun o n l) i h)) (accepted o (begun o n l) i h) ≡ heard o (begun o n l) i h
     heard-first = ap (take (length (heard o (begun o n l) i h))) moved.kept ∙ take-append_seam (heard o (begun o n l) i h) _
 
-    run_ends : run_from o (start_of o) (heard o (begun o n l) i h) ≡ carried o.number (end_of (monitorOf o.table) 0 (heard o (begun o n l) i h))
+    run_ends : run_from o (start_of o) (heard o (begun o n l) i h) ≡ carried o.number (end_of (monitor_of o.table) 0 (heard o (begun o n l) i h))
     run_ends = own-run o form 0 (heard o (begun o n l) i h) ∙ ap (carried o.number) (word-run o.table form 0 (heard o (begun o n l) i h) first moved.word)
 
     -- the watch carries the opening's number, and stands where the run ends
-    here-stands : state_of o.number (follow (monitorOf o.table) 0 (heard o (begun o n l) i h)) ≡ stands now
+    here-stands : state_of o.number (follow (monitor_of o.table) 0 (heard o (begun o n l) i h)) ≡ stands now
     here-stands =
         ap (state_of o.number) (sym remembered.state) ∙ ap (λ (k : ℕ). state_of k now.state) (sym ((good h).fits i inside).own)
 
@@ -90,13 +90,13 @@ module _ (o : Opening) (form : isTable o.table ≡ true) (n l : ℕ) (some : 1 �
     kept = (moved h i inside).kept;
     state =
         subst (λ (r : Arrived). EndsIn r (stands (now h i inside))) (sym (ap (run_from o (start_of o)) (heard-first h i inside) ∙ run_ends h i inside)) (here-stands h i inside);
-    in-time = λ g w m. soon o form n some few i inside (reached o (begun o n l) h) (good h) w g (round h i inside (reached o (begun o n l) h) (turns g) m);
+    in_time = λ g w m. soon o form n some few i inside (reached o (begun o n l) h) (good h) w g (round h i inside (reached o (begun o n l) h) (turns g) m);
   }
 
   pub when-right : (h : List Action) (i : ℕ) → i < n → WhenRight o n l h i
   when-right h i inside = record {
     count = omega (arith, (remembered h i inside).count);
-    first = subst (λ (r : Arrived). CountIs r (firstStood (now h i inside))) (sym (run_ends h i inside)) (sym (remembered h i inside).first);
+    first = subst (λ (r : Arrived). CountIs r (first_stood (now h i inside))) (sym (run_ends h i inside)) (sym (remembered h i inside).first);
   }
 
   -- ---- the next action
@@ -123,29 +123,29 @@ module _ (o : Opening) (form : isTable o.table ≡ true) (n l : ℕ) (some : 1 �
             subst (λ (u : Refusal). ((code_of u).0 ≡ 19) ⊎ ((code_of u).0 ≡ 12) ⊎ ((code_of u).0 ≡ 20) ⊎ ((code_of u).0 ≡ 21)) y p.number
 
     turn-heard : (i e : ℕ) (s : State) (v : Verdict) → (asked o at Turn).answer ≡ Served.Heard i e s v
-        → (i < n) × (e ≡ oldest (watchAt at.desk i)) × (s ≡ stands (watchAt (asked o at Turn).desk i)) × (v ≡ (monitorOf o.table).verdict s.number)
+        → (i < n) × (e ≡ oldest (watch_at at.desk i)) × (s ≡ stands (watch_at (asked o at Turn).desk i)) × (v ≡ (monitor_of o.table).verdict s.number)
     turn-heard i e s v q = go (turned o form n some few at.desk (good h) at.last)
       where
         go : Hearing o n at.desk at.last ⊎ Silent o n at.desk at.last
-            → (i < n) × (e ≡ oldest (watchAt at.desk i)) × (s ≡ stands (watchAt (asked o at Turn).desk i)) × (v ≡ (monitorOf o.table).verdict s.number)
+            → (i < n) × (e ≡ oldest (watch_at at.desk i)) × (s ≡ stands (watch_at (asked o at Turn).desk i)) × (v ≡ (monitor_of o.table).verdict s.number)
         go (inr p) = let r = sym (ap (λ (y : Outcome). y.answer) p.is) ∙ q in let z : ◌≡◌ {A = ℕ} 0 1 = cc in absurd (omega arith)
         go (inl p) =
             let j : ℕ = p.number in
-            let w : Watch = watchAt at.desk j in
+            let w : Watch = watch_at at.desk j in
             let r = sym (ap (λ (y : Outcome). y.answer) p.is) ∙ q in
             let number : j ≡ i = cc in
             let event : oldest w ≡ e = cc in
             let to : state_of o.number (next o w) ≡ s = cc in
-            let says : (monitorOf o.table).verdict (next o w) ≡ v = cc in
+            let says : (monitor_of o.table).verdict (next o w) ≡ v = cc in
             let here : j < length at.desk = omega (arith, p.inside, (good h).size) in
-            let now : watchAt (asked o at Turn).desk j ≡ later o w =
-            ap (λ (y : Outcome). watchAt y.desk j) p.is ∙ get_or-set_same at.desk j (later o w) noWatch here in
-            let there : stands (watchAt (asked o at Turn).desk j) ≡ state_of o.number (next o w) =
+            let now : watch_at (asked o at Turn).desk j ≡ later o w =
+            ap (λ (y : Outcome). watch_at y.desk j) p.is ∙ get_or-set_same at.desk j (later o w) no_watch here in
+            let there : stands (watch_at (asked o at Turn).desk j) ≡ state_of o.number (next o w) =
             ap stands now ∙ ap (λ (k : ℕ). state_of k (next o w)) ((good h).fits j p.inside).own in (
               omega (arith, p.inside, number),
-              sym event ∙ ap (λ (k : ℕ). oldest (watchAt at.desk k)) number,
-              sym to ∙ sym there ∙ ap (λ (k : ℕ). stands (watchAt (asked o at Turn).desk k)) number,
-              sym says ∙ ap (λ (q : State). (monitorOf o.table).verdict q.number) to,
+              sym event ∙ ap (λ (k : ℕ). oldest (watch_at at.desk k)) number,
+              sym to ∙ sym there ∙ ap (λ (k : ℕ). stands (watch_at (asked o at Turn).desk k)) number,
+              sym says ∙ ap (λ (q : State). (monitor_of o.table).verdict q.number) to,
             )
 
   pub next-right : (h : List Action) → NextRight o n l h
@@ -158,26 +158,26 @@ module _ (file : List ℕ) (o : Opening) (b : BuiltRight file o.table) (n l : �
   abbrev all : List ℕ
   all = heard o (begun o n l) i h
 
-  all-word : Word (alphabetOf b.rule) all
-  all-word = word_same (Σ o) (alphabetOf b.rule) (λ e. sym (b.demand-3.events e)) all (moved o b.demand-3.form n l some few h i inside).word
+  all-word : Word (alphabet_of b.rule) all
+  all-word = word_same (Σ o) (alphabet_of b.rule) (λ e. sym (b.demand_3.events e)) all (moved o b.demand_3.form n l some few h i inside).word
 
-  all-heard : Heard (monitorOf o.table) (watchAt (reached o (begun o n l) h).desk i) all
-  all-heard = remembered o b.demand-3.form n l some few h i inside
+  all-heard : Heard (monitor_of o.table) (watch_at (reached o (begun o n l) h).desk i) all
+  all-heard = remembered o b.demand_3.form n l some few h i inside
 
   pub verdict-right : VerdictRight b.rule o n l h i
   unfolding ShowsVerdicts
-  verdict-right = rw all-heard.state (b.demand-3.verdicts all all-word)
+  verdict-right = rw all-heard.state (b.demand_3.verdicts all all-word)
 
   pub filled-right : FilledRight o n l h i
   filled-right =
-      filled-stood (watchAt (reached o (begun o n l) h).desk i)
+      filled-stood (watch_at (reached o (begun o n l) h).desk i)
       ∙ ap stood all-heard.first
       ∙ stood-while file o.table b all all-word
-      ∙ ap (λ (s : ℕ). decides ((monitorOf o.table).verdict s)) (sym all-heard.state)
+      ∙ ap (λ (s : ℕ). decides ((monitor_of o.table).verdict s)) (sym all-heard.state)
 
 -- ---- the beginning
 
-pub begun_fresh : (o : Opening) → isTable o.table ≡ true → (d : List Watch) → rowFits d ≡ true → (l : ℕ)
+pub begun_fresh : (o : Opening) → is_table o.table ≡ true → (d : List Watch) → row_fits d ≡ true → (l : ℕ)
     → fresh_of o d ≡ record { answer = Served.Done; desk = (begun o (length d) l).desk }
 unfolding fresh_of
 begun_fresh o form d fits l = rw (form, fits)

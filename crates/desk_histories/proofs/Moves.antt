@@ -17,9 +17,9 @@ use lib.ListN.{length, set, length-append}
 use lib.Seq.{length-take-le, get_or-set_same, get_or-set_other}
 use Rattle.meaning.specs.Traces.{Word}
 use Rattle.meaning.specs.Monitors.{Monitor}
-use Rattle.meaning.specs.TableFiles.{isTable, monitorOf}
+use Rattle.meaning.specs.TableFiles.{is_table, monitor_of}
 use Rattle.meaning.specs.Openings.{Opening}
-use Rattle.meaning.specs.Desks.{Outcome, queue, noWatch, watchAt, withEvent, oldest}
+use Rattle.meaning.specs.Desks.{Outcome, queue, no_watch, watch_at, with_event, oldest}
 use Rattle.meaning.specs.Histories.{Action, Post, Turn, Standing, asked, onward, reached, takes, hears, accepted, heard}
 use Rattle.meaning.specs.declared.Watch.{Watch}
 use Rattle.table_layout.proofs.Form.{table-inside}
@@ -31,7 +31,7 @@ use Rattle.desk_histories.proofs.Answers.{Σ, S, Fine, Added, Denied, Hearing, S
 
 module _ (o : Opening) where
   abbrev m : Monitor
-  m = monitorOf o.table
+  m = monitor_of o.table
 
   -- from w to w' the events ins were accepted, and outs heard, after any that w had heard
   pub record Moved (w w' : Watch) (ins outs : List ℕ) : Type 0 where
@@ -68,22 +68,22 @@ module _ (o : Opening) where
   still-waits w w' ins [] f f' a h = inr (omega (arith, queue-length w f, queue-length w' f', length-append (queue w) ins, ap length a.kept))
   still-waits w w' ins (x ∷ outs) f f' a h = inl (omega arith)
 
-  module _ (form : isTable o.table ≡ true) (n : ℕ) (some : 1 ≤ n) (few : n ≤ 64) where
+  module _ (form : is_table o.table ≡ true) (n : ℕ) (some : 1 ≤ n) (few : n ≤ 64) where
     -- ---- one action
 
     module _ (d : List Watch) (g : Fine o n d) where
-      good_more : (j e : ℕ) → Added o n d j e → Fine o n (set d j (withEvent (watchAt d j) e))
-      good_more j e h = good-set o.number (Σ o) (S o) n d g j (withEvent (watchAt d j) e) h.inside (fits_more o.number (Σ o) (S o) (watchAt d j) (g.fits j h.inside) e h.room h.event h.counts)
+      good_more : (j e : ℕ) → Added o n d j e → Fine o n (set d j (with_event (watch_at d j) e))
+      good_more j e h = good-set o.number (Σ o) (S o) n d g j (with_event (watch_at d j) e) h.inside (fits_more o.number (Σ o) (S o) (watch_at d j) (g.fits j h.inside) e h.room h.event h.counts)
 
       pub heard-in : (l : ℕ) (h : Hearing o n d l) → h.number < n
       heard-in l h = subst (λ (k : ℕ). k < n) (sym h.there) (after-in n some l h.passes)
 
-      good-less : (l : ℕ) (h : Hearing o n d l) → Fine o n (set d h.number (later o (watchAt d h.number)))
+      good-less : (l : ℕ) (h : Hearing o n d l) → Fine o n (set d h.number (later o (watch_at d h.number)))
       good-less l h =
           let f = g.fits h.number (heard-in l h) in
           good-set o.number (Σ o) (S o) n d g h.number _ (heard-in l h)
-          (fits-less o.number (Σ o) (S o) (watchAt d h.number) f h.waits (next o (watchAt d h.number)) (shown o (watchAt d h.number))
-          (table-inside o.table form _ _ f.inside (oldest-event o.number (Σ o) (S o) (watchAt d h.number) f h.waits)))
+          (fits-less o.number (Σ o) (S o) (watch_at d h.number) f h.waits (next o (watch_at d h.number)) (shown o (watch_at d h.number))
+          (table-inside o.table form _ _ f.inside (oldest-event o.number (Σ o) (S o) (watch_at d h.number) f h.waits)))
 
     pub good-by : (c : Standing) → Fine o n c.desk → (a : Action) → Fine o n (asked o c a).desk
     good-by c g (Post j e) = go (posted o form n some few c.desk g j e)
@@ -102,58 +102,58 @@ module _ (o : Opening) where
     module _ (i : ℕ) (inside : i < n) where
       module _ (d : List Watch) (g : Fine o n d) where
         abbrev more : ℕ → ℕ → Watch
-        more j e = withEvent (watchAt d j) e
+        more j e = with_event (watch_at d j) e
 
         abbrev less : ℕ → Watch
-        less j = later o (watchAt d j)
+        less j = later o (watch_at d j)
 
-        moved_more : (j e : ℕ) → Added o n d j e → Moved (watchAt d i) (watchAt (set d j (more j e)) i) (cond (eqb i j) (e ∷ []) []) []
+        moved_more : (j e : ℕ) → Added o n d j e → Moved (watch_at d i) (watch_at (set d j (more j e)) i) (cond (eqb i j) (e ∷ []) []) []
         moved_more j e h = go (ℕ_discrete i j)
           where
-            here : Moved (watchAt d j) (more j e) (e ∷ []) []
+            here : Moved (watch_at d j) (more j e) (e ∷ []) []
             here = record {
-              kept = sym (queue-more o.number (Σ o) (S o) (watchAt d j) (g.fits j h.inside) e h.room);
+              kept = sym (queue-more o.number (Σ o) (S o) (watch_at d j) (g.fits j h.inside) e h.room);
               heard = heard-none (λ es p. record { state = p.state; count = p.count; first = p.first });
               word = tt;
             }
 
-            go : Dec (i ≡ j) → Moved (watchAt d i) (watchAt (set d j (more j e)) i) (cond (eqb i j) (e ∷ []) []) []
-            go (yes q) = rw (eq-eqb i j q, q, get_or-set_same d j (more j e) noWatch (omega (arith, h.inside, g.size))) here
-            go (no q) = rw (ne_eqb i j q, get_or-set_other d j i (more j e) noWatch q) (moved_none (watchAt d i))
+            go : Dec (i ≡ j) → Moved (watch_at d i) (watch_at (set d j (more j e)) i) (cond (eqb i j) (e ∷ []) []) []
+            go (yes q) = rw (eq-eqb i j q, q, get_or-set_same d j (more j e) no_watch (omega (arith, h.inside, g.size))) here
+            go (no q) = rw (ne_eqb i j q, get_or-set_other d j i (more j e) no_watch q) (moved_none (watch_at d i))
 
-        moved-less : (j : ℕ) → j < n → 1 ≤ (watchAt d j).waiting → Moved (watchAt d i) (watchAt (set d j (less j)) i) [] (cond (eqb i j) (oldest (watchAt d j) ∷ []) [])
+        moved-less : (j : ℕ) → j < n → 1 ≤ (watch_at d j).waiting → Moved (watch_at d i) (watch_at (set d j (less j)) i) [] (cond (eqb i j) (oldest (watch_at d j) ∷ []) [])
         moved-less j l h = go (ℕ_discrete i j)
           where
-            here : Moved (watchAt d j) (less j) [] (oldest (watchAt d j) ∷ [])
+            here : Moved (watch_at d j) (less j) [] (oldest (watch_at d j) ∷ [])
             here = record {
-              kept = append-nil (queue (watchAt d j)) ∙ queue-less o.number (Σ o) (S o) (watchAt d j) (g.fits j l) h (next o (watchAt d j)) (shown o (watchAt d j));
-              heard = λ es p. heard-one m (watchAt d j) es (oldest (watchAt d j)) p;
-              word = (oldest-event o.number (Σ o) (S o) (watchAt d j) (g.fits j l) h, tt);
+              kept = append-nil (queue (watch_at d j)) ∙ queue-less o.number (Σ o) (S o) (watch_at d j) (g.fits j l) h (next o (watch_at d j)) (shown o (watch_at d j));
+              heard = λ es p. heard-one m (watch_at d j) es (oldest (watch_at d j)) p;
+              word = (oldest-event o.number (Σ o) (S o) (watch_at d j) (g.fits j l) h, tt);
             }
 
-            go : Dec (i ≡ j) → Moved (watchAt d i) (watchAt (set d j (less j)) i) [] (cond (eqb i j) (oldest (watchAt d j) ∷ []) [])
-            go (yes q) = rw (eq-eqb i j q, q, get_or-set_same d j (less j) noWatch (omega (arith, g.size))) here
-            go (no q) = rw (ne_eqb i j q, get_or-set_other d j i (less j) noWatch q) (moved_none (watchAt d i))
+            go : Dec (i ≡ j) → Moved (watch_at d i) (watch_at (set d j (less j)) i) [] (cond (eqb i j) (oldest (watch_at d j) ∷ []) [])
+            go (yes q) = rw (eq-eqb i j q, q, get_or-set_same d j (less j) no_watch (omega (arith, g.size))) here
+            go (no q) = rw (ne_eqb i j q, get_or-set_other d j i (less j) no_watch q) (moved_none (watch_at d i))
 
       abbrev By : Standing → Action → Outcome → Type 0
-      By c a y = Moved (watchAt c.desk i) (watchAt y.desk i) (takes i a y.answer) (hears i y.answer)
+      By c a y = Moved (watch_at c.desk i) (watch_at y.desk i) (takes i a y.answer) (hears i y.answer)
 
       pub moved_by : (c : Standing) → Fine o n c.desk → (a : Action) → By c a (asked o c a)
       moved_by c g (Post j e) = go (posted o form n some few c.desk g j e)
         where
           go : Added o n c.desk j e ⊎ Denied o n c.desk j e → By c (Post j e) (asked o c (Post j e))
           go (inl h) = subst (By c (Post j e)) (sym h.is) (moved_more c.desk g j e h)
-          go (inr h) = subst (By c (Post j e)) (sym h.is) (moved_none (watchAt c.desk i))
+          go (inr h) = subst (By c (Post j e)) (sym h.is) (moved_none (watch_at c.desk i))
       moved_by c g Turn = go (turned o form n some few c.desk g c.last)
         where
           go : Hearing o n c.desk c.last ⊎ Silent o n c.desk c.last → By c Turn (asked o c Turn)
           go (inl h) = subst (By c Turn) (sym h.is) (moved-less c.desk g h.number (heard-in c.desk g c.last h) h.waits)
-          go (inr h) = subst (By c Turn) (sym h.is) (moved_none (watchAt c.desk i))
+          go (inr h) = subst (By c Turn) (sym h.is) (moved_none (watch_at c.desk i))
 
       -- ---- lists of actions
 
-      pub moved_all : (c : Standing) → Fine o n c.desk → (h : List Action) → Moved (watchAt c.desk i) (watchAt (reached o c h).desk i) (accepted o c i h) (heard o c i h)
-      moved_all c g [] = moved_none (watchAt c.desk i)
+      pub moved_all : (c : Standing) → Fine o n c.desk → (h : List Action) → Moved (watch_at c.desk i) (watch_at (reached o c h).desk i) (accepted o c i h) (heard o c i h)
+      moved_all c g [] = moved_none (watch_at c.desk i)
       moved_all c g (a ∷ rest) = moved_then (moved_by c g a) (moved_all (onward o c a) (good-by c g a) rest)
 
     pub good-all : (c : Standing) → Fine o n c.desk → (h : List Action) → Fine o n (reached o c h).desk

@@ -8,10 +8,10 @@ use Prim.Native.Nat.{ℕ, ◌≤◌}
 use native.Mathlib.Omega.{arith}
 use lib.ListN.{length, replicate}
 use Rattle.sequences.specs.Tabulate.{up_to}
-use Rattle.meaning.specs.TableFiles.{isTable, monitorOf}
-use Rattle.meaning.specs.Runs.{decidedFrom}
+use Rattle.meaning.specs.TableFiles.{is_table, monitor_of}
+use Rattle.meaning.specs.Runs.{decided_from}
 use Rattle.meaning.specs.Openings.{Opening}
-use Rattle.meaning.specs.Desks.{watchAt, postBy, post_of, turnBy, turn_of}
+use Rattle.meaning.specs.Desks.{watch_at, post_by, post_of, turn_by, turn_of}
 use Rattle.meaning.specs.Histories.{Action, Post, Turn, Standing, begun, reached, heard, turns}
 use Rattle.meaning.specs.declared.Verdict.TheVariants.{Undecided}
 use Rattle.meaning.specs.declared.Watch.{Watch}
@@ -31,22 +31,22 @@ posted n = reached (opening table) (begun (opening table) n 0) (map (λ i. Post 
 
 -- and within k turns the first is not heard
 pub record Unheard (n k : ℕ) : Type 0 where
-  pub form : isTable table ≡ true
-  pub waits : (watchAt (posted n).desk 0).waiting ≡ 1
+  pub form : is_table table ≡ true
+  pub waits : (watch_at (posted n).desk 0).waiting ≡ 1
   pub many : turns (replicate k Turn) ≡ k
   pub none : heard (opening table) (posted n) 0 (replicate k Turn) ≡ []
 
 pub three : Unheard 3 2
-unfolding isTable decidedFrom postBy post_of turnBy turn_of
+unfolding is_table decided_from post_by post_of turn_by turn_of
 three = record { form = refl; waits = refl; many = refl; none = refl }
 
 pub sixty-four : Unheard 64 63
-unfolding isTable decidedFrom postBy post_of turnBy turn_of
+unfolding is_table decided_from post_by post_of turn_by turn_of
 sixty-four = record { form = refl; waits = refl; many = refl; none = refl }
 
--- so what `in-time` says of n turns is false of k
+-- so what `in_time` says of n turns is false of k
 pub no-sooner : (n k : ℕ) → Unheard n k
-    → ¬ ((g : List Action) → 1 ≤ (watchAt (posted n).desk 0).waiting → k ≤ turns g → 1 ≤ length (heard (opening table) (posted n) 0 g))
+    → ¬ ((g : List Action) → 1 ≤ (watch_at (posted n).desk 0).waiting → k ≤ turns g → 1 ≤ length (heard (opening table) (posted n) 0 g))
 no-sooner n k u f = omega (arith, ap length u.none, f (replicate k Turn) (omega (arith, u.waits)) (omega (arith, u.many)))
 
 -- ---- a verdict that passes
@@ -57,17 +57,17 @@ passing = 5 ∷ 0 ∷ 0 ∷ 2 ∷ 1 ∷ 2 ∷ 0 ∷ 7 ∷ 0 ∷ 1 ∷ 2 ∷ 2 �
 
 -- the watch of a tunnel that has heard one event
 abbrev pub heard-once : Watch
-heard-once = watchAt (reached (opening passing) (begun (opening passing) 1 0) (Post 0 1 ∷ Turn ∷ [])).desk 0
+heard-once = watch_at (reached (opening passing) (begun (opening passing) 1 0) (Post 0 1 ∷ Turn ∷ [])).desk 0
 
 pub record Passed : Type 0 where
-  pub form : isTable passing ≡ true
+  pub form : is_table passing ≡ true
   pub filled : heard-once.filled ≡ 1
-  pub shown : (monitorOf passing).verdict heard-once.state ≡ Undecided
+  pub shown : (monitor_of passing).verdict heard-once.state ≡ Undecided
 
 pub verdict-passed : Passed
-unfolding isTable decidedFrom postBy post_of turnBy turn_of
+unfolding is_table decided_from post_by post_of turn_by turn_of
 verdict-passed = record { form = refl; filled = refl; shown = refl }
 
 pub built-needed : ¬ FilledWhile (opening passing) heard-once
-unfolding isTable decidedFrom postBy post_of turnBy turn_of
+unfolding is_table decided_from post_by post_of turn_by turn_of
 built-needed q = true≢false q

@@ -1,7 +1,7 @@
 // One pass over a lent row of watches, which is only read: what a request over it comes to.
 ghost use Rattle.std.specs.Prelude.{◌≡◌, ◌≤◌, length};
-ghost use Rattle.meaning.specs.Desks.{watchAt};
-ghost use Rattle.desk_tasks.specs.Tasks.{passOver};
+ghost use Rattle.meaning.specs.Desks.{watch_at};
+ghost use Rattle.desk_tasks.specs.Tasks.{pass_over};
 ghost use Rattle.desk_tasks.specs.Surveys.{Surveyed};
 
 use desk_tasks::{Request, Service, Task, begin, decide, look, wanted};
@@ -11,7 +11,7 @@ use watches::no_watch;
 // The task after a pass over the watches below its `upto`, from the last to the first.
 pub fn scan(desk: &[Watch], task: Task) -> Task
     requires { task.upto ≤ length desk.now }
-    ensures { result ≡ passOver desk.now task.upto task }
+    ensures { result ≡ pass_over desk.now task.upto task }
 {
     let mut s = task;
     let mut i = task.upto;
@@ -24,7 +24,7 @@ pub fn scan(desk: &[Watch], task: Task) -> Task
 
 // The watch with a number, past the row as well.
 pub fn watch_at(desk: &[Watch], number: usize) -> Watch
-    ensures { result ≡ watchAt desk.now number }
+    ensures { result ≡ watch_at desk.now number }
 {
     if number < desk.len() {
         return desk[number];

@@ -8,7 +8,7 @@ use native.Mathlib.Omega.{arith}
 use native.Mathlib.Decide.{dec_lt}
 use borrow.Author.Tests.{lt-ltb, le-ltb}
 use lib.Dec.{ltb}
-use Rattle.sequences.specs.Tabulate.{leastBelow}
+use Rattle.sequences.specs.Tabulate.{least_below}
 use Rattle.sequences.proofs.Loops.{least-is}
 use Rattle.sequences.proofs.Pigeonhole.{Least, least-below}
 use Rattle.meaning.specs.Desks.{last_of, after}
@@ -79,13 +79,13 @@ module _ (n l : ℕ) (w : ℕ → Bool) (some : 1 ≤ n) where
   -- ---- the three cases
 
   abbrev F : ℕ
-  F = leastBelow n later
+  F = least_below n later
 
   abbrev G : ℕ
-  G = leastBelow n w
+  G = least_below n w
 
   abbrev K : ℕ
-  K = leastBelow n turned
+  K = least_below n turned
 
   abbrev found : ℕ
   found = cond (ltb K n) (after n l K) n

@@ -12,39 +12,39 @@ use borrow.Author.Tests.{lt-ltb, le-ltb, le-leb, lt-leb, leb-true, ltb-false}
 use lib.Dec.{ltb, leb, eqb}
 use lib.ListN.{length, set}
 use lib.Seq.{set_out}
-use Rattle.sequences.specs.Tabulate.{every, all_below, leastBelow}
+use Rattle.sequences.specs.Tabulate.{every, all_below, least_below}
 use Rattle.sequences.proofs.Pointwise.{least-same}
 use Rattle.sequences.proofs.Pigeonhole.{Least, least-below}
 use Rattle.sequences.proofs.Tests.{holds}
 use Rattle.meaning.specs.Bytes.{bit}
-use Rattle.meaning.specs.Traces.{Alphabet, isEvent}
-use Rattle.meaning.specs.TableFiles.{alphabetIn, monitorIn}
+use Rattle.meaning.specs.Traces.{Alphabet, is_event}
+use Rattle.meaning.specs.TableFiles.{alphabet_in, monitor_in}
 use Rattle.meaning.specs.RuleFiles.{first_of}
-use Rattle.meaning.specs.Runs.{end_of, countsFit, onTable, tested, ranIn}
-use Rattle.meaning.specs.Desks.{Outcome, refused, rowFits, watchFits, queue, counted, firstWrong, firstForeign, deskChecks, watchAt, oldest, withEvent, after, passed, heardBy, postBy, turnBy, postIn, turnIn}
+use Rattle.meaning.specs.Runs.{end_of, counts_fit, on_table, tested, ran_in}
+use Rattle.meaning.specs.Desks.{Outcome, refused, row_fits, watch_fits, queue, counted, first_wrong, first_foreign, desk_checks, watch_at, oldest, with_event, after, passed, heard_by, post_by, turn_by, post_in, turn_in}
 use Rattle.meaning.specs.declared.Refusal.{Refusal}
 use Rattle.meaning.specs.declared.Refusal.TheVariants.{WrongEvent, WrongState, WrongWatch, WrongTable, WrongDesk, WrongNumber, QueueFull, CountFull, WrongOpening}
 use Rattle.meaning.specs.declared.Ran.{Ran}
 use Rattle.meaning.specs.declared.Ran.TheVariants as Ran
 use Rattle.meaning.specs.declared.Watch.{Watch}
 use Rattle.meaning.specs.declared.Served.TheVariants as Served
-use Rattle.event_lists.specs.Masks.{allIn}
+use Rattle.event_lists.specs.Masks.{all_in}
 use Rattle.table_layout.specs.Masks.{MaskIn}
 use Rattle.table_layout.proofs.Form.{counts-few}
-use Rattle.watches.specs.Fitting.{fitsIn}
+use Rattle.watches.specs.Fitting.{fits_in}
 use Rattle.desk_tasks.specs.declared.Request.{Request}
 use Rattle.desk_tasks.specs.declared.Request.TheVariants.{Post, Turn}
 use Rattle.desk_tasks.specs.declared.Task.{Task}
 use Rattle.desk_tasks.specs.declared.Service.{Service}
 use Rattle.desk_tasks.specs.declared.Check.TheVariants as Check
-use Rattle.desk_tasks.specs.Tasks.{Begun, lastIn, openingIn, passOver, next_of, wantedBy, wantedOf, rowChecks, refusing, postChecks, addition, postDecided, hearDecided, heardFrom, turnDecided, requestDecided, checkDecided, decidedOf}
-use Rattle.desk_tasks.specs.Surveys.{servedIn, Surveyed}
-use Rattle.desk_tasks.proofs.Laws.{byTests, wayHere, heardHere, few-first}
+use Rattle.desk_tasks.specs.Tasks.{Begun, last_in, opening_in, pass_over, next_of, wanted_by, wanted_of, row_checks, refusing, post_checks, addition, post_decided, hear_decided, heard_from, turn_decided, request_decided, check_decided, decided_of}
+use Rattle.desk_tasks.specs.Surveys.{served_in, Surveyed}
+use Rattle.desk_tasks.proofs.Laws.{by_tests, way_here, heard_here, few-first}
 use Rattle.desk_tasks.proofs.Passes.{Kept, lowest, lowest-least, pass_kept, pass-foreign, pass-wrong, pass-waits, pass-later}
 use Rattle.desk_tasks.proofs.Nexts.{next-is}
 
 pub begun-upto : {t : List ℕ} {P S n : ℕ} {r : Request} {s : Task} → Begun t P S r n s → s.upto ≤ n
-begun-upto {t} {P} {S} {n} {s = s} h = go (countsFit t P S && (leb 1 n && leb n 64)) h.upto
+begun-upto {t} {P} {S} {n} {s = s} h = go (counts_fit t P S && (leb 1 n && leb n 64)) h.upto
   where
     go : (b : Bool) → s.upto ≡ cond b n 0 → s.upto ≤ n
     go true e = omega arith
@@ -73,32 +73,32 @@ module _ (d : List Watch) (s : Task) (w : Watch) (len : s.length ≡ length d) w
       go true h = applied-refused c.1
       go false h = h
 
-  checked-first : (t : List ℕ) (cs : List (Bool × Refusal)) → checkDecided t s w (first_of Check.Refused cs Check.Passed) ≡ first_of (refusing s w) cs (requestDecided t s w s.request)
+  checked-first : (t : List ℕ) (cs : List (Bool × Refusal)) → check_decided t s w (first_of Check.Refused cs Check.Passed) ≡ first_of (refusing s w) cs (request_decided t s w s.request)
   checked-first t [] = refl
   checked-first t (c ∷ cs) = go c.0 (checked-first t cs)
     where
-      go : (b : Bool) → checkDecided t s w (first_of Check.Refused cs Check.Passed) ≡ first_of (refusing s w) cs (requestDecided t s w s.request)
-          → checkDecided t s w (cond b (Check.Refused c.1) (first_of Check.Refused cs Check.Passed))
-          ≡ cond b (refusing s w c.1) (first_of (refusing s w) cs (requestDecided t s w s.request))
+      go : (b : Bool) → check_decided t s w (first_of Check.Refused cs Check.Passed) ≡ first_of (refusing s w) cs (request_decided t s w s.request)
+          → check_decided t s w (cond b (Check.Refused c.1) (first_of Check.Refused cs Check.Passed))
+          ≡ cond b (refusing s w c.1) (first_of (refusing s w) cs (request_decided t s w s.request))
       go true h = refl
       go false h = h
 
-  applied-decided : (t : List ℕ) → applied d (decidedOf t s w) ≡ first_of (refused d) (rowChecks s) (applied d (requestDecided t s w s.request))
-  unfolding decidedOf
-  applied-decided t = ap (applied d) (checked-first t (rowChecks s)) ∙ applied-first (rowChecks s) (requestDecided t s w s.request)
+  applied-decided : (t : List ℕ) → applied d (decided_of t s w) ≡ first_of (refused d) (row_checks s) (applied d (request_decided t s w s.request))
+  unfolding decided_of
+  applied-decided t = ap (applied d) (checked-first t (row_checks s)) ∙ applied-first (row_checks s) (request_decided t s w s.request)
 
-  applied-heard : (i : ℕ) → w ≡ watchAt d i → (r : Ran) → applied d (hearDecided s w i r) ≡ heardBy s.opening d i r
+  applied-heard : (i : ℕ) → w ≡ watch_at d i → (r : Ran) → applied d (hear_decided s w i r) ≡ heard_by s.opening d i r
   applied-heard i e (Ran.Ended to v c) = rw e
   applied-heard i e (Ran.Refused x) = applied-refused x
 
 -- ---- a watch fits by the mask exactly if it fits
 
 module _ (t : List ℕ) (P m : ℕ) (bits : MaskIn t P m) where
-  all-events : (q : List ℕ) → allIn m q ≡ every (map (isEvent (alphabetIn t P)) q)
+  all-events : (q : List ℕ) → all_in m q ≡ every (map (is_event (alphabet_in t P)) q)
   all-events [] = refl
   all-events (e ∷ q) = rw (bits.bits e, all-events q)
 
-  fits-so : (S : ℕ) (w : Watch) → fitsIn m S w ≡ watchFits (alphabetIn t P) S w
+  fits-so : (S : ℕ) (w : Watch) → fits_in m S w ≡ watch_fits (alphabet_in t P) S w
   fits-so S w = ap (λ (b : Bool). every (ltb w.state S ∷ leb w.waiting 32 ∷ leb (counted w) 4294967295 ∷ b ∷ [])) (all-events (queue w))
 
 -- ---- hearing from what the task knows is a run over the event
@@ -108,14 +108,14 @@ module _ (t : List ℕ) (s : Task) (w : Watch) (i : ℕ) where
   e = oldest w
 
   -- the run by the same tests
-  abbrev ranBy : Bool → Bool → Bool → Ran
-  ranBy inside can way =
+  abbrev ran_by : Bool → Bool → Bool → Ran
+  ran_by inside can way =
       tested way
       (cond inside
-      (cond (ltb (cond (not can) 0 1) 1) (Ran.Refused (WrongEvent (cond (not can) 0 1))) (end_of (monitorIn t s.signals s.states) w.state (e ∷ [])))
+      (cond (ltb (cond (not can) 0 1) 1) (Ran.Refused (WrongEvent (cond (not can) 0 1))) (end_of (monitor_in t s.signals s.states) w.state (e ∷ [])))
       (Ran.Refused WrongState))
 
-  by_tests : (inside can way : Bool) → byTests s w (heardHere t s w i) (not inside) (not can) (not way) ≡ hearDecided s w i (ranBy inside can way)
+  by_tests : (inside can way : Bool) → by_tests s w (heard_here t s w i) (not inside) (not can) (not way) ≡ hear_decided s w i (ran_by inside can way)
   by_tests true true true = refl
   by_tests true true false = refl
   by_tests true false true = refl
@@ -124,64 +124,64 @@ module _ (t : List ℕ) (s : Task) (w : Watch) (i : ℕ) where
   by_tests false can false = refl
 
   -- over the task's own counts
-  heard-own : countsFit t s.signals s.states ≡ true → eqb (bit e s.mask) 1 ≡ isEvent (alphabetIn t s.signals) e
-      → heardFrom t s w i ≡ hearDecided s w i (ranIn t s.signals s.states w.state (e ∷ []))
-  unfolding onTable
+  heard-own : counts_fit t s.signals s.states ≡ true → eqb (bit e s.mask) 1 ≡ is_event (alphabet_in t s.signals) e
+      → heard_from t s w i ≡ hear_decided s w i (ran_in t s.signals s.states w.state (e ∷ []))
+  unfolding on_table
   heard-own fit can =
       few-first t s w i (counts-few t s.signals s.states fit)
-      ∙ ap (λ (x : Bool). byTests s w (heardHere t s w i) (not (ltb w.state s.states)) (not x) (not (wayHere t s w i))) can
-      ∙ by_tests (ltb w.state s.states) (isEvent (alphabetIn t s.signals) e) (wayHere t s w i)
-      ∙ ap (λ (b : Bool). hearDecided s w i (cond b (ranBy (ltb w.state s.states) (isEvent (alphabetIn t s.signals) e) (wayHere t s w i)) (Ran.Refused WrongTable))) (sym fit)
+      ∙ ap (λ (x : Bool). by_tests s w (heard_here t s w i) (not (ltb w.state s.states)) (not x) (not (way_here t s w i))) can
+      ∙ by_tests (ltb w.state s.states) (is_event (alphabet_in t s.signals) e) (way_here t s w i)
+      ∙ ap (λ (b : Bool). hear_decided s w i (cond b (ran_by (ltb w.state s.states) (is_event (alphabet_in t s.signals) e) (way_here t s w i)) (Ran.Refused WrongTable))) (sym fit)
 
-  heard-so : (P S : ℕ) → s.signals ≡ P → s.states ≡ S → countsFit t P S ≡ true → eqb (bit e s.mask) 1 ≡ isEvent (alphabetIn t P) e
-      → heardFrom t s w i ≡ hearDecided s w i (ranIn t P S w.state (e ∷ []))
+  heard-so : (P S : ℕ) → s.signals ≡ P → s.states ≡ S → counts_fit t P S ≡ true → eqb (bit e s.mask) 1 ≡ is_event (alphabet_in t P) e
+      → heard_from t s w i ≡ hear_decided s w i (ran_in t P S w.state (e ∷ []))
   heard-so P S p q fit can =
-      let fit' : countsFit t s.signals s.states ≡ true = ap (λ (x : ℕ). countsFit t x s.states) p ∙ ap (countsFit t P) q ∙ fit in
-      let can' : eqb (bit e s.mask) 1 ≡ isEvent (alphabetIn t s.signals) e = can ∙ ap (λ (x : ℕ). isEvent (alphabetIn t x) e) (sym p) in
-      heard-own fit' can' ∙ ap (λ (x : ℕ). hearDecided s w i (ranIn t x s.states w.state (e ∷ []))) p ∙ ap (λ (x : ℕ). hearDecided s w i (ranIn t P x w.state (e ∷ []))) q
+      let fit' : counts_fit t s.signals s.states ≡ true = ap (λ (x : ℕ). counts_fit t x s.states) p ∙ ap (counts_fit t P) q ∙ fit in
+      let can' : eqb (bit e s.mask) 1 ≡ is_event (alphabet_in t s.signals) e = can ∙ ap (λ (x : ℕ). is_event (alphabet_in t x) e) (sym p) in
+      heard-own fit' can' ∙ ap (λ (x : ℕ). hear_decided s w i (ran_in t x s.states w.state (e ∷ []))) p ∙ ap (λ (x : ℕ). hear_decided s w i (ran_in t P x w.state (e ∷ []))) q
 
 -- ---- the whole
 
-module _ (t : List ℕ) (P S : ℕ) (r : Request) (d : List Watch) (s₀ s : Task) (begun : Begun t P S r (length d) s₀) (pass : s ≡ passOver d s₀.upto s₀) where
+module _ (t : List ℕ) (P S : ℕ) (r : Request) (d : List Watch) (s₀ s : Task) (begun : Begun t P S r (length d) s₀) (pass : s ≡ pass_over d s₀.upto s₀) where
   abbrev n : ℕ
   n = length d
 
   abbrev Σ : Alphabet
-  Σ = alphabetIn t P
+  Σ = alphabet_in t P
 
   kept : Kept s₀ s
   kept = subst (Kept s₀) (sym pass) (pass_kept d s₀.upto s₀)
 
-  own : s.opening ≡ openingIn r
+  own : s.opening ≡ opening_in r
   own = kept.opening ∙ begun.opening
 
   long : s.length ≡ n
   long = kept.length ∙ begun.length
 
   -- over a table and a row that fit
-  module _ (fit : countsFit t P S ≡ true) (row : (leb 1 n && leb n 64) ≡ true) where
+  module _ (fit : counts_fit t P S ≡ true) (row : (leb 1 n && leb n 64) ≡ true) where
     all : s₀.upto ≡ n
     all = begun.upto ∙ rw (fit, row)
 
     bits : MaskIn t P s₀.mask
     bits = begun.mask fit
 
-    over-all : s ≡ passOver d n s₀
-    over-all = pass ∙ ap (λ (k : ℕ). passOver d k s₀) all
+    over-all : s ≡ pass_over d n s₀
+    over-all = pass ∙ ap (λ (k : ℕ). pass_over d k s₀) all
 
-    wrong-is : s.wrong ≡ firstWrong Σ S d
+    wrong-is : s.wrong ≡ first_wrong Σ S d
     wrong-is =
         ap (λ (x : Task). x.wrong) over-all ∙ pass-wrong d n s₀
-        ∙ ap (λ (x : ℕ). lowest n (λ i. not (fitsIn s₀.mask s₀.states (watchAt d i))) x) begun.wrong
-        ∙ lowest-least n (λ i. not (fitsIn s₀.mask s₀.states (watchAt d i)))
-        ∙ least-same n _ _ (λ i l. ap (λ (x : ℕ). not (fitsIn s₀.mask x (watchAt d i))) begun.states ∙ ap not (fits-so t P s₀.mask bits S (watchAt d i)))
+        ∙ ap (λ (x : ℕ). lowest n (λ i. not (fits_in s₀.mask s₀.states (watch_at d i))) x) begun.wrong
+        ∙ lowest-least n (λ i. not (fits_in s₀.mask s₀.states (watch_at d i)))
+        ∙ least-same n _ _ (λ i l. ap (λ (x : ℕ). not (fits_in s₀.mask x (watch_at d i))) begun.states ∙ ap not (fits-so t P s₀.mask bits S (watch_at d i)))
 
-    foreign-is : s.foreign ≡ firstForeign (openingIn r) d
+    foreign-is : s.foreign ≡ first_foreign (opening_in r) d
     foreign-is =
         ap (λ (x : Task). x.foreign) over-all ∙ pass-foreign d n s₀
-        ∙ ap (λ (x : ℕ). lowest n (λ i. not (eqb (watchAt d i).opening s₀.opening)) x) begun.foreign
-        ∙ lowest-least n (λ i. not (eqb (watchAt d i).opening s₀.opening))
-        ∙ least-same n _ _ (λ i l. ap (λ (x : ℕ). not (eqb (watchAt d i).opening x)) begun.opening)
+        ∙ ap (λ (x : ℕ). lowest n (λ i. not (eqb (watch_at d i).opening s₀.opening)) x) begun.foreign
+        ∙ lowest-least n (λ i. not (eqb (watch_at d i).opening s₀.opening))
+        ∙ least-same n _ _ (λ i l. ap (λ (x : ℕ). not (eqb (watch_at d i).opening x)) begun.opening)
 
     some : 1 ≤ n
     some = go (leb 1 n) refl row
@@ -193,110 +193,110 @@ module _ (t : List ℕ) (P S : ℕ) (r : Request) (d : List Watch) (s₀ s : Tas
     -- the next to be heard after l
     next-so : (k l : ℕ) → r ≡ Turn k l → next_of s ≡ cond (ltb (passed d l) n) (after n l (passed d l)) n
     next-so k l e =
-        let from : s₀.last ≡ l = begun.last ∙ ap lastIn e in
-        let later : s.later ≡ leastBelow n (λ i. ltb 0 (watchAt d i).waiting && ltb l i) =
-        ap (λ (x : Task). x.later) over-all ∙ pass-later d n s₀ ∙ ap (λ (x : ℕ). lowest n (λ i. ltb 0 (watchAt d i).waiting && ltb x i) s₀.later) from
-        ∙ ap (λ (x : ℕ). lowest n (λ i. ltb 0 (watchAt d i).waiting && ltb l i) x) begun.later ∙ lowest-least n (λ i. ltb 0 (watchAt d i).waiting && ltb l i) in
-        let waits : s.waits ≡ leastBelow n (λ i. ltb 0 (watchAt d i).waiting) =
-        ap (λ (x : Task). x.waits) over-all ∙ pass-waits d n s₀ ∙ ap (λ (x : ℕ). lowest n (λ i. ltb 0 (watchAt d i).waiting) x) begun.waits ∙ lowest-least n (λ i. ltb 0 (watchAt d i).waiting) in
-        rw (later, waits, long) (next-is n l (λ i. ltb 0 (watchAt d i).waiting) some)
+        let from : s₀.last ≡ l = begun.last ∙ ap last_in e in
+        let later : s.later ≡ least_below n (λ i. ltb 0 (watch_at d i).waiting && ltb l i) =
+        ap (λ (x : Task). x.later) over-all ∙ pass-later d n s₀ ∙ ap (λ (x : ℕ). lowest n (λ i. ltb 0 (watch_at d i).waiting && ltb x i) s₀.later) from
+        ∙ ap (λ (x : ℕ). lowest n (λ i. ltb 0 (watch_at d i).waiting && ltb l i) x) begun.later ∙ lowest-least n (λ i. ltb 0 (watch_at d i).waiting && ltb l i) in
+        let waits : s.waits ≡ least_below n (λ i. ltb 0 (watch_at d i).waiting) =
+        ap (λ (x : Task). x.waits) over-all ∙ pass-waits d n s₀ ∙ ap (λ (x : ℕ). lowest n (λ i. ltb 0 (watch_at d i).waiting) x) begun.waits ∙ lowest-least n (λ i. ltb 0 (watch_at d i).waiting) in
+        rw (later, waits, long) (next-is n l (λ i. ltb 0 (watch_at d i).waiting) some)
 
-    post-so : (i e : ℕ) (w : Watch) → w ≡ watchAt d i
-        → applied d (postDecided s w i e)
-        ≡ first_of (refused d) ((leb n i, WrongNumber i) ∷ (not (isEvent Σ e), WrongEvent i) ∷ (leb 32 (watchAt d i).waiting, QueueFull i) ∷ (eqb (counted (watchAt d i)) 4294967295, CountFull i) ∷ [])
-        (record { answer = Served.Done; desk = set d i (withEvent (watchAt d i) e) })
+    post-so : (i e : ℕ) (w : Watch) → w ≡ watch_at d i
+        → applied d (post_decided s w i e)
+        ≡ first_of (refused d) ((leb n i, WrongNumber i) ∷ (not (is_event Σ e), WrongEvent i) ∷ (leb 32 (watch_at d i).waiting, QueueFull i) ∷ (eqb (counted (watch_at d i)) 4294967295, CountFull i) ∷ [])
+        (record { answer = Served.Done; desk = set d i (with_event (watch_at d i) e) })
     post-so i e w q =
-        let can : eqb (bit e s.mask) 1 ≡ isEvent Σ e = ap (λ (m : ℕ). eqb (bit e m) 1) kept.mask ∙ bits.bits e in
-        applied-first d s w long (postChecks s w i e) (addition w i e) ∙ rw (long, can, q)
+        let can : eqb (bit e s.mask) 1 ≡ is_event Σ e = ap (λ (m : ℕ). eqb (bit e m) 1) kept.mask ∙ bits.bits e in
+        applied-first d s w long (post_checks s w i e) (addition w i e) ∙ rw (long, can, q)
 
     -- a turn that hears number i, and one that hears none
     abbrev hearing : ℕ → Outcome
-    hearing i = heardBy (openingIn r) d i (ranIn t P S (watchAt d i).state (oldest (watchAt d i) ∷ []))
+    hearing i = heard_by (opening_in r) d i (ran_in t P S (watch_at d i).state (oldest (watch_at d i) ∷ []))
 
     abbrev silence : ℕ → Outcome
     silence l = record { answer = Served.NoneWaits l; desk = d }
 
     -- where no watch is wrong, one that waits can count an event more
-    module _ (sound : ltb (firstWrong Σ S d) n ≡ false) where
-      fits-there : (i : ℕ) → i < n → watchFits Σ S (watchAt d i) ≡ true
-      fits-there i l = go (watchFits Σ S (watchAt d i)) refl ((least-below n (λ k. not (watchFits Σ S (watchAt d k)))).before i (omega (arith, ltb-false (firstWrong Σ S d) n sound)))
+    module _ (sound : ltb (first_wrong Σ S d) n ≡ false) where
+      fits-there : (i : ℕ) → i < n → watch_fits Σ S (watch_at d i) ≡ true
+      fits-there i l = go (watch_fits Σ S (watch_at d i)) refl ((least-below n (λ k. not (watch_fits Σ S (watch_at d k)))).before i (omega (arith, ltb-false (first_wrong Σ S d) n sound)))
         where
-          go : (b : Bool) → watchFits Σ S (watchAt d i) ≡ b → not b ≡ false → watchFits Σ S (watchAt d i) ≡ true
+          go : (b : Bool) → watch_fits Σ S (watch_at d i) ≡ b → not b ≡ false → watch_fits Σ S (watch_at d i) ≡ true
           go true e h = e
           go false e h = e ∙ sym h
 
-      can-count : (l : ℕ) → passed d l < n → (watchAt d (after n l (passed d l))).heard < 4294967295
+      can-count : (l : ℕ) → passed d l < n → (watch_at d (after n l (passed d l))).heard < 4294967295
       can-count l p =
           let i : ℕ = after n l (passed d l) in
-          let waits : 1 ≤ (watchAt d i).waiting = leb-true 1 (watchAt d i).waiting ((least-below n (λ k. leb 1 (watchAt d (after n l k)).waiting)).here p) in
-          let w : Watch = watchAt d i in
-          let tests : List Bool = ltb w.state S ∷ leb w.waiting 32 ∷ leb (counted w) 4294967295 ∷ every (map (isEvent Σ) (queue w)) ∷ [] in
+          let waits : 1 ≤ (watch_at d i).waiting = leb-true 1 (watch_at d i).waiting ((least-below n (λ k. leb 1 (watch_at d (after n l k)).waiting)).here p) in
+          let w : Watch = watch_at d i in
+          let tests : List Bool = ltb w.state S ∷ leb w.waiting 32 ∷ leb (counted w) 4294967295 ∷ every (map (is_event Σ) (queue w)) ∷ [] in
           let sum : counted w ≤ 4294967295 = leb-true (counted w) 4294967295 (holds tests (fits-there i (mod-lt _ some)) 2) in
           omega arith
 
-    turn-so : ltb (firstWrong Σ S d) n ≡ false → (k l : ℕ) → r ≡ Turn k l → (w : Watch) → w ≡ watchAt d (next_of s) → applied d (turnDecided t s w l) ≡ cond (ltb (passed d l) n) (hearing (after n l (passed d l))) (silence l)
+    turn-so : ltb (first_wrong Σ S d) n ≡ false → (k l : ℕ) → r ≡ Turn k l → (w : Watch) → w ≡ watch_at d (next_of s) → applied d (turn_decided t s w l) ≡ cond (ltb (passed d l) n) (hearing (after n l (passed d l))) (silence l)
     turn-so sound k l e w q = go (dec_lt (passed d l) n)
       where
-        go : Dec (passed d l < n) → applied d (turnDecided t s w l) ≡ cond (ltb (passed d l) n) (hearing (after n l (passed d l))) (silence l)
+        go : Dec (passed d l < n) → applied d (turn_decided t s w l) ≡ cond (ltb (passed d l) n) (hearing (after n l (passed d l))) (silence l)
         go (yes p) =
             let i : ℕ = after n l (passed d l) in
             let at : next_of s ≡ i = next-so k l e ∙ rw (lt-ltb (passed d l) n p) in
             let inside : i < n = mod-lt _ some in
-            let is : w ≡ watchAt d i = q ∙ ap (watchAt d) at in
-            let can : eqb (bit (oldest w) s.mask) 1 ≡ isEvent Σ (oldest w) = ap (λ (m : ℕ). eqb (bit (oldest w) m) 1) kept.mask ∙ bits.bits (oldest w) in
+            let is : w ≡ watch_at d i = q ∙ ap (watch_at d) at in
+            let can : eqb (bit (oldest w) s.mask) 1 ≡ is_event Σ (oldest w) = ap (λ (m : ℕ). eqb (bit (oldest w) m) 1) kept.mask ∙ bits.bits (oldest w) in
             let heard : leb s.length (next_of s) ≡ false = lt-leb s.length (next_of s) (omega (arith, at, inside, long)) in
-            let run : Ran = ranIn t P S (watchAt d i).state (oldest (watchAt d i) ∷ []) in
-            let ran : heardFrom t s w i ≡ hearDecided s w i run = heard-so t s w i P S (kept.signals ∙ begun.signals) (kept.states ∙ begun.states) fit can ∙ ap (λ (x : Watch). hearDecided s w i (ranIn t P S x.state (oldest x ∷ []))) is in
+            let run : Ran = ran_in t P S (watch_at d i).state (oldest (watch_at d i) ∷ []) in
+            let ran : heard_from t s w i ≡ hear_decided s w i run = heard-so t s w i P S (kept.signals ∙ begun.signals) (kept.states ∙ begun.states) fit can ∙ ap (λ (x : Watch). hear_decided s w i (ran_in t P S x.state (oldest x ∷ []))) is in
             let more : ltb w.heard 4294967295 ≡ true = lt-ltb w.heard 4294967295 (subst (λ (x : Watch). x.heard < 4294967295) (sym is) (can-count sound l p)) in
-            rw (heard, lt-ltb (passed d l) n p, more) (ap (λ (k : ℕ). applied d (heardFrom t s w k)) at ∙ ap (applied d) ran ∙ applied-heard d s w long i is run ∙ ap (λ (x : ℕ). heardBy x d i run) own)
+            rw (heard, lt-ltb (passed d l) n p, more) (ap (λ (k : ℕ). applied d (heard_from t s w k)) at ∙ ap (applied d) ran ∙ applied-heard d s w long i is run ∙ ap (λ (x : ℕ). heard_by x d i run) own)
         go (no h) =
             let at : next_of s ≡ n = next-so k l e ∙ rw (le-ltb (passed d l) n (omega arith)) in
             let shut : leb s.length (next_of s) ≡ true = le-leb s.length (next_of s) (omega (arith, at, long)) in
             rw (shut, le-ltb (passed d l) n (omega arith)) (ap (λ (x : List Watch). record { answer = Served.NoneWaits l; desk = x }) (past d s w long))
 
-  table_is : (b : Bool) → countsFit t P S ≡ b → s.table ≡ b
+  table_is : (b : Bool) → counts_fit t P S ≡ b → s.table ≡ b
   table_is b e = kept.table ∙ begun.table ∙ e
 
   -- 14, 18, 24 and 13, and then what the request comes to
-  row-so : (y z : Outcome) → (countsFit t P S ≡ true → (leb 1 n && leb n 64) ≡ true → ltb (firstWrong Σ S d) n ≡ false → y ≡ z)
-      → first_of (refused d) (rowChecks s) y ≡ cond (countsFit t P S) (first_of (refused d) (deskChecks (openingIn r) Σ S d) z) (refused d WrongTable)
-  row-so y z h = go (countsFit t P S) (leb 1 n && leb n 64) refl refl
+  row-so : (y z : Outcome) → (counts_fit t P S ≡ true → (leb 1 n && leb n 64) ≡ true → ltb (first_wrong Σ S d) n ≡ false → y ≡ z)
+      → first_of (refused d) (row_checks s) y ≡ cond (counts_fit t P S) (first_of (refused d) (desk_checks (opening_in r) Σ S d) z) (refused d WrongTable)
+  row-so y z h = go (counts_fit t P S) (leb 1 n && leb n 64) refl refl
     where
-      go : (b c : Bool) → countsFit t P S ≡ b → (leb 1 n && leb n 64) ≡ c
-          → first_of (refused d) (rowChecks s) y ≡ cond (countsFit t P S) (first_of (refused d) (deskChecks (openingIn r) Σ S d) z) (refused d WrongTable)
+      go : (b c : Bool) → counts_fit t P S ≡ b → (leb 1 n && leb n 64) ≡ c
+          → first_of (refused d) (row_checks s) y ≡ cond (counts_fit t P S) (first_of (refused d) (desk_checks (opening_in r) Σ S d) z) (refused d WrongTable)
       go false c e q = rw (table_is false e, e)
       go true false e q = rw (table_is true e, e, long, q)
-      go true true e q = rw (table_is true e, e, long, q, foreign-is e q, wrong-is e q) (own_first (ltb (firstForeign (openingIn r) d) n))
+      go true true e q = rw (table_is true e, e, long, q, foreign-is e q, wrong-is e q) (own_first (ltb (first_foreign (opening_in r) d) n))
         where
-          last : (b : Bool) → ltb (firstWrong Σ S d) n ≡ b → cond b (refused d (WrongWatch (firstWrong Σ S d))) y ≡ cond b (refused d (WrongWatch (firstWrong Σ S d))) z
+          last : (b : Bool) → ltb (first_wrong Σ S d) n ≡ b → cond b (refused d (WrongWatch (first_wrong Σ S d))) y ≡ cond b (refused d (WrongWatch (first_wrong Σ S d))) z
           last true a = refl
           last false a = h e q a
 
           own_first : (b : Bool)
-              → cond b (refused d (WrongOpening (firstForeign (openingIn r) d))) (cond (ltb (firstWrong Σ S d) n) (refused d (WrongWatch (firstWrong Σ S d))) y)
-              ≡ cond b (refused d (WrongOpening (firstForeign (openingIn r) d))) (cond (ltb (firstWrong Σ S d) n) (refused d (WrongWatch (firstWrong Σ S d))) z)
+              → cond b (refused d (WrongOpening (first_foreign (opening_in r) d))) (cond (ltb (first_wrong Σ S d) n) (refused d (WrongWatch (first_wrong Σ S d))) y)
+              ≡ cond b (refused d (WrongOpening (first_foreign (opening_in r) d))) (cond (ltb (first_wrong Σ S d) n) (refused d (WrongWatch (first_wrong Σ S d))) z)
           own_first true = refl
-          own_first false = last (ltb (firstWrong Σ S d) n) refl
+          own_first false = last (ltb (first_wrong Σ S d) n) refl
 
-  served-so : (w : Watch) → w ≡ watchAt d (wantedOf s) → applied d (decidedOf t s w) ≡ servedIn t P S r d
-  unfolding postIn postBy turnIn turnBy
-  served-so w q = applied-decided d s w long t ∙ ap (λ (x : Request). first_of (refused d) (rowChecks s) (applied d (requestDecided t s w x))) asked ∙ go r refl
+  served-so : (w : Watch) → w ≡ watch_at d (wanted_of s) → applied d (decided_of t s w) ≡ served_in t P S r d
+  unfolding post_in post_by turn_in turn_by
+  served-so w q = applied-decided d s w long t ∙ ap (λ (x : Request). first_of (refused d) (row_checks s) (applied d (request_decided t s w x))) asked ∙ go r refl
     where
       asked : s.request ≡ r
       asked = kept.request ∙ begun.request
 
-      wanted : (x : Request) → r ≡ x → w ≡ watchAt d (wantedBy s x)
-      wanted x e = q ∙ ap (λ (y : Request). watchAt d (wantedBy s y)) (asked ∙ e)
+      wanted : (x : Request) → r ≡ x → w ≡ watch_at d (wanted_by s x)
+      wanted x e = q ∙ ap (λ (y : Request). watch_at d (wanted_by s y)) (asked ∙ e)
 
-      own_is : (x : Request) → r ≡ x → (f : ℕ → Outcome) → f (openingIn r) ≡ f (openingIn x)
-      own_is x e f = ap (λ (y : Request). f (openingIn y)) e
+      own_is : (x : Request) → r ≡ x → (f : ℕ → Outcome) → f (opening_in r) ≡ f (opening_in x)
+      own_is x e f = ap (λ (y : Request). f (opening_in y)) e
 
-      go : (x : Request) → r ≡ x → first_of (refused d) (rowChecks s) (applied d (requestDecided t s w x)) ≡ servedIn t P S x d
-      go (Post k i e) h = row-so _ _ (λ fit row sound. post-so fit row i e w (wanted (Post k i e) h)) ∙ own_is (Post k i e) h (λ o. postIn o t P S d i e)
-      go (Turn k l) h = row-so _ _ (λ fit row sound. turn-so fit row sound k l h w (wanted (Turn k l) h)) ∙ own_is (Turn k l) h (λ o. turnIn o t P S d l)
+      go : (x : Request) → r ≡ x → first_of (refused d) (row_checks s) (applied d (request_decided t s w x)) ≡ served_in t P S x d
+      go (Post k i e) h = row-so _ _ (λ fit row sound. post-so fit row i e w (wanted (Post k i e) h)) ∙ own_is (Post k i e) h (λ o. post_in o t P S d i e)
+      go (Turn k l) h = row-so _ _ (λ fit row sound. turn-so fit row sound k l h w (wanted (Turn k l) h)) ∙ own_is (Turn k l) h (λ o. turn_in o t P S d l)
 
 pub surveyed : (t : List ℕ) (P S : ℕ) (r : Request) (d : List Watch) (s₀ s : Task) (i : ℕ) (w : Watch) (v : Service)
-    → Begun t P S r (length d) s₀ → s ≡ passOver d s₀.upto s₀ → i ≡ wantedOf s → w ≡ watchAt d i → v ≡ decidedOf t s w → Surveyed t P S r d v
+    → Begun t P S r (length d) s₀ → s ≡ pass_over d s₀.upto s₀ → i ≡ wanted_of s → w ≡ watch_at d i → v ≡ decided_of t s w → Surveyed t P S r d v
 surveyed t P S r d s₀ s i w v begun pass e q h =
-    let all : applied d v ≡ servedIn t P S r d = ap (applied d) h ∙ served-so t P S r d s₀ s begun pass w (q ∙ ap (watchAt d) e) in
+    let all : applied d v ≡ served_in t P S r d = ap (applied d) h ∙ served-so t P S r d s₀ s begun pass w (q ∙ ap (watch_at d) e) in
     record { answer = ap (λ (x : Outcome). x.answer) all; desk = ap (λ (x : Outcome). x.desk) all }

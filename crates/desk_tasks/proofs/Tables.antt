@@ -11,11 +11,11 @@ use native.Mathlib.Omega.{arith}
 use borrow.Author.Tests.{lt-ltb}
 use lib.Dec.{ltb}
 use lib.ListN.{length}
-use Rattle.meaning.specs.TableFiles.{isTable, alphabetIn, signalsIn, statesIn, checkedOf}
+use Rattle.meaning.specs.TableFiles.{is_table, alphabet_in, signals_in, states_in, checked_of}
 use Rattle.meaning.specs.RuleFiles.{first_of}
-use Rattle.meaning.specs.Runs.{countsFit, run_of, ranIn}
+use Rattle.meaning.specs.Runs.{counts_fit, run_of, ran_in}
 use Rattle.meaning.specs.Openings.{opening}
-use Rattle.meaning.specs.Desks.{Outcome, refused, deskChecks, watchAt, oldest, after, passed, heardBy, postIn, turnIn, freshIn, post_of, turn_of, fresh_of, turnBy}
+use Rattle.meaning.specs.Desks.{Outcome, refused, desk_checks, watch_at, oldest, after, passed, heard_by, post_in, turn_in, fresh_in, post_of, turn_of, fresh_of, turn_by}
 use Rattle.meaning.specs.declared.Refusal.{Refusal}
 use Rattle.meaning.specs.declared.Refusal.TheVariants.{WrongTable}
 use Rattle.meaning.specs.declared.Checked.{Checked}
@@ -27,69 +27,69 @@ use Rattle.table_layout.proofs.Form.{table-counts, table-header, table-verdict, 
 use Rattle.table_run.proofs.Answers.{found, run-table}
 use Rattle.desk_tasks.specs.declared.Request.{Request}
 use Rattle.desk_tasks.specs.declared.Request.TheVariants.{Post, Turn}
-use Rattle.desk_tasks.specs.Surveys.{servedIn, servedOf}
+use Rattle.desk_tasks.specs.Surveys.{served_in, served_of}
 
 module _ (t : List ℕ) (d : List Watch) where
   -- over the bytes t and counts, and over the table t
   pub record Agrees (by : ℕ → ℕ → Outcome) (of : Outcome) : Type 0 where
-    pub none : (P S : ℕ) → countsFit t P S ≡ false → by P S ≡ refused d WrongTable
-    pub wrong : (x : Refusal) → checkedOf t ≡ Checked.Refused x → of ≡ refused d WrongTable
-    pub table : (P S : ℕ) → checkedOf t ≡ Checked.Table P S → by P S ≡ of
+    pub none : (P S : ℕ) → counts_fit t P S ≡ false → by P S ≡ refused d WrongTable
+    pub wrong : (x : Refusal) → checked_of t ≡ Checked.Refused x → of ≡ refused d WrongTable
+    pub table : (P S : ℕ) → checked_of t ≡ Checked.Table P S → by P S ≡ of
 
   -- ---- a post and a turn
 
-  served-none : (P S : ℕ) (r : Request) → countsFit t P S ≡ false → servedIn t P S r d ≡ refused d WrongTable
-  unfolding postIn turnIn
+  served-none : (P S : ℕ) (r : Request) → counts_fit t P S ≡ false → served_in t P S r d ≡ refused d WrongTable
+  unfolding post_in turn_in
   served-none P S (Post n i e) q = rw q
   served-none P S (Turn n l) q = rw q
 
-  no_table : (x : Refusal) → checkedOf t ≡ Checked.Refused x → isTable t ≡ false
-  no_table x e = go (isTable t) refl e
+  no_table : (x : Refusal) → checked_of t ≡ Checked.Refused x → is_table t ≡ false
+  no_table x e = go (is_table t) refl e
     where
-      go : (b : Bool) → isTable t ≡ b → cond b (Checked.Table (signalsIn t) (statesIn t)) (Checked.Refused WrongTable) ≡ Checked.Refused x → b ≡ false
+      go : (b : Bool) → is_table t ≡ b → cond b (Checked.Table (signals_in t) (states_in t)) (Checked.Refused WrongTable) ≡ Checked.Refused x → b ≡ false
       go true p q = let z : ◌≡◌ {A = ℕ} 0 1 = cc in absurd (omega arith)
       go false p q = refl
 
-  served-refused : (r : Request) (x : Refusal) → checkedOf t ≡ Checked.Refused x → servedOf t r d ≡ refused d WrongTable
+  served-refused : (r : Request) (x : Refusal) → checked_of t ≡ Checked.Refused x → served_of t r d ≡ refused d WrongTable
   unfolding post_of turn_of
   served-refused (Post n i e) x q = rw (no_table x q)
   served-refused (Turn n l) x q = rw (no_table x q)
 
   -- a turn asks of its steps only what the one that it takes answers
-  turn-same : (n Q R l : ℕ) → checkedOf t ≡ Checked.Table Q R
-      → turnBy n (λ s e. ranIn t Q R s (e ∷ [])) (alphabetIn t Q) R d l ≡ turnBy n (λ s e. run_of t s (e ∷ [])) (alphabetIn t Q) R d l
-  unfolding turnBy
+  turn-same : (n Q R l : ℕ) → checked_of t ≡ Checked.Table Q R
+      → turn_by n (λ s e. ran_in t Q R s (e ∷ [])) (alphabet_in t Q) R d l ≡ turn_by n (λ s e. run_of t s (e ∷ [])) (alphabet_in t Q) R d l
+  unfolding turn_by
   turn-same n Q R l h =
       let i : ℕ = after (length d) l (passed d l) in
-      ap (λ (x : Ran). first_of (refused d) (deskChecks n (alphabetIn t Q) R d) (cond (ltb (passed d l) (length d)) (heardBy n d i x) (record { answer = Served.NoneWaits l; desk = d })))
-      (run-table t (watchAt d i).state (oldest (watchAt d i) ∷ []) Q R h)
+      ap (λ (x : Ran). first_of (refused d) (desk_checks n (alphabet_in t Q) R d) (cond (ltb (passed d l) (length d)) (heard_by n d i x) (record { answer = Served.NoneWaits l; desk = d })))
+      (run-table t (watch_at d i).state (oldest (watch_at d i) ∷ []) Q R h)
 
-  served-table : (Q R : ℕ) (r : Request) → checkedOf t ≡ Checked.Table Q R → servedIn t Q R r d ≡ servedOf t r d
-  unfolding postIn turnIn post_of turn_of
+  served-table : (Q R : ℕ) (r : Request) → checked_of t ≡ Checked.Table Q R → served_in t Q R r d ≡ served_of t r d
+  unfolding post_in turn_in post_of turn_of
   served-table Q R (Post n i e) h = let f = found t Q R h in rw (f.signals, f.states, f.table, table-counts t f.table)
   served-table Q R (Turn n l) h =
       let f = found t Q R h in
-      ap (λ (o : Outcome). cond (countsFit t Q R) o (refused d WrongTable)) (turn-same n Q R l h) ∙ rw (f.signals, f.states, f.table, table-counts t f.table)
+      ap (λ (o : Outcome). cond (counts_fit t Q R) o (refused d WrongTable)) (turn-same n Q R l h) ∙ rw (f.signals, f.states, f.table, table-counts t f.table)
 
-  pub served-agrees : (r : Request) → Agrees (λ P S. servedIn t P S r d) (servedOf t r d)
+  pub served-agrees : (r : Request) → Agrees (λ P S. served_in t P S r d) (served_of t r d)
   served-agrees r = record { none = λ P S. served-none P S r; wrong = served-refused r; table = λ P S. served-table P S r }
 
   -- ---- a fresh desk
 
-  fresh-none : (n P S : ℕ) → countsFit t P S ≡ false → freshIn n t P S d ≡ refused d WrongTable
-  unfolding freshIn
+  fresh-none : (n P S : ℕ) → counts_fit t P S ≡ false → fresh_in n t P S d ≡ refused d WrongTable
+  unfolding fresh_in
   fresh-none n P S q = rw q
 
-  fresh-refused : (n : ℕ) (x : Refusal) → checkedOf t ≡ Checked.Refused x → fresh_of (opening t n) d ≡ refused d WrongTable
+  fresh-refused : (n : ℕ) (x : Refusal) → checked_of t ≡ Checked.Refused x → fresh_of (opening t n) d ≡ refused d WrongTable
   unfolding fresh_of
   fresh-refused n x q = rw (no_table x q)
 
-  fresh-table : (n Q R : ℕ) → checkedOf t ≡ Checked.Table Q R → freshIn n t Q R d ≡ fresh_of (opening t n) d
-  unfolding freshIn fresh_of
+  fresh-table : (n Q R : ℕ) → checked_of t ≡ Checked.Table Q R → fresh_in n t Q R d ≡ fresh_of (opening t n) d
+  unfolding fresh_in fresh_of
   fresh-table n Q R h =
       let f = found t Q R h in
       let some = states-some t (table-header t f.table) in
-      rw (f.signals, f.states, f.table, table-counts t f.table, lt-ltb 0 (statesIn t) some, table-verdict t f.table 0 some)
+      rw (f.signals, f.states, f.table, table-counts t f.table, lt-ltb 0 (states_in t) some, table-verdict t f.table 0 some)
 
-  pub fresh-agrees : (n : ℕ) → Agrees (λ P S. freshIn n t P S d) (fresh_of (opening t n) d)
+  pub fresh-agrees : (n : ℕ) → Agrees (λ P S. fresh_in n t P S d) (fresh_of (opening t n) d)
   fresh-agrees n = record { none = fresh-none n; wrong = fresh-refused n; table = fresh-table n }

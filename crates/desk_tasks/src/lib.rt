@@ -2,7 +2,7 @@
 ghost use Rattle.std.specs.Prelude.{◌≡◌, cond, ◌&&◌, ◌≤◌, ◌<◌, leb};
 ghost use Rattle.meaning.specs.Runs.{in_table};
 ghost use Rattle.desk_tasks.specs.declared.Request.TheVariants.{Post, Turn};
-ghost use Rattle.desk_tasks.specs.Tasks.{lastIn, openingIn, Begun, look_of, next_of, wantedOf, rowChecked, refusing, postDecided, heardFrom, turnDecided, decidedOf};
+ghost use Rattle.desk_tasks.specs.Tasks.{last_in, opening_in, Begun, look_of, next_of, wanted_of, row_checked, refusing, post_decided, heard_from, turn_decided, decided_of};
 
 use events::can_happen;
 use meaning::{Refusal, Served, State, Watch};
@@ -75,7 +75,7 @@ pub fn turn_request(opening: u16, last: usize) -> Request
 
 // The number after which a turn begins; a post has none.
 fn last_heard(request: Request) -> usize
-    ensures { result ≡ lastIn request }
+    ensures { result ≡ last_in request }
 {
     match request {
         Request::Post {
@@ -89,7 +89,7 @@ fn last_heard(request: Request) -> usize
 
 // The number of the opening that is asked.
 fn opening_of(request: Request) -> u16
-    ensures { result ≡ openingIn request }
+    ensures { result ≡ opening_in request }
 {
     match request {
         Request::Post {
@@ -210,7 +210,7 @@ fn next_waiting(s: Task) -> usize
 
 // The number of the watch that the request is about.
 pub fn wanted(s: Task) -> usize
-    ensures { result ≡ wantedOf s }
+    ensures { result ≡ wanted_of s }
 {
     let request = s.request;
     match request {
@@ -234,7 +234,7 @@ enum Check {
 
 // 14, 18, 24 and 13.
 fn check_row(s: Task) -> Check
-    ensures { result ≡ rowChecked s }
+    ensures { result ≡ row_checked s }
 {
     let table = s.table;
     let length = s.length;
@@ -267,7 +267,7 @@ fn refuse(s: Task, w: Watch, why: Refusal) -> Service
 
 // 19, 12, 20 and 21, or the event is added.
 fn decide_post(s: Task, w: Watch, number: usize, event: u8) -> Service
-    ensures { result ≡ postDecided s w number event }
+    ensures { result ≡ post_decided s w number event }
 {
     let length = s.length;
     let mask = s.mask;
@@ -295,7 +295,7 @@ fn decide_post(s: Task, w: Watch, number: usize, event: u8) -> Service
 // The oldest event of the watch with this number is heard, and answered as a run over it would be.
 fn hear(t: &[u8], s: Task, w: Watch, number: usize) -> Service
     requires { w.heard < 4294967295 }
-    ensures { result ≡ heardFrom t.now s w number }
+    ensures { result ≡ heard_from t.now s w number }
 {
     let signals = s.signals;
     let states = s.states;
@@ -343,7 +343,7 @@ fn way_fits(t: &[u8], signals: u8, states: u16, from: u16, to: u16) -> bool
 
 // The oldest event of the next watch is heard, or none waits. No watch that fits has an event waiting where no more can be counted.
 fn decide_turn(t: &[u8], s: Task, w: Watch, last: usize) -> Service
-    ensures { result ≡ turnDecided t.now s w last }
+    ensures { result ≡ turn_decided t.now s w last }
 {
     let number = next_waiting(s);
     let length = s.length;
@@ -362,7 +362,7 @@ fn decide_turn(t: &[u8], s: Task, w: Watch, last: usize) -> Service
 
 // What is done to the watch that the request is about.
 pub fn decide(t: &[u8], s: Task, w: Watch) -> Service
-    ensures { result ≡ decidedOf t.now s w }
+    ensures { result ≡ decided_of t.now s w }
 {
     let checked = check_row(s);
     if let Check::Refused(why) = checked {

@@ -3,7 +3,7 @@ ghost use Rattle.std.specs.Prelude.{◌≡◌, true, ◌≤◌, eqb, length};
 ghost use Rattle.sequences.specs.Tabulate.{all_below};
 ghost use Rattle.meaning.specs.Bytes.{bit};
 ghost use Rattle.event_lists.specs.Bounds.{NoneAbove};
-ghost use Rattle.event_lists.specs.Masks.{allIn, firstOutside};
+ghost use Rattle.event_lists.specs.Masks.{all_in, first_outside};
 
 use events::can_happen;
 use wire::wide;
@@ -45,7 +45,7 @@ fn full_below(mask: u16) -> usize
 
 // Whether the mask has all the events. It does not stop at one that is missing: most lists have none, and so it is faster.
 pub fn each_in(mask: u16, events: &[u8]) -> bool
-    ensures { result ≡ allIn mask events.now }
+    ensures { result ≡ all_in mask events.now }
 {
     let mut all = true;
     let mut i: usize = 0;
@@ -58,7 +58,7 @@ pub fn each_in(mask: u16, events: &[u8]) -> bool
 
 // The same. Where every event can happen the largest tells, which is found many at a time.
 pub fn all_in(mask: u16, events: &[u8]) -> bool
-    ensures { result ≡ allIn mask events.now }
+    ensures { result ≡ all_in mask events.now }
 {
     if wide(most(events)) < full_below(mask) {
         return true;
@@ -68,7 +68,7 @@ pub fn all_in(mask: u16, events: &[u8]) -> bool
 
 // The index of the first event that the mask does not have, or the length.
 pub fn first_bad(mask: u16, events: &[u8]) -> usize
-    ensures { result ≡ firstOutside mask events.now }
+    ensures { result ≡ first_outside mask events.now }
 {
     if all_in(mask, events) {
         return events.len();

@@ -11,7 +11,7 @@ use lib.Pow.{pow_pos, pow_mono, mod-pow-add}
 use lib.Bits.{bit_and, and_mod, and_shr, and_mask}
 use lib.Count.{ones, ones_cat}
 use Rattle.meaning.specs.Bytes.{bit}
-use Rattle.meaning.specs.Formulas.{countOn}
+use Rattle.meaning.specs.Formulas.{count_on}
 
 digit_and : (a b : ℕ) → a < 2 → b < 2 → bit_and a b ≡ b * a
 digit_and zero zero p q = refl
@@ -34,7 +34,7 @@ module _ (e m : ℕ) where
       ap (λ (x : ℕ). x % 2) (and_shr e m s) ∙ and_mod (e / 2 ^ s) (m / 2 ^ s) 1
       ∙ digit_and (bit s e) (bit s m) (mod-lt (e / 2 ^ s) (lit< tt)) (mod-lt (m / 2 ^ s) (lit< tt))
 
-  ones_below : (n : ℕ) → ones (bit_and e m % 2 ^ n) ≡ countOn n m e
+  ones_below : (n : ℕ) → ones (bit_and e m % 2 ^ n) ≡ count_on n m e
   unfolding ones
   ones_below zero = ap ones (mod-one (bit_and e m))
   ones_below (suc s) =
@@ -44,7 +44,7 @@ module _ (e m : ℕ) where
       ∙ ap₂ (λ (a b : ℕ). a + b) (digit_ones (x / 2 ^ s % 2) (mod-lt (x / 2 ^ s) (lit< tt)) ∙ bit-and s) (ones_below s)
 
   -- of the four signals that there can be
-  pub ones-four : ones (bit_and (bit_and e m) 15) ≡ countOn 4 m e
+  pub ones-four : ones (bit_and (bit_and e m) 15) ≡ count_on 4 m e
   ones-four = ap ones (and_mask (bit_and e m) 4) ∙ ones_below 4
 
 -- a number of signals compared with both bounds, by the number n of ones that is counted for it

@@ -1,8 +1,8 @@
 // Events: how many there are, which of them can happen, which signals are on, and how many of a mask's.
 ghost use Rattle.std.specs.Prelude.{◌≡◌, ◌&&◌, ◌^◌, ◌≤◌, ◌<◌, leb, eqb};
 ghost use Rattle.meaning.specs.Bytes.{bit};
-ghost use Rattle.meaning.specs.Traces.{fullMask};
-ghost use Rattle.meaning.specs.Formulas.{countOn};
+ghost use Rattle.meaning.specs.Traces.{full_mask};
+ghost use Rattle.meaning.specs.Formulas.{count_on};
 
 // A power of 2: how many sets of k things there are.
 pub fn power(k: u8) -> usize
@@ -23,7 +23,7 @@ pub fn width(signals: u8) -> usize
 // The mask of all events over so many signals.
 pub fn full_mask(signals: u8) -> u16
     requires { signals ≤ 4 }
-    ensures { result ≡ fullMask signals }
+    ensures { result ≡ full_mask signals }
 {
     match signals {
         0 => 1,
@@ -64,7 +64,7 @@ pub fn signal_on(event: u8, signal: u8) -> bool
 
 // Whether at least and at most so many of the signals in the mask are on, of the four that there can be: the ones of event and mask are counted.
 pub fn at_least(event: u8, mask: u8, count: u8, upper: u8) -> bool
-    ensures { result ≡ (leb count (countOn 4 mask event) && leb (countOn 4 mask event) upper) }
+    ensures { result ≡ (leb count (count_on 4 mask event) && leb (count_on 4 mask event) upper) }
 {
     let on = u32::count_ones((event & mask & 15) as u32);
     (count as u32) <= on && on <= (upper as u32)

@@ -7,7 +7,7 @@ use native.Mathlib.Omega.{arith}
 use lib.ListN.{length, get_or}
 use lib.Dec.{ltb}
 use Rattle.meaning.specs.Traces.{Alphabet}
-use Rattle.walk.specs.Explore.{Explored, within, beyond, enter, visit, expand_from, expand, exploreFrom, explore}
+use Rattle.walk.specs.Explore.{Explored, within, beyond, enter, visit, expand_from, expand, explore_from, explore}
 
 -- what follows an answer within the limit
 abbrev after : {Key A B : Type 0} → (List Key → A → Explored Key B) → Explored Key A → Explored Key B
@@ -43,13 +43,13 @@ module _ {Key : Type 0} (same : Key → Key → Bool) (step step' : Key → ℕ 
 
 module _ {Key : Type 0} (same : Key → Key → Bool) (step step' : Key → ℕ → Key) (start : Key) (Σ : Alphabet) (limit : ℕ)
     (agree : (k : Key) (e : ℕ) → e < Σ.width → step k e ≡ step' k e) where
-  rows_same : (turns i : ℕ) (keys : List Key) (rows : List (List ℕ)) → exploreFrom same step start Σ limit turns i keys rows ≡ exploreFrom same step' start Σ limit turns i keys rows
-  unfolding exploreFrom
+  rows_same : (turns i : ℕ) (keys : List Key) (rows : List (List ℕ)) → explore_from same step start Σ limit turns i keys rows ≡ explore_from same step' start Σ limit turns i keys rows
+  unfolding explore_from
   rows_same zero i keys rows = refl
   rows_same (suc turns) i keys rows =
       ap (λ (x : Explored Key (List (List ℕ))). elim (ltb i (length keys)) [ true ↦ x | false ↦ within keys rows ])
-      (after_same (λ keys' row. exploreFrom same step start Σ limit turns (suc i) keys' (rows ++ (row ∷ [])))
-      (λ keys' row. exploreFrom same step' start Σ limit turns (suc i) keys' (rows ++ (row ∷ [])))
+      (after_same (λ keys' row. explore_from same step start Σ limit turns (suc i) keys' (rows ++ (row ∷ [])))
+      (λ keys' row. explore_from same step' start Σ limit turns (suc i) keys' (rows ++ (row ∷ [])))
       (λ keys' row. rows_same turns (suc i) keys' (rows ++ (row ∷ [])))
       (row_same same step step' start Σ limit (get_or keys i start) (get_or keys i start) (agree (get_or keys i start)) keys))
 

@@ -2,10 +2,10 @@
 ghost use Rattle.std.specs.Prelude.{◌≡◌, List, [], ◌++◌, ℕ, ◌+◌, ◌^◌, ◌≤◌, ◌<◌, length, get_or, drop};
 ghost use Rattle.sequences.specs.Tabulate.{tabulate};
 ghost use Rattle.meaning.specs.Traces.{masked};
-ghost use Rattle.ltl.specs.Keys.{startKey};
-ghost use Rattle.profile_sets.specs.Arrays.{setIn, tablesBy, tablesIn, Tabled, Steppable, key_of, WordsFit};
-ghost use Rattle.key_slots.specs.Arrays.{keysIn, KeysFit, Slotted};
-ghost use Rattle.exploration.specs.Answers.{expandKey, exploreKeys, classBy, Visits, GrownAs, WalkedAs, Explores};
+ghost use Rattle.ltl.specs.Keys.{start_key};
+ghost use Rattle.profile_sets.specs.Arrays.{set_in, tables_by, tables_in, Tabled, Steppable, key_of, WordsFit};
+ghost use Rattle.key_slots.specs.Arrays.{keys_in, KeysFit, Slotted};
+ghost use Rattle.exploration.specs.Answers.{expand_key, explore_keys, class_by, Visits, GrownAs, WalkedAs, Explores};
 
 use events::{mask_has, power, width};
 use key_slots::{Entered, enter, first_slots};
@@ -34,7 +34,7 @@ fn visit(
 ) -> Entered
     requires steppable { Steppable (e + 1) n profiles.now (key_of full.now) × (e < 16) }
     requires keys_fit { KeysFit count keys.old × Slotted count keys.old slots.old }
-    ensures { Visits (tablesBy n profiles.now (key_of full.now)) mask (setIn held.now) e (keysIn count keys.old) keys.new slots.new result }
+    ensures { Visits (tables_by n profiles.now (key_of full.now)) mask (set_in held.now) e (keys_in count keys.old) keys.new slots.new result }
 {
     if mask_has(mask, e) {
         let key = step_key(profiles, full, n, held, e);
@@ -58,7 +58,7 @@ fn expand(
 ) -> Grown
     requires steppable { Steppable events n profiles.now (key_of full.now) }
     requires events_bound { (events ≤ 16) × KeysFit count keys.old × Slotted count keys.old slots.old × (length row.old ≡ 16) × (from < count) }
-    ensures { GrownAs (expandKey (tablesBy n profiles.now (key_of full.now)) (masked events mask) (key_of (get_or keys.old from [])) (keysIn count keys.old)) events keys.new slots.new row.new result }
+    ensures { GrownAs (expand_key (tables_by n profiles.now (key_of full.now)) (masked events mask) (key_of (get_or keys.old from [])) (keys_in count keys.old)) events keys.new slots.new row.new result }
 {
     let source = keys[from];
     let held = spread(&source, n + n);
@@ -94,8 +94,8 @@ fn walk(
     keys: &mut [[u64; 4]; 256],
     met: &mut u16,
 ) -> [[u8; 16]; 256]
-    requires { (events ≤ 16) × Steppable events n profiles.now (key_of full.now) × KeysFit 1 keys.old × (key_of (get_or keys.old 0 []) ≡ startKey (tablesBy n profiles.now (key_of full.now))) }
-    ensures { WalkedAs (exploreKeys (tablesBy n profiles.now (key_of full.now)) (masked events mask)) events keys.new met.new result }
+    requires { (events ≤ 16) × Steppable events n profiles.now (key_of full.now) × KeysFit 1 keys.old × (key_of (get_or keys.old 0 []) ≡ start_key (tables_by n profiles.now (key_of full.now))) }
+    ensures { WalkedAs (explore_keys (tables_by n profiles.now (key_of full.now)) (masked events mask)) events keys.new met.new result }
 {
     let mut rows = no_rows();
     let mut slots = first_slots();
@@ -121,7 +121,7 @@ fn walk(
 
 fn class_of(key: [u64; 4], full: [u64; 4]) -> u8
     requires { WordsFit key × WordsFit full }
-    ensures { result ≡ classBy (key_of full) (key_of key) }
+    ensures { result ≡ class_by (key_of full) (key_of key) }
 {
     if same_key(key, [0; 4]) {
         return 2;
@@ -134,7 +134,7 @@ fn class_of(key: [u64; 4], full: [u64; 4]) -> u8
 
 fn classify(keys: &[[u64; 4]; 256], count: usize, full: [u64; 4], classes: &mut [u8; 256])
     requires { KeysFit count keys.now × WordsFit full × (length classes.old ≡ 256) }
-    ensures { classes.new ≡ tabulate count (λ s. classBy (key_of full) (key_of (get_or keys.now s []))) ++ drop count classes.old }
+    ensures { classes.new ≡ tabulate count (λ s. class_by (key_of full) (key_of (get_or keys.now s []))) ++ drop count classes.old }
 {
     let mut s: usize = 0;
     while s < count {
@@ -157,7 +157,7 @@ pub fn explore(
 ) -> [[u8; 16]; 256]
     requires signals_bound { (signals ≤ 4) × (m ≤ 7) × Tabled (2 ^ signals) (2 ^ m) profiles.now whole.now }
     requires classes_len { length classes.old ≡ 256 }
-    ensures { Explores signals mask (tablesIn (2 ^ m) profiles.now whole.now) states.new result classes.new }
+    ensures { Explores signals mask (tables_in (2 ^ m) profiles.now whole.now) states.new result classes.new }
 {
     let events = width(signals);
     let labels = power(m);

@@ -13,9 +13,9 @@ use native.Mathlib.Decide.{dec_lt}
 use borrow.Author.Tests.{le-leb}
 use lib.ListN.{length, get_or, set, take, drop, replicate, length-map, length-append, replicate-append-replicate}
 use lib.Seq.{length-take-le, take-suc, take-length, take_all, sets-eq}
-use Rattle.text_pieces.specs.Put.{Put, atFront}
+use Rattle.text_pieces.specs.Put.{Put, at_front}
 use Rattle.text_pieces.proofs.Laws.{put-more, put_byte, put_is}
-use Rattle.text_pieces.specs.RefusalLine.{refusalText, lineAnswer, lineAfter}
+use Rattle.text_pieces.specs.RefusalLine.{refusal_text, line_answer, line_after}
 use Rattle.text_pieces.specs.declared.Text.{Text}
 use Rattle.text_pieces.specs.declared.Text.TheVariants as Text
 use Rattle.text_pieces.proofs.Decimal.{decimal-u16, decimal-u64}
@@ -67,7 +67,7 @@ module _ (l : List ℕ) (n : ℕ) (e : n ≡ min (length l) 1024) where
   shown-length = omega (arith, length-map (take n l) shown, shown-size)
 
 -- bytes at the front of a buffer were put there
-pub front-put : (d vs s : List ℕ) (j : ℕ) → s ≡ atFront vs d → length vs ≤ length d → j ≡ length vs → Put d 0 vs s j
+pub front-put : (d vs s : List ℕ) (j : ℕ) → s ≡ at_front vs d → length vs ≤ length d → j ≡ length vs → Put d 0 vs s j
 front-put d vs s j e l q =
     record { stored = e ∙ ap (λ (k : ℕ). vs ++ drop k d) (sym (zero-add (length vs))) ∙ sym (sets-eq vs d 0 (omega arith)); next = omega arith }
 
@@ -100,8 +100,8 @@ code-few WrongRecordings = omega arith
 code-few (Contradiction p) = omega arith
 code-few (WrongOpening p) = omega arith
 
-pub line-length : (r : Refusal) → (code_of r).1 < 2 ^ 64 → length (refusalText r) ≤ 64
-unfolding refusalText
+pub line-length : (r : Refusal) → (code_of r).1 < 2 ^ 64 → length (refusal_text r) ≤ 64
+unfolding refusal_text
 line-length r l =
     let number = decimal-u16 (code_of r).0 (omega (arith, code-few r)) in
     let place = decimal-u64 (code_of r).1 l in
@@ -109,18 +109,18 @@ line-length r l =
 
 -- written into an output with room for it, it is never refused
 module _ (r : Refusal) (out : List ℕ) (room : 4096 ≤ length out) where
-  written : lineAnswer r out ≡ Text.Written (length (refusalText r))
+  written : line_answer r out ≡ Text.Written (length (refusal_text r))
   written = rw (le-leb 64 (length out) (omega arith))
 
-  pub line-put : (x : Text) (after : List ℕ) (n : ℕ) → (code_of r).1 < 2 ^ 64 → x ≡ lineAnswer r out → after ≡ lineAfter r out → x ≡ Text.Written n
-      → Put out 0 (refusalText r) after n
+  pub line-put : (x : Text) (after : List ℕ) (n : ℕ) → (code_of r).1 < 2 ^ 64 → x ≡ line_answer r out → after ≡ line_after r out → x ≡ Text.Written n
+      → Put out 0 (refusal_text r) after n
   line-put x after n l p q e =
       let w = written in
-      let size : n ≡ length (refusalText r) = cc in
-      let front : lineAfter r out ≡ atFront (refusalText r) out = rw (le-leb 64 (length out) (omega arith)) in
-      front-put out (refusalText r) after n (q ∙ front) (omega (arith, line-length r l)) size
+      let size : n ≡ length (refusal_text r) = cc in
+      let front : line_after r out ≡ at_front (refusal_text r) out = rw (le-leb 64 (length out) (omega arith)) in
+      front-put out (refusal_text r) after n (q ∙ front) (omega (arith, line-length r l)) size
 
-  pub line-never : (x : Text) (why : Refusal) → x ≡ lineAnswer r out → x ≡ Text.Refused why → ⊥
+  pub line-never : (x : Text) (why : Refusal) → x ≡ line_answer r out → x ≡ Text.Refused why → ⊥
   line-never x why p e =
       let w = written in
       let z : ◌≡◌ {A = ℕ} 0 1 = cc in

@@ -3,8 +3,8 @@ use Rattle.std.specs.Prelude.{List, [], ◌∷◌, ◌++◌, map, cond, ℕ, min
 use Rattle.meaning.specs.Refusals.{code_of}
 use Rattle.meaning.specs.declared.Refusal.{Refusal}
 use Rattle.meaning.specs.declared.Refusal.TheVariants.{ShortOutput}
-use Rattle.text_pieces.specs.Put.{atFront}
-use Rattle.text_pieces.specs.RefusalLine.{refusalText}
+use Rattle.text_pieces.specs.Put.{at_front}
+use Rattle.text_pieces.specs.RefusalLine.{refusal_text}
 use Rattle.text_pieces.specs.declared.Text.{Text}
 use Rattle.text_pieces.specs.declared.Text.TheVariants as Text
 
@@ -16,13 +16,13 @@ shown b = cond (ltb b 32) 63 (cond (ltb 126 b) 63 b)
 abbrev pub marked : List ℕ → ℕ → List ℕ
 marked text place = map shown (take 1024 text) ++ (10 ∷ []) ++ replicate (min place 1024) 32 ++ (94 ∷ 10 ∷ [])
 
-unfoldable pub faultText : Refusal → List ℕ → List ℕ
-faultText r text = refusalText r ++ marked text (code_of r).1
+unfoldable pub fault_text : Refusal → List ℕ → List ℕ
+fault_text r text = refusal_text r ++ marked text (code_of r).1
 
 -- the answer: 10 where the output has fewer than 4,096 bytes, in which every fault's text fits
-abbrev pub faultAnswer : Refusal → List ℕ → List ℕ → Text
-faultAnswer r text out = cond (leb 4096 (length out)) (Text.Written (length (faultText r text))) (Text.Refused ShortOutput)
+abbrev pub fault_answer : Refusal → List ℕ → List ℕ → Text
+fault_answer r text out = cond (leb 4096 (length out)) (Text.Written (length (fault_text r text))) (Text.Refused ShortOutput)
 
 -- the output then: on a refusal "Lent buffers keep every byte"
-abbrev pub faultAfter : Refusal → List ℕ → List ℕ → List ℕ
-faultAfter r text out = cond (leb 4096 (length out)) (atFront (faultText r text) out) out
+abbrev pub fault_after : Refusal → List ℕ → List ℕ → List ℕ
+fault_after r text out = cond (leb 4096 (length out)) (at_front (fault_text r text) out) out

@@ -1,7 +1,7 @@
 // The refusal of a rule's text as a person reads it: the refusal's line, the text, and under it a mark at the place.
 ghost use Rattle.std.specs.Prelude.{◌≡◌, map, ◌+◌, ◌≤◌, min, length, replicate};
 ghost use Rattle.text_pieces.specs.Put.{Put};
-ghost use Rattle.fault_text.specs.Fault.{shown, marked, faultAnswer, faultAfter};
+ghost use Rattle.fault_text.specs.Fault.{shown, marked, fault_answer, fault_after};
 
 use meaning::Refusal;
 use text_pieces::{Text, put_bytes, refusal_text};
@@ -69,8 +69,8 @@ fn put_marked(out: &mut [u8], at: usize, text: &[u8], place: usize) -> usize
 // The refusal, the text and the mark at the front of the output, and their length; or 10 where the output has fewer than 4,096 bytes, and every byte of
 // it as it was. Bytes past the mark's line are kept.
 pub fn fault_text(refusal: Refusal, text: &[u8], out: &mut [u8]) -> Text
-    ensures answer { result ≡ faultAnswer refusal text.now out.old }
-    ensures output { out.new ≡ faultAfter refusal text.now out.old }
+    ensures answer { result ≡ fault_answer refusal text.now out.old }
+    ensures output { out.new ≡ fault_after refusal text.now out.old }
 {
     if out.len() < 4096 {
         return Text::Refused(Refusal::ShortOutput);

@@ -7,18 +7,18 @@ use native.Mathlib.Omega.{arith}
 use lib.ListN.{length, drop, length-drop}
 use borrow.Author.Tests.{eq-eqb, ne_eqb, lt-ltb, le-ltb}
 use Rattle.meaning.specs.Grammar.{Tree, leaf, pre, bin, rightward}
-use Rattle.grammar.specs.Descent.{levelF, more_f, got, Level, More}
+use Rattle.grammar.specs.Descent.{level_f, more_f, got, Level, More}
 
-leaf-at : (x : ℕ) (ts : List ℕ) → x < 6 → (k : ℕ) → 1 ≤ k → levelF k 0 (x ∷ ts) ≡ got (leaf x) ts
-unfolding levelF
+leaf-at : (x : ℕ) (ts : List ℕ) → x < 6 → (k : ℕ) → 1 ≤ k → level_f k 0 (x ∷ ts) ≡ got (leaf x) ts
+unfolding level_f
 leaf-at x ts l zero h = absurd (omega arith)
 leaf-at x ts l (suc k) h = rw (ne_eqb x 10 (omega arith), lt-ltb x 6 l)
 
 pub level-leaf : {x : ℕ} {ts : List ℕ} → x < 6 → Level 0 (x ∷ ts) (leaf x) ts
 level-leaf {x} {ts} l = record { is = λ k h. leaf-at x ts l k (omega arith); shorter = omega arith }
 
-pre_at : (x : ℕ) (ts : List ℕ) (t : Tree) (r : List ℕ) → 6 ≤ x → (x ≡ 10 → ⊥) → Level 0 ts t r → (k : ℕ) → 16 * length ts + 18 ≤ k → levelF k 0 (x ∷ ts) ≡ got (pre x t) r
-unfolding levelF
+pre_at : (x : ℕ) (ts : List ℕ) (t : Tree) (r : List ℕ) → 6 ≤ x → (x ≡ 10 → ⊥) → Level 0 ts t r → (k : ℕ) → 16 * length ts + 18 ≤ k → level_f k 0 (x ∷ ts) ≡ got (pre x t) r
+unfolding level_f
 pre_at x ts t r l u q zero h = absurd (omega arith)
 pre_at x ts t r l u q (suc k) h = rw (ne_eqb x 10 u, le-ltb x 6 l, q.is k (omega arith))
 
@@ -28,8 +28,8 @@ level-other {x} {ts} {t} {r} l u q = record { is = λ k h. pre_at x ts t r l u q
 pub level-pre : {x : ℕ} {ts : List ℕ} {t : Tree} {r : List ℕ} → 6 ≤ x → x < 10 → Level 0 ts t r → Level 0 (x ∷ ts) (pre x t) r
 level-pre l u q = level-other l (λ e. omega arith) q
 
-round-at : (ts : List ℕ) (t : Tree) (r : List ℕ) → Level 6 ts t r → (k : ℕ) → 16 * length ts + 18 ≤ k → levelF k 0 (10 ∷ ts) ≡ got t (drop 1 r)
-unfolding levelF
+round-at : (ts : List ℕ) (t : Tree) (r : List ℕ) → Level 6 ts t r → (k : ℕ) → 16 * length ts + 18 ≤ k → level_f k 0 (10 ∷ ts) ≡ got t (drop 1 r)
+unfolding level_f
 round-at ts t r q zero h = absurd (omega arith)
 round-at ts t r q (suc k) h = rw (q.is k (omega arith))
 
@@ -39,16 +39,16 @@ level-inside {ts} {t} {r} q = record { is = λ k h. round-at ts t r q k (omega a
 pub level-round : {ts : List ℕ} {t : Tree} {c : ℕ} {r : List ℕ} → Level 6 ts t (c ∷ r) → Level 0 (10 ∷ ts) t r
 level-round q = level-inside q
 
-over-at : (k : ℕ) → 1 ≤ k → levelF k 0 [] ≡ got (leaf 4) []
-unfolding levelF
+over-at : (k : ℕ) → 1 ≤ k → level_f k 0 [] ≡ got (leaf 4) []
+unfolding level_f
 over-at zero h = absurd (omega arith)
 over-at (suc k) h = refl
 
 pub level-over : Level 0 [] (leaf 4) []
 level-over = record { is = λ k h. over-at k (omega arith); shorter = omega arith }
 
-up_at : (n : ℕ) (ts : List ℕ) (a : Tree) (r : List ℕ) (t : Tree) (r' : List ℕ) → Level n ts a r → More n a r t r' → (k : ℕ) → 16 * length ts + 2 * n + 4 ≤ k → levelF k (suc n) ts ≡ got t r'
-unfolding levelF
+up_at : (n : ℕ) (ts : List ℕ) (a : Tree) (r : List ℕ) (t : Tree) (r' : List ℕ) → Level n ts a r → More n a r t r' → (k : ℕ) → 16 * length ts + 2 * n + 4 ≤ k → level_f k (suc n) ts ≡ got t r'
+unfolding level_f
 up_at n ts a r t r' p q zero h = absurd (omega arith)
 up_at n ts a r t r' p q (suc k) h = rw (p.is k (omega arith), q.is k (omega (arith, p.shorter)))
 

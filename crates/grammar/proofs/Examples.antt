@@ -6,8 +6,8 @@ use Prim.Native.String.{String}
 use Rattle.meaning.specs.Bytes.{ascii}
 use Rattle.meaning.specs.Grammar.{Tree, leaf, pre, bin, rightward, Parsed, Fitting, Outside, ParsedAs}
 use Rattle.grammar.specs.Machine.{run, seen, passed}
-use Rattle.grammar.specs.Descent.{levelF, more_f}
-use Rattle.grammar.specs.Reading.{tree_of, parsedOf}
+use Rattle.grammar.specs.Descent.{level_f, more_f}
+use Rattle.grammar.specs.Reading.{tree_of, parsed_of}
 use Rattle.grammar.proofs.Texts.{parsed}
 
 pub record Example : Type 0 where
@@ -41,7 +41,7 @@ examples =
     ∷ fits "s0 | s1 ^ s2 & s0 U s1" (bin 15 s0 (bin 14 s1 (bin 13 s2 (bin 12 s0 s1))))
     ∷ fits "s0 U s1 & s2 ^ s0 | s1" (bin 15 (bin 14 (bin 13 (bin 12 s0 s1) s2) s0) s1)
     ∷ fits "s0 -> s1 <-> s2 -> s0" (bin 17 (bin 16 s0 s1) (bin 16 s2 s0))
-    ∷ fits "trueUs0" (bin 12 (leaf 4) s0)
+    ∷ fits "true_us0" (bin 12 (leaf 4) s0)
     ∷ fits "  ( ( false ) )  " (leaf 5)
     ∷ fails "" 0
     ∷ fails "   " 3
@@ -55,8 +55,8 @@ examples =
     ∷ fails "! & s0" 2
     ∷ []
 
-computed : map (λ e. parsedOf (ascii e.text)) examples ≡ map (λ e. e.reads) examples
-unfolding parsedOf tree_of levelF more_f run seen passed rightward
+computed : map (λ e. parsed_of (ascii e.text)) examples ≡ map (λ e. e.reads) examples
+unfolding parsed_of tree_of level_f more_f run seen passed rightward
 computed = refl
 
 -- each text reads as its example says
@@ -64,11 +64,11 @@ abbrev pub AllRead : List Example → Type 0
 AllRead [] = Unit {0}
 AllRead (e ∷ es) = ParsedAs (ascii e.text) e.reads × AllRead es
 
-all_read : (es : List Example) → map (λ e. parsedOf (ascii e.text)) es ≡ map (λ e. e.reads) es → AllRead es
+all_read : (es : List Example) → map (λ e. parsed_of (ascii e.text)) es ≡ map (λ e. e.reads) es → AllRead es
 all_read [] h = tt
 all_read (e ∷ es) h =
-    let q : parsedOf (ascii e.text) ≡ e.reads = cc in
-    let r : map (λ e. parsedOf (ascii e.text)) es ≡ map (λ e. e.reads) es = cc in
+    let q : parsed_of (ascii e.text) ≡ e.reads = cc in
+    let r : map (λ e. parsed_of (ascii e.text)) es ≡ map (λ e. e.reads) es = cc in
     (subst (λ (x : Parsed). ParsedAs (ascii e.text) x) q (parsed (ascii e.text)), all_read es r)
 
 pub known : AllRead examples

@@ -8,7 +8,7 @@ use native.Mathlib.Omega.{arith}
 use lib.ListN.{length, take}
 use borrow.Author.Tests.{eq-eqb}
 use Rattle.meaning.specs.Grammar.{Fits, Viable, FaultAt}
-use Rattle.grammar.specs.Machine.{State, operand, operator, digit, within, dead, Move, Row, lost, look, closed, resume, rows, step, run, isDead, passed}
+use Rattle.grammar.specs.Machine.{State, operand, operator, digit, within, dead, Move, Row, lost, look, closed, resume, rows, step, run, is_dead, passed}
 use Rattle.grammar.proofs.Fitting.{Each, look-each, passes, fitting}
 
 -- a state from which some text ends well, and one such text
@@ -53,7 +53,7 @@ finishes dead l = absurd l
 
 -- a live state moves to a live one, or is lost
 abbrev Stays : State → Type 0
-Stays q = (q ≡ dead) ⊎ (Live q × (isDead q ≡ false))
+Stays q = (q ≡ dead) ⊎ (Live q × (is_dead q ≡ false))
 
 stays_closed : (d : ℕ) → Stays (closed d)
 stays_closed zero = inl refl
@@ -70,7 +70,7 @@ stays-resume (c ∷ w) q l = inr (l, refl)
 abbrev Keeps : ℕ → Move → Type 0
 Keeps b m = Stays m.state
 
-fine : {q : State} → Live q → isDead q ≡ false → Stays q
+fine : {q : State} → Live q → is_dead q ≡ false → Stays q
 fine l e = inr (l, e)
 
 all_stay : (q : State) → Live q → Each Keeps (rows q)
@@ -93,7 +93,7 @@ halts-lost : (q : State) (b : ℕ) (s : List ℕ) → Live q → (step q b).stat
 unfolding run passed
 halts-lost q b s l e = record { inside = rw e (omega arith); live = rw e l; gone = λ h. rw e e }
 
-halts-on : (q : State) (b : ℕ) (s : List ℕ) → isDead (step q b).state ≡ false → Halts (step q b).state s → Halts q (b ∷ s)
+halts-on : (q : State) (b : ℕ) (s : List ℕ) → is_dead (step q b).state ≡ false → Halts (step q b).state s → Halts q (b ∷ s)
 unfolding run passed
 halts-on q b s e h = record { inside = rw e (omega (arith, h.inside)); live = rw e h.live; gone = rw e (λ u. h.gone (omega arith)) }
 

@@ -10,7 +10,7 @@ use lib.ListN.{length, take, get_or}
 use borrow.Author.Tests.{eq-eqb, ne_eqb}
 use Rattle.meaning.specs.Grammar.{Tree, Parses, spelling, Spells, ended, space, sign, Fits, Viable, FaultAt}
 use Rattle.grammar.specs.Descent.{Level}
-use Rattle.grammar.specs.Machine.{State, operand, operator, digit, within, dead, Move, Row, row, lost, look, closed, resume, rows, step, run, seen, isDead, passed}
+use Rattle.grammar.specs.Machine.{State, operand, operator, digit, within, dead, Move, Row, row, lost, look, closed, resume, rows, step, run, seen, is_dead, passed}
 use Rattle.grammar.proofs.Follow.{Open, leaf-on, prefix-on, open-on, Shut, done, close-on, sign-on}
 use Rattle.grammar.proofs.Parsing.{reading, follows, unique, complete, level-same}
 

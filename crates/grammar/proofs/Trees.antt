@@ -5,7 +5,7 @@ use Prim.Native.Nat.{ℕ, ◌+◌, ◌-◌, ◌≤◌}
 use native.Mathlib.Omega.{arith}
 use lib.ListN.{length, length-append}
 use Rattle.meaning.specs.Grammar.{Tree, leaf, pre, bin, Parses, atom, prefix, brackets, tighter, left, right}
-use Rattle.meaning.specs.RuleTexts.{kind_of, node, size, nodesOf}
+use Rattle.meaning.specs.RuleTexts.{kind_of, node, size, nodes_of}
 use Rattle.meaning.specs.declared.Node.{Node}
 use Rattle.grammar.specs.Signs.{Signs}
 
@@ -26,11 +26,11 @@ size-some (leaf x) = omega arith
 size-some (pre x t) = omega arith
 size-some (bin x s t) = omega arith
 
-pub nodes-length : (k : ℕ) (t : Tree) → length (nodesOf k t) ≡ size t
-unfolding size nodesOf
+pub nodes-length : (k : ℕ) (t : Tree) → length (nodes_of k t) ≡ size t
+unfolding size nodes_of
 nodes-length k (leaf x) = refl
-nodes-length k (pre x t) = let n = node (kind_of x) (k + size t - 1) 0 in omega (arith, length-append (nodesOf k t) (n ∷ []), nodes-length k t)
+nodes-length k (pre x t) = let n = node (kind_of x) (k + size t - 1) 0 in omega (arith, length-append (nodes_of k t) (n ∷ []), nodes-length k t)
 nodes-length k (bin x s t) =
-    let front : List Node = nodesOf k s ++ nodesOf (k + size s) t in
+    let front : List Node = nodes_of k s ++ nodes_of (k + size s) t in
     let n = node (kind_of x) (k + size s - 1) (k + size s + size t - 1) in
-    omega (arith, length-append front (n ∷ []), length-append (nodesOf k s) (nodesOf (k + size s) t), nodes-length k s, nodes-length (k + size s) t)
+    omega (arith, length-append front (n ∷ []), length-append (nodes_of k s) (nodes_of (k + size s) t), nodes-length k s, nodes-length (k + size s) t)

@@ -57,14 +57,14 @@ unfoldable pub seen : State → List ℕ → List ℕ
 seen q [] = []
 seen q (b ∷ s) = (step q b).sign ++ seen (step q b).state s
 
-abbrev pub isDead : State → Bool
-isDead (operand d) = false
-isDead (operator d) = false
-isDead (digit d) = false
-isDead (within b w q) = false
-isDead dead = true
+abbrev pub is_dead : State → Bool
+is_dead (operand d) = false
+is_dead (operator d) = false
+is_dead (digit d) = false
+is_dead (within b w q) = false
+is_dead dead = true
 
 -- how many bytes it passes before it is lost
 unfoldable pub passed : State → List ℕ → ℕ
 passed q [] = 0
-passed q (b ∷ s) = let r = suc (passed (step q b).state s) in cond (isDead (step q b).state) 0 r
+passed q (b ∷ s) = let r = suc (passed (step q b).state s) in cond (is_dead (step q b).state) 0 r

@@ -9,9 +9,9 @@ use native.Mathlib.Decide.{ℕ_discrete}
 use native.Mathlib.Omega.{arith}
 use lib.ListN.{length, get_or, set, length-set, drop, replicate, length-replicate, get_or-replicate, get_or-append}
 use lib.Seq.{get_or-set_same, get_or-set_other}
-use Rattle.sequences.specs.Tabulate.{tabulate, leastBelow}
-use Rattle.sequences.proofs.Loops.{Filled, length-tab, getD-tab, Missed, missed-end}
-use Rattle.moore.specs.Grouping.{entry, sameStep}
+use Rattle.sequences.specs.Tabulate.{tabulate, least_below}
+use Rattle.sequences.proofs.Loops.{Filled, length-tab, get_d-tab, Missed, missed-end}
+use Rattle.moore.specs.Grouping.{entry, same_step}
 use Rattle.moore.proofs.Tests.{bool_cases, same_name}
 use Rattle.moore.proofs.Grouping.{step→, step-equivalence}
 use Rattle.group_slots.specs.Groups.{unmasked}
@@ -36,26 +36,26 @@ mixed-same (suc n) f g s h = ap₂ (λ (t x : ℕ). (t * 5 + x) % 1024) (mixed-s
 
 -- ---- a round
 module _ (w : ℕ) (rows : List (List ℕ)) (group : List ℕ) where
-  slot_same : (j i : ℕ) → sameStep (unmasked w) rows group j i ≡ true → slot_of w rows group j ≡ slot_of w rows group i
+  slot_same : (j i : ℕ) → same_step (unmasked w) rows group j i ≡ true → slot_of w rows group j ≡ slot_of w rows group i
   slot_same j i h =
       let p = step→ (unmasked w) rows group j i h in
       ap (λ (s : ℕ). mixed w (λ e. get_or group (entry rows j e) 0) (s % 1024)) p.here
       ∙ mixed-same w (λ e. get_or group (entry rows j e) 0) (λ e. get_or group (entry rows i e) 0) (get_or group i 0 % 1024) (λ e l. p.then e (l, tt))
 
   -- no state before i is left with i: those but state 0 would be in the slot
-  pub left-none : (i j : ℕ) → InSlot i w rows group j → j ≡ 0 → sameStep (unmasked w) rows group j i ≡ false → i ≡ leastBelow i (λ k. sameStep (unmasked w) rows group k i)
+  pub left-none : (i j : ℕ) → InSlot i w rows group j → j ≡ 0 → same_step (unmasked w) rows group j i ≡ false → i ≡ least_below i (λ k. same_step (unmasked w) rows group k i)
   left-none i j h z n = sym (missed-end none i refl)
     where
-      other : (k : ℕ) → k < i → Dec (k ≡ 0) → sameStep (unmasked w) rows group k i ≡ false
-      other k m (yes e) = subst (λ (x : ℕ). sameStep (unmasked w) rows group x i ≡ false) (z ∙ sym e) n
-      other k m (no e) = elim (bool_cases (sameStep (unmasked w) rows group k i)) [ inl t ↦ (let x = h.met k (omega arith) m t in absurd (omega arith)) | inr f ↦ f ]
+      other : (k : ℕ) → k < i → Dec (k ≡ 0) → same_step (unmasked w) rows group k i ≡ false
+      other k m (yes e) = subst (λ (x : ℕ). same_step (unmasked w) rows group x i ≡ false) (z ∙ sym e) n
+      other k m (no e) = elim (bool_cases (same_step (unmasked w) rows group k i)) [ inl t ↦ (let x = h.met k (omega arith) m t in absurd (omega arith)) | inr f ↦ f ]
 
-      none : Missed i (λ k. sameStep (unmasked w) rows group k i)
+      none : Missed i (λ k. same_step (unmasked w) rows group k i)
       none = record { none = λ k m. other k m (ℕ_discrete k 0) }
 
   -- j is left with i
-  pub left-same : (i j : ℕ) (next : List ℕ) → LeftBelow i w rows group next → j < i → sameStep (unmasked w) rows group j i ≡ true
-      → get_or next j 0 ≡ leastBelow i (λ k. sameStep (unmasked w) rows group k i)
+  pub left-same : (i j : ℕ) (next : List ℕ) → LeftBelow i w rows group next → j < i → same_step (unmasked w) rows group j i ≡ true
+      → get_or next j 0 ≡ least_below i (λ k. same_step (unmasked w) rows group k i)
   left-same i j next h l e = h.left j l ∙ same_name (step-equivalence (unmasked w) rows group) j i e
 
   -- what the slot of i has
@@ -65,16 +65,16 @@ module _ (w : ℕ) (rows : List (List ℕ)) (group : List ℕ) where
     met = λ k o m t. subst (λ (x : ℕ). 0 < x) (ap (λ (x : ℕ). get_or slots x 0) (slot_same k i t ∙ sym e) ∙ sym q) (h.met k o m);
   }
 
-  pub left_below : (i : ℕ) {d next : List ℕ} → Filled i (λ k. leastBelow k (λ j. sameStep (unmasked w) rows group j k)) d next → LeftBelow i w rows group next
+  pub left_below : (i : ℕ) {d next : List ℕ} → Filled i (λ k. least_below k (λ j. same_step (unmasked w) rows group j k)) d next → LeftBelow i w rows group next
   left_below i {d} {next} h = record {
     left = λ k l.
         ap (λ (t : List ℕ). get_or t k 0) h.is
         ∙ get_or-append (tabulate i f) (drop i d) 0 k (subst (λ (x : ℕ). k < x) (sym (length-tab i f)) l)
-        ∙ getD-tab i f k 0 l;
+        ∙ get_d-tab i f k 0 l;
   }
     where
       f : ℕ → ℕ
-      f k = leastBelow k (λ j. sameStep (unmasked w) rows group j k)
+      f k = least_below k (λ j. same_step (unmasked w) rows group j k)
 
   -- ---- the slots
   pub slotted-none : (slots : List ℕ) → slots ≡ replicate 1024 0 → Slotted 0 w rows group slots

@@ -1,7 +1,7 @@
 -- The slots in which a round looks for states that it leaves together.
 use Rattle.std.specs.Prelude.{◌≡◌, true, List, ℕ, zero, suc, ◌+◌, ◌-◌, ◌*◌, ◌%◌, ◌≤◌, ◌<◌, length, get_or}
-use Rattle.sequences.specs.Tabulate.{leastBelow}
-use Rattle.moore.specs.Grouping.{entry, sameStep}
+use Rattle.sequences.specs.Tabulate.{least_below}
+use Rattle.moore.specs.Grouping.{entry, same_step}
 use Rattle.group_slots.specs.Groups.{unmasked}
 
 -- s mixed with f 0, f 1, .., f (n - 1)
@@ -22,8 +22,8 @@ pub record Slotted (i w : ℕ) (rows : List (List ℕ)) (group slots : List ℕ)
 -- j is a state before i, or 0, and not 0 if the round leaves any state before i but state 0 with i
 pub record InSlot (i w : ℕ) (rows : List (List ℕ)) (group : List ℕ) (j : ℕ) : Type 0 where
   pub low : j ≤ i - 1
-  pub met : (k : ℕ) → 0 < k → k < i → sameStep (unmasked w) rows group k i ≡ true → 0 < j
+  pub met : (k : ℕ) → 0 < k → k < i → same_step (unmasked w) rows group k i ≡ true → 0 < j
 
 -- next has for each state before i the least that the round leaves with it
 pub record LeftBelow (i w : ℕ) (rows : List (List ℕ)) (group next : List ℕ) : Type 0 where
-  pub left : (k : ℕ) → k < i → get_or next k 0 ≡ leastBelow k (λ j. sameStep (unmasked w) rows group j k)
+  pub left : (k : ℕ) → k < i → get_or next k 0 ≡ least_below k (λ j. same_step (unmasked w) rows group j k)

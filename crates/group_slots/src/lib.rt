@@ -1,7 +1,7 @@
 // The least state that a round leaves with a state: states compared by their groups and their successors' groups, and found by slots, a hash table.
 ghost use Rattle.std.specs.Prelude.{◌≡◌, ◌+◌, ◌≤◌, ◌<◌};
-ghost use Rattle.sequences.specs.Tabulate.{leastBelow};
-ghost use Rattle.moore.specs.Grouping.{entry, together, sameStep};
+ghost use Rattle.sequences.specs.Tabulate.{least_below};
+ghost use Rattle.moore.specs.Grouping.{entry, together, same_step};
 ghost use Rattle.group_slots.specs.Groups.{unmasked, Least};
 ghost use Rattle.group_slots.specs.Slots.{slot_of, LeftBelow, InSlot};
 
@@ -26,7 +26,7 @@ pub fn joined(group: &[u8; 256], i: usize, j: usize) -> bool
 // Whether two states are in one group, and so are their successors at each event.
 fn same_step(rows: &[[u8; 16]; 256], group: &[u8; 256], events: usize, j: usize, i: usize) -> bool
     requires { (events ≤ 16) × (j < 256) × (i < 256) }
-    ensures { result ≡ sameStep (unmasked events) rows.now group.now j i }
+    ensures { result ≡ same_step (unmasked events) rows.now group.now j i }
 {
     if !joined(group, j, i) {
         return false;
@@ -48,7 +48,7 @@ fn same_step(rows: &[[u8; 16]; 256], group: &[u8; 256], events: usize, j: usize,
 fn least_same(rows: &[[u8; 16]; 256], group: &[u8; 256], events: usize, i: usize) -> u8
     requires events_bound { (events ≤ 16) × (i < 256) }
     requires least { Least (i + 1) group.now }
-    ensures { result ≡ leastBelow i (λ j. sameStep (unmasked events) rows.now group.now j i) }
+    ensures { result ≡ least_below i (λ j. same_step (unmasked events) rows.now group.now j i) }
 {
     let mut j: usize = wide(group[i]);
     while j < i {
@@ -88,7 +88,7 @@ pub fn least_by_slot(
     requires events_bound { (events ≤ 16) × (i < 256) }
     requires least { Least (i + 1) group.now }
     requires left_below { LeftBelow i events rows.now group.now next.now × InSlot i events rows.now group.now j }
-    ensures { result ≡ leastBelow i (λ j. sameStep (unmasked events) rows.now group.now j i) }
+    ensures { result ≡ least_below i (λ j. same_step (unmasked events) rows.now group.now j i) }
 {
     if i == 0 {
         return 0;

@@ -7,10 +7,10 @@ use lib.ListN.{get_or}
 use Rattle.sequences.proofs.Pointwise.{tabulate-same, all_same}
 use Rattle.meaning.specs.Traces.{Alphabet}
 use Rattle.moore.specs.Grouping.{entry, together}
-use Rattle.moore.specs.Quotient.{closed, verdictByte}
+use Rattle.moore.specs.Quotient.{closed, verdict_byte}
 use Rattle.group_slots.specs.Groups.{unmasked}
 use Rattle.refinement.specs.Rows.{Cleared}
-use Rattle.grouping.specs.Machines.{verdictAt, row_at}
+use Rattle.grouping.specs.Machines.{verdict_at, row_at}
 use Rattle.grouping.specs.Reduction.{padded}
 
 module _ {Σ : Alphabet} {n : ℕ} {rows rows' : List (List ℕ)} (h : Cleared Σ Σ.width n rows rows') (s : ℕ) (l : s < n) where
@@ -25,9 +25,9 @@ module _ {Σ : Alphabet} {n : ℕ} {rows rows' : List (List ℕ)} (h : Cleared �
       go true x = refl
       go false x = refl
 
-  pub verdict-cleared : (classes group : List ℕ) → verdictAt Σ rows' classes group s ≡ verdictAt Σ rows classes group s
-  unfolding verdictAt
-  verdict-cleared classes group = ap (verdictByte (get_or classes s 0)) (closed-cleared group)
+  pub verdict-cleared : (classes group : List ℕ) → verdict_at Σ rows' classes group s ≡ verdict_at Σ rows classes group s
+  unfolding verdict_at
+  verdict-cleared classes group = ap (verdict_byte (get_or classes s 0)) (closed-cleared group)
 
   -- an event that cannot happen has the number of the group of state 0
   pub row-cleared : (numbers : List ℕ) → get_or numbers 0 0 ≡ 0 → row_at (unmasked Σ.width) rows' numbers s ≡ row_at Σ rows numbers s

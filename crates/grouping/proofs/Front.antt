@@ -9,7 +9,7 @@ use lib.ListN.{get_or, take}
 use Rattle.meaning.specs.Traces.{Alphabet}
 use Rattle.sequences.specs.Tabulate.{tabulate}
 use Rattle.meaning.specs.Monitors.{keep}
-use Rattle.moore.specs.Counting.{countBelow}
+use Rattle.moore.specs.Counting.{count_below}
 use Rattle.moore.specs.Grouping.{entry, together, leads}
 use Rattle.moore.specs.Quotient.{leaders, leader, size, number, closed}
 use Rattle.group_slots.specs.Groups.{RowBelow}
@@ -20,7 +20,7 @@ pub map-tabulate : {A B : Type 0} (h : A → B) (n : ℕ) (f : ℕ → A) → ma
 map-tabulate h zero f = refl
 map-tabulate {B = B} h (suc n) f = ap (λ (l : List B). h (f zero) ∷ l) (map-tabulate h n (λ i. f (suc i)))
 
-count_same : (n : ℕ) (p q : ℕ → Bool) → ((i : ℕ) → i < n → p i ≡ q i) → countBelow n p ≡ countBelow n q
+count_same : (n : ℕ) (p q : ℕ → Bool) → ((i : ℕ) → i < n → p i ≡ q i) → count_below n p ≡ count_below n q
 count_same zero p q h = refl
 count_same (suc n) p q h = ap₂ (λ (a : Bool) (b : ℕ). cond a (suc b) b) (h n (omega arith)) (count_same n p q (λ i l. h i (omega arith)))
 
@@ -44,7 +44,7 @@ module _ (n : ℕ) (group : List ℕ) where
 
   pub number-front : (i : ℕ) → i < n → get_or group i 0 ≤ n → number (take n group) i ≡ number group i
   unfolding number
-  number-front i l h = ap (λ (x : ℕ). countBelow x (leads (take n group))) (front_at n group i l) ∙ count_same (get_or group i 0) (leads (take n group)) (leads group) (λ j m. leads-front j (omega arith))
+  number-front i l h = ap (λ (x : ℕ). count_below x (leads (take n group))) (front_at n group i l) ∙ count_same (get_or group i 0) (leads (take n group)) (leads group) (λ j m. leads-front j (omega arith))
 
   pub closed-front : (Σ : Alphabet) (rows : List (List ℕ)) (s : ℕ) → s < n → RowBelow Σ n (get_or rows s []) → closed Σ rows (take n group) s ≡ closed Σ rows group s
   unfolding closed

@@ -13,43 +13,43 @@ use Rattle.sequences.specs.Tabulate.{tabulate, up_to}
 use Rattle.sequences.proofs.Loops.{Filled, filled-to, length-tab}
 use Rattle.meaning.specs.Traces.{Alphabet}
 use Rattle.meaning.specs.Monitors.{keep}
-use Rattle.moore.specs.Counting.{countBelow}
+use Rattle.moore.specs.Counting.{count_below}
 use Rattle.moore.specs.Grouping.{leads}
 use Rattle.moore.specs.Quotient.{leaders, leader, size, closed}
 use Rattle.moore.proofs.Counting.{count-le, count-lt, standing}
-use Rattle.grouping.specs.Machines.{Leaders, verdictAt}
+use Rattle.grouping.specs.Machines.{Leaders, verdict_at}
 use Rattle.grouping.specs.Reduction.{padded}
 
 -- ---- numbers
-pub count-step : (p : ℕ → Bool) (i q r : ℕ) → q ≡ countBelow i p → r ≡ cond (p i) (q + 1) q → r ≡ countBelow (i + 1) p
+pub count-step : (p : ℕ → Bool) (i q r : ℕ) → q ≡ count_below i p → r ≡ cond (p i) (q + 1) q → r ≡ count_below (i + 1) p
 count-step p i q r e h = rw (add-one i) (h ∙ ap (λ (x : ℕ). cond (p i) x q) (add-one q) ∙ ap (λ (x : ℕ). cond (p i) (suc x) x) e)
 
-pub count-step-le : (p : ℕ → Bool) (i q r : ℕ) → q ≡ countBelow i p → r ≡ cond (p i) (q + 1) q → r ≤ i + 1
+pub count-step-le : (p : ℕ → Bool) (i q r : ℕ) → q ≡ count_below i p → r ≡ cond (p i) (q + 1) q → r ≤ i + 1
 count-step-le p i q r e h = subst (λ (x : ℕ). x ≤ i + 1) (sym (count-step p i q r e h)) (count-le (i + 1) p)
 
 -- those of the first i that pass stand each at its count: the invariant of a loop that lists what passes
 pub record Listed (i : ℕ) (p : ℕ → Bool) (s : List ℕ) : Type 0 where
-  pub at : (j : ℕ) → j < i → p j ≡ true → get_or s (countBelow j p) 0 ≡ j
+  pub at : (j : ℕ) → j < i → p j ≡ true → get_or s (count_below j p) 0 ≡ j
 
 pub listed-none : {p : ℕ → Bool} {s : List ℕ} → Listed 0 p s
 listed-none = record { at = λ j l. absurd (omega arith) }
 
-pub listed_more : (i q : ℕ) (p : ℕ → Bool) (s : List ℕ) → Listed i p s → q ≡ countBelow i p → q < length s → Listed (i + 1) p (set s q i)
+pub listed_more : (i q : ℕ) (p : ℕ → Bool) (s : List ℕ) → Listed i p s → q ≡ count_below i p → q < length s → Listed (i + 1) p (set s q i)
 listed_more i q p s h e l = record { at = λ j m t. go j m t (dec_lt j i) }
   where
-    go : (j : ℕ) → j < i + 1 → p j ≡ true → Dec (j < i) → get_or (set s q i) (countBelow j p) 0 ≡ j
-    go j m t (yes g) = let x : countBelow j p < countBelow i p = count-lt j i p g t in get_or-set_other s q (countBelow j p) i 0 (λ z. omega arith) ∙ h.at j g t
-    go j m t (no g) = let x : j ≡ i = omega arith in ap (λ (k : ℕ). get_or (set s q i) (countBelow k p) 0) x ∙ ap (λ (k : ℕ). get_or (set s q i) k 0) (sym e) ∙ get_or-set_same s q i 0 l ∙ sym x
+    go : (j : ℕ) → j < i + 1 → p j ≡ true → Dec (j < i) → get_or (set s q i) (count_below j p) 0 ≡ j
+    go j m t (yes g) = let x : count_below j p < count_below i p = count-lt j i p g t in get_or-set_other s q (count_below j p) i 0 (λ z. omega arith) ∙ h.at j g t
+    go j m t (no g) = let x : j ≡ i = omega arith in ap (λ (k : ℕ). get_or (set s q i) (count_below k p) 0) x ∙ ap (λ (k : ℕ). get_or (set s q i) k 0) (sym e) ∙ get_or-set_same s q i 0 l ∙ sym x
 
-pub listed-end : (n i r : ℕ) (group s : List ℕ) → Listed i (leads group) s → i ≡ n → r ≡ countBelow i (leads group) → Leaders n group r s
+pub listed-end : (n i r : ℕ) (group s : List ℕ) → Listed i (leads group) s → i ≡ n → r ≡ count_below i (leads group) → Leaders n group r s
 unfolding size leader leaders
 listed-end n i r group s h e c = record {
   count = sum;
   at = λ q l. let t = standing n (leads group) q (subst (λ (x : ℕ). q < x) sum l) in let j = get_or (keep (leads group) (up_to n)) q 0 in sym (ap (λ (x : ℕ). get_or s x 0) t.count) ∙ h.at j (subst (λ (x : ℕ). j < x) (sym e) t.below) t.passes;
 }
   where
-    sum : r ≡ countBelow n (leads group)
-    sum = c ∙ ap (λ (x : ℕ). countBelow x (leads group)) e
+    sum : r ≡ count_below n (leads group)
+    sum = c ∙ ap (λ (x : ℕ). count_below x (leads group)) e
 
 -- ---- events that can happen
 -- an event that leads back to its own group
@@ -64,12 +64,12 @@ away-is can back false h e = rw (← e)
 
 -- ---- verdicts and rows
 module _ (Σ : Alphabet) (rows : List (List ℕ)) (classes group : List ℕ) (s : ℕ) where
-  pub verdict-of-class : (get_or classes s 0 ≡ 0 → ⊥) → get_or classes s 0 ≡ verdictAt Σ rows classes group s
-  unfolding verdictAt
+  pub verdict-of-class : (get_or classes s 0 ≡ 0 → ⊥) → get_or classes s 0 ≡ verdict_at Σ rows classes group s
+  unfolding verdict_at
   verdict-of-class h = rw (ne_eqb (get_or classes s 0) 0 h)
 
-  pub verdict-of-none : (b : Bool) → get_or classes s 0 ≡ 0 → b ≡ closed Σ rows group s → cond b 3 0 ≡ verdictAt Σ rows classes group s
-  unfolding verdictAt
+  pub verdict-of-none : (b : Bool) → get_or classes s 0 ≡ 0 → b ≡ closed Σ rows group s → cond b 3 0 ≡ verdict_at Σ rows classes group s
+  unfolding verdict_at
   verdict-of-none b h e = rw (e, h)
 
 pub row-filled : (w : ℕ) {i : ℕ} {f : ℕ → ℕ} {row : List ℕ} → Filled i f (replicate 16 0) row → i ≡ w → row ≡ padded (tabulate w f)

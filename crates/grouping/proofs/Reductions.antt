@@ -7,10 +7,10 @@ use native.Mathlib.Omega.{arith}
 use lib.ListN.{get_or, take, drop}
 use Rattle.sequences.proofs.Pointwise.{tabulate-same}
 use Rattle.sequences.specs.Tabulate.{tabulate}
-use Rattle.sequences.proofs.Loops.{getD-tab}
+use Rattle.sequences.proofs.Loops.{get_d-tab}
 use Rattle.meaning.specs.Traces.{Alphabet, masked}
 use Rattle.moore.specs.Grouping.{entry, Machine, leads, grouping, Grouped, Stable}
-use Rattle.moore.specs.Quotient.{leader, size, number, closed, verdictByte, verdicts, quotientRows}
+use Rattle.moore.specs.Quotient.{leader, size, number, closed, verdict_byte, verdicts, quotient_rows}
 use Rattle.moore.proofs.Counting.{count-le}
 use Rattle.moore.proofs.Grouping.{grouping-grouped, grouping-stable}
 use Rattle.moore.proofs.Quotient.{leader-in, number_in, number-start}
@@ -18,7 +18,7 @@ use Rattle.group_slots.specs.Groups.{unmasked, RowsBelow, Least}
 use Rattle.refinement.specs.Rows.{Cleared}
 use Rattle.refinement.proofs.Laws.{taken_at}
 use Rattle.refinement.proofs.Front.{front_at}
-use Rattle.grouping.specs.Machines.{Leaders, verdictAt, row_at}
+use Rattle.grouping.specs.Machines.{Leaders, verdict_at, row_at}
 use Rattle.grouping.specs.Reduction.{padded, Reduction}
 use Rattle.grouping.proofs.Front.{map-tabulate, size-front, leader-front, number-front, closed-front}
 use Rattle.grouping.proofs.Clearing.{verdict-cleared, row-cleared}
@@ -66,30 +66,30 @@ module _ {Σ : Alphabet} {n : ℕ} {rows : List (List ℕ)} {classes : List ℕ}
     unfolding size
     leaders-fewer = subst (λ (k : ℕ). k ≤ n) (sym L.count) (count-le n (leads group))
 
-    verdicts-are : {rows' : List (List ℕ)} → Cleared Σ Σ.width n rows rows' → tabulate r (λ q. verdictAt Σ rows' classes group (get_or least q 0)) ≡ verdicts Σ n rows classes front
-    unfolding verdicts verdictAt leader front
-    verdicts-are {rows'} C =
-        tabulate-same r (λ q. verdictAt Σ rows' classes group (get_or least q 0)) byte (λ q l.
+    verdicts_are : {rows' : List (List ℕ)} → Cleared Σ Σ.width n rows rows' → tabulate r (λ q. verdict_at Σ rows' classes group (get_or least q 0)) ≡ verdicts Σ n rows classes front
+    unfolding verdicts verdict_at leader front
+    verdicts_are {rows'} C =
+        tabulate-same r (λ q. verdict_at Σ rows' classes group (get_or least q 0)) byte (λ q l.
         verdict-cleared C (get_or least q 0) (least-in q l) classes group
-        ∙ ap (λ (b : Bool). verdictByte (get_or classes (get_or least q 0) 0) b) (sym (closed-front n group Σ rows (get_or least q 0) (least-in q l) ((rows_in M).row (get_or least q 0) (least-in q l))))
-        ∙ ap (λ (s : ℕ). verdictByte (get_or classes s 0) (closed Σ rows front s)) (least-is q l))
+        ∙ ap (λ (b : Bool). verdict_byte (get_or classes (get_or least q 0) 0) b) (sym (closed-front n group Σ rows (get_or least q 0) (least-in q l) ((rows_in M).row (get_or least q 0) (least-in q l))))
+        ∙ ap (λ (s : ℕ). verdict_byte (get_or classes s 0) (closed Σ rows front s)) (least-is q l))
         ∙ ap (λ (k : ℕ). tabulate k byte) count-is
       where
         byte : ℕ → ℕ
-        byte q = verdictByte (get_or classes (leader n front q) 0) (closed Σ rows front (leader n front q))
+        byte q = verdict_byte (get_or classes (leader n front q) 0) (closed Σ rows front (leader n front q))
 
     module _ {rows' : List (List ℕ)} (C : Cleared Σ Σ.width n rows rows') (numbers : List ℕ) (N : take n numbers ≡ tabulate n (number group)) where
       number_at : (i : ℕ) → i < n → get_or numbers i 0 ≡ get_or (tabulate n (number front)) i 0
       unfolding front
       number_at i l =
           let h = group-least.least i l in
-          taken_at n numbers (number group) N i 0 l ∙ sym (number-front n group i l (omega arith)) ∙ sym (getD-tab n (number (take n group)) i 0 l)
+          taken_at n numbers (number group) N i 0 l ∙ sym (number-front n group i l (omega arith)) ∙ sym (get_d-tab n (number (take n group)) i 0 l)
 
       number-zero : get_or numbers 0 0 ≡ 0
-      number-zero = number_at 0 M.some ∙ getD-tab n (number front) 0 0 M.some ∙ number-start M G S
+      number-zero = number_at 0 M.some ∙ get_d-tab n (number front) 0 0 M.some ∙ number-start M G S
 
-      rows_are : tabulate r (λ q. row_at (unmasked Σ.width) rows' numbers (get_or least q 0)) ≡ map padded (quotientRows Σ n rows front)
-      unfolding quotientRows row_at leader front
+      rows_are : tabulate r (λ q. row_at (unmasked Σ.width) rows' numbers (get_or least q 0)) ≡ map padded (quotient_rows Σ n rows front)
+      unfolding quotient_rows row_at leader front
       rows_are =
           tabulate-same r (λ q. row_at (unmasked Σ.width) rows' numbers (get_or least q 0)) (λ q. padded (row q)) (λ q l.
           row-cleared C (get_or least q 0) (least-in q l) numbers number-zero
@@ -108,7 +108,7 @@ module _ {Σ : Alphabet} {n : ℕ} {rows : List (List ℕ)} {classes : List ℕ}
           go q e l m false p = refl
 
       pub reduction : (Σ' : Alphabet) (m : ℕ) (bytes bytes' : List ℕ) (to to' : List (List ℕ)) → Σ ≡ Σ' → n ≡ m
-          → bytes' ≡ tabulate r (λ q. verdictAt Σ rows' classes group (get_or least q 0)) ++ drop r bytes
+          → bytes' ≡ tabulate r (λ q. verdict_at Σ rows' classes group (get_or least q 0)) ++ drop r bytes
           → to' ≡ tabulate r (λ q. row_at (unmasked Σ.width) rows' numbers (get_or least q 0)) ++ drop r to → Reduction Σ' m rows classes bytes to r bytes' to'
       unfolding front
       reduction Σ' m bytes bytes' to to' p q b t =
@@ -117,6 +117,6 @@ module _ {Σ : Alphabet} {n : ℕ} {rows : List (List ℕ)} {classes : List ℕ}
             count = count-is ∙ ap (size n) is;
             some = leaders-some;
             fewer = leaders-fewer;
-            verdicts-are = b ∙ ap (λ (l : List ℕ). l ++ drop r bytes) (verdicts-are C ∙ ap (verdicts Σ n rows classes) is);
-            rows_are = t ∙ ap (λ (l : List (List ℕ)). l ++ drop r to) (rows_are ∙ ap (λ (g : List ℕ). map padded (quotientRows Σ n rows g)) is);
+            verdicts_are = b ∙ ap (λ (l : List ℕ). l ++ drop r bytes) (verdicts_are C ∙ ap (verdicts Σ n rows classes) is);
+            rows_are = t ∙ ap (λ (l : List (List ℕ)). l ++ drop r to) (rows_are ∙ ap (λ (g : List ℕ). map padded (quotient_rows Σ n rows g)) is);
           }))

@@ -2,7 +2,7 @@
 use Rattle.std.specs.Prelude.{◌≡◌, List, ◌++◌, map, ℕ, ◌≤◌, ◌<◌, length, drop, replicate}
 use Rattle.meaning.specs.Traces.{Alphabet}
 use Rattle.moore.specs.Grouping.{grouping}
-use Rattle.moore.specs.Quotient.{size, verdicts, quotientRows}
+use Rattle.moore.specs.Quotient.{size, verdicts, quotient_rows}
 
 -- a row of successors in an array of sixteen, with 0 past the last of them
 abbrev pub padded : List ℕ → List ℕ
@@ -13,5 +13,5 @@ pub record Reduction (Σ : Alphabet) (n : ℕ) (rows : List (List ℕ)) (classes
   pub count : r ≡ size n (grouping Σ n rows classes)
   pub some : 0 < r
   pub fewer : r ≤ n
-  pub verdicts-are : bytes' ≡ verdicts Σ n rows classes (grouping Σ n rows classes) ++ drop r bytes
-  pub rows_are : to' ≡ map padded (quotientRows Σ n rows (grouping Σ n rows classes)) ++ drop r to
+  pub verdicts_are : bytes' ≡ verdicts Σ n rows classes (grouping Σ n rows classes) ++ drop r bytes
+  pub rows_are : to' ≡ map padded (quotient_rows Σ n rows (grouping Σ n rows classes)) ++ drop r to

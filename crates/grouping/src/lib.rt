@@ -3,11 +3,11 @@ ghost use Rattle.std.specs.Prelude.{◌≡◌, true, cond, List, ◌++◌, ℕ, 
 ghost use Rattle.sequences.specs.Tabulate.{tabulate};
 ghost use Rattle.meaning.specs.Bytes.{bit};
 ghost use Rattle.meaning.specs.Traces.{masked};
-ghost use Rattle.moore.specs.Counting.{countBelow};
+ghost use Rattle.moore.specs.Counting.{count_below};
 ghost use Rattle.moore.specs.Grouping.{Machine, entry, together, leads};
 ghost use Rattle.moore.specs.Quotient.{number, closed};
 ghost use Rattle.group_slots.specs.Groups.{unmasked, Least};
-ghost use Rattle.grouping.specs.Machines.{Leaders, verdictAt, row_at};
+ghost use Rattle.grouping.specs.Machines.{Leaders, verdict_at, row_at};
 ghost use Rattle.grouping.specs.Reduction.{Reduction};
 
 use events::{mask_has, width};
@@ -29,7 +29,7 @@ fn counted(group: &[u8; 256], i: usize, count: usize) -> usize
 // How many groups have a least state below each state.
 fn ranks(group: &[u8; 256], states: usize) -> [u8; 256]
     requires { states ≤ 256 }
-    ensures { take states result ≡ tabulate states (λ i. countBelow i (leads group.now)) }
+    ensures { take states result ≡ tabulate states (λ i. count_below i (leads group.now)) }
 {
     let mut rank = [0u8; 256];
     let mut below: usize = 0;
@@ -111,7 +111,7 @@ fn verdict_of(
     s: usize,
 ) -> u8
     requires { (events ≤ 16) × (s < 256) }
-    ensures { result ≡ verdictAt (masked events mask) rows.now classes.now group.now s }
+    ensures { result ≡ verdict_at (masked events mask) rows.now classes.now group.now s }
 {
     let class = classes[s];
     if class != 0 {
@@ -135,7 +135,7 @@ fn put_verdicts(
     verdicts: &mut [u8; 256],
 )
     requires { (events ≤ 16) × (count ≤ 256) × (length verdicts.old ≡ 256) }
-    ensures { verdicts.new ≡ tabulate count (λ q. verdictAt (masked events mask) rows.now classes.now group.now (get_or least.now q 0)) ++ drop count verdicts.old }
+    ensures { verdicts.new ≡ tabulate count (λ q. verdict_at (masked events mask) rows.now classes.now group.now (get_or least.now q 0)) ++ drop count verdicts.old }
 {
     let mut q: usize = 0;
     while q < count {

@@ -10,8 +10,8 @@ use lib.Dec.{T}
 use Rattle.meaning.specs.Bytes.{bit}
 use Rattle.meaning.specs.Traces.{Event}
 use Rattle.meaning.specs.Verdicts.{AllSatisfy}
-use Rattle.meaning.specs.RuleFiles.{Rule, alphabetOf, propertyOf}
-use Rattle.infinite.specs.Infinite.{Continuation∞, propertyOf∞, AllSatisfy∞}
+use Rattle.meaning.specs.RuleFiles.{Rule, alphabet_of, property_of}
+use Rattle.infinite.specs.Infinite.{Continuation∞, property_of∞, AllSatisfy∞}
 use Rattle.infinite.proofs.SameOverAll.{same-over-all}
 
 -- a 1 comes in the sequence of bits
@@ -31,7 +31,7 @@ either = record {
       ∷ [];
 }
 
-every-lasso : AllSatisfy (alphabetOf either) (propertyOf either) []
+every-lasso : AllSatisfy (alphabet_of either) (property_of either) []
 unfolding AllSatisfy∞
 every-lasso = ((same-over-all either).all []).1 (λ σ c n. n (inr (λ x. n (inl x))))
 
@@ -39,7 +39,7 @@ every-lasso = ((same-over-all either).all []).1 (λ σ c n. n (inr (λ x. n (inl
 abbrev trace : (ℕ → Bool) → ℕ → ℕ
 trace f i = cond (f i) 1 0
 
-can-happen : (b : Bool) → Event (alphabetOf either) (cond b 1 0)
+can-happen : (b : Bool) → Event (alphabet_of either) (cond b 1 0)
 can-happen true = (omega arith, tt)
 can-happen false = (omega arith, tt)
 
@@ -51,12 +51,12 @@ true-on : (b : Bool) → T b → bit 0 (cond b 1 0) ≡ 1
 true-on true t = refl
 
 pub double-negation-needed :
-    (AllSatisfy (alphabetOf either) (propertyOf either) []
-    → (σ : ℕ → ℕ) → Continuation∞ (alphabetOf either) σ → propertyOf∞ either σ)
+    (AllSatisfy (alphabet_of either) (property_of either) []
+    → (σ : ℕ → ℕ) → Continuation∞ (alphabet_of either) σ → property_of∞ either σ)
     → (f : ℕ → Bool) → Dec (Comes f)
 double-negation-needed h f = go (h every-lasso (trace f) (λ i. can-happen (f i)))
   where
-    go : propertyOf∞ either (trace f) → Dec (Comes f)
+    go : property_of∞ either (trace f) → Dec (Comes f)
     go (inl u) = yes (u.time, on-true (f u.time) u.there)
     go (inr n) = no (λ x.
         n (record { time = x.0; after = omega arith; there = true-on (f x.0) x.1; before = λ k p q. tt }))

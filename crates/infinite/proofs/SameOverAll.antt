@@ -9,21 +9,21 @@ use Rattle.meaning.specs.Traces.{Alphabet, Word, Lasso, at, prepend, Continuatio
 use Rattle.meaning.specs.Formulas.{Formula, Sat, Holds}
 use Rattle.meaning.specs.Verdicts.{Property, NoneSatisfies, AllSatisfy, NeverDecided, Judged, SameResidual, MoreThan}
 use Rattle.meaning.specs.Monitors.{Monitor, shows, ShowsVerdicts}
-use Rattle.meaning.specs.RuleFiles.{Rule, ruleFormula, alphabetOf, propertyOf}
-use Rattle.meaning.specs.Demands.{Demand-2, Demand-3, Demands}
+use Rattle.meaning.specs.RuleFiles.{Rule, rule_formula, alphabet_of, property_of}
+use Rattle.meaning.specs.Demands.{Demand2, Demand3, Demands}
 use Rattle.meaning.specs.declared.Verdict.{Verdict}
 use Rattle.meaning.specs.declared.Verdict.TheVariants.{Undecided, Satisfied, Violated, Moot}
 use Rattle.ltl.specs.Nodes.{splits}
 use Rattle.ltl.proofs.Truth.{iff-trans, iff-sym}
 use Rattle.ltl.proofs.Deciding.{stable}
 use Rattle.ltl.proofs.Shift.{shift-iff}
-use Rattle.ltl.proofs.Decidable.{decHolds}
-use Rattle.ltl.proofs.Instance.{made-tabulates, root_is, ltlSystem}
+use Rattle.ltl.proofs.Decidable.{dec_holds}
+use Rattle.ltl.proofs.Instance.{made-tabulates, root_is, ltl_system}
 use Rattle.smallest.specs.Builder.{Built as BuiltBy}
 use Rattle.building.proofs.Right.{our-demands}
-use Rattle.infinite.specs.Infinite.{Continuation∞, prepend∞, Property∞, propertyOf∞}
+use Rattle.infinite.specs.Infinite.{Continuation∞, prepend∞, Property∞, property_of∞}
 use Rattle.infinite.specs.Infinite.{NoneSatisfies∞, AllSatisfy∞, NeverDecided∞, Judged∞, SameResidual∞, MoreThan∞}
-use Rattle.infinite.specs.Infinite.{ShowsVerdicts∞, SameOverAll, Demand-2∞, Demand-3∞, Demands∞}
+use Rattle.infinite.specs.Infinite.{ShowsVerdicts∞, SameOverAll, Demand2∞, Demand3∞, Demands∞}
 use Rattle.infinite.proofs.Twins.{twin}
 
 -- ---- a lasso is an infinite trace
@@ -49,12 +49,12 @@ record Twinned (Σ : Alphabet) (L : Property) (L∞ : Property∞) : Type 0 wher
   decide : (ρ : Lasso) → Dec (L ρ)
   twin : (σ : ℕ → ℕ) → Continuation∞ Σ σ → ¬ ¬ PropertyTwin Σ L L∞ σ
 
-twinned : (r : Rule) → Twinned (alphabetOf r) (propertyOf r) (propertyOf∞ r)
-unfolding propertyOf
+twinned : (r : Rule) → Twinned (alphabet_of r) (property_of r) (property_of∞ r)
+unfolding property_of
 twinned r = record {
-  of-lasso = holds_at (ruleFormula r);
-  decide = λ ρ. decHolds ρ (ruleFormula r) 0;
-  twin = λ σ c g. twin (made-tabulates (alphabetOf r) (splits r.nodes)) σ c (λ t. g (record {
+  of-lasso = holds_at (rule_formula r);
+  decide = λ ρ. dec_holds ρ (rule_formula r) 0;
+  twin = λ σ c g. twin (made-tabulates (alphabet_of r) (splits r.nodes)) σ c (λ t. g (record {
     lasso = t.lasso;
     continuation = t.continuation;
     same = λ w. subst (λ (f : Formula). Sat (prepend∞ w σ) f 0 ↔ Holds (prepend w t.lasso) 0 f) (root_is r.nodes)
@@ -161,10 +161,10 @@ same-over-all r =
 
 -- two rules have the same verdicts over lassos exactly if over all infinite traces
 same-verdicts : (r r' : Rule)
-    → ((w : List ℕ) → Word (alphabetOf r) w → (v : Verdict)
-    → Judged (alphabetOf r) (propertyOf r) w v ↔ Judged (alphabetOf r') (propertyOf r') w v)
-    ↔ ((w : List ℕ) → Word (alphabetOf r) w → (v : Verdict)
-    → Judged∞ (alphabetOf r) (propertyOf∞ r) w v ↔ Judged∞ (alphabetOf r') (propertyOf∞ r') w v)
+    → ((w : List ℕ) → Word (alphabet_of r) w → (v : Verdict)
+    → Judged (alphabet_of r) (property_of r) w v ↔ Judged (alphabet_of r') (property_of r') w v)
+    ↔ ((w : List ℕ) → Word (alphabet_of r) w → (v : Verdict)
+    → Judged∞ (alphabet_of r) (property_of∞ r) w v ↔ Judged∞ (alphabet_of r') (property_of∞ r') w v)
 same-verdicts r r' =
     let t = judged-iff (twinned r) in
     let t' = judged-iff (twinned r') in (
@@ -173,17 +173,17 @@ same-verdicts r r' =
     )
 
 module _ {Built : List ℕ → List ℕ → Type 0} {file : List ℕ} {rule : Rule} where
-  pub demand-2∞ : Demand-2 Built file rule → Demand-2∞ Built file rule
-  demand-2∞ d =
+  pub demand_2∞ : Demand2 Built file rule → Demand2∞ Built file rule
+  demand_2∞ d =
       let t = twinned rule in
       record {
         verdicts = λ table b w p v. iff-trans (d.verdicts table b w p v) (judged-iff t w v);
-        built-or-many = elim d.built-or-many [ inl b ↦ inl b | inr m ↦ inr ((more-iff t 256).0 m) ];
-        not-both = λ table b m. d.not-both table b ((more-iff t 256).1 m);
+        built_or_many = elim d.built_or_many [ inl b ↦ inl b | inr m ↦ inr ((more-iff t 256).0 m) ];
+        not_both = λ table b m. d.not_both table b ((more-iff t 256).1 m);
       }
 
-  pub demand-3∞ : {table : List ℕ} → Demand-3 Built file rule table → Demand-3∞ Built file rule table
-  demand-3∞ d =
+  pub demand_3∞ : {table : List ℕ} → Demand3 Built file rule table → Demand3∞ Built file rule table
+  demand_3∞ d =
       let t = twinned rule in
       record {
         form = d.form;
@@ -198,10 +198,10 @@ module _ {Built : List ℕ → List ℕ → Type 0} {file : List ℕ} {rule : Ru
 
 pub demands∞ : {Built : List ℕ → List ℕ → Type 0} → Demands Built → Demands∞ Built
 demands∞ d = record {
-  demand-2 = λ file rule reads. demand-2∞ (d.demand-2 file rule reads);
-  demand-3 = λ file rule table reads b. demand-3∞ (d.demand-3 file rule table reads b);
+  demand_2 = λ file rule reads. demand_2∞ (d.demand_2 file rule reads);
+  demand_3 = λ file rule table reads b. demand_3∞ (d.demand_3 file rule table reads b);
 }
 
 -- of our builder
-pub our-demands∞ : Demands∞ (BuiltBy ltlSystem)
+pub our-demands∞ : Demands∞ (BuiltBy ltl_system)
 our-demands∞ = demands∞ our-demands

@@ -8,11 +8,11 @@ use native.Mathlib.Omega.{arith}
 use Rattle.meaning.specs.Traces.{Alphabet, Lasso, at, prepend, Continuation}
 use Rattle.meaning.specs.Formulas.{Formula, Sat, Holds}
 use Rattle.ltl.specs.Nodes.{Split, plain, temporal, temporals, operand, obligation}
-use Rattle.ltl.specs.Nodes.{plainFormula, temporalFormula, splitFormulas}
+use Rattle.ltl.specs.Nodes.{plain_formula, temporal_formula, split_formulas}
 use Rattle.ltl.specs.Valuation.{valued}
 use Rattle.ltl.proofs.Truth.{iff-trans, iff-sym}
 use Rattle.ltl.proofs.Shift.{Agree, shift-iff}
-use Rattle.ltl.proofs.Decidable.{decHolds}
+use Rattle.ltl.proofs.Decidable.{dec_holds}
 use Rattle.ltl.proofs.Valuation.{known-none}
 use Rattle.ltl.proofs.Labels.{LabelRight, values-right, label-at-right}
 use Rattle.ltl.proofs.Recurring.{Labelled}
@@ -26,10 +26,10 @@ use Rattle.infinite.specs.Infinite.{Continuation∞, prepend∞}
 right-shift : {w v : ℕ → ℕ} {i k : ℕ} → Agree w i v k → (fs : List Formula) (j y : ℕ) (ns : List Split)
     → LabelRight w i fs j y ns → LabelRight v k fs j y ns
 right-shift a fs j y [] r = tt
-right-shift a fs j y (plain p ∷ ns) r = right-shift a (fs ++ (plainFormula fs p ∷ [])) j y ns r
+right-shift a fs j y (plain p ∷ ns) r = right-shift a (fs ++ (plain_formula fs p ∷ [])) j y ns r
 right-shift a fs j y (temporal t ∷ ns) r = (
   iff-trans (iff-sym (shift-iff (obligation fs t) a)) r.0,
-  right-shift a (fs ++ (temporalFormula fs t ∷ [])) (suc j) y ns r.1,
+  right-shift a (fs ++ (temporal_formula fs t ∷ [])) (suc j) y ns r.1,
 )
 
 -- v is u with one event before it
@@ -56,7 +56,7 @@ module _ (ns : List Split) {u v : ℕ → ℕ} (j : Joint ns u v) where
     right = right-shift b [] 0 here ns (rw (here, j.event) (right-back v ns 0 j.label j.right));
   }
 
-  joint-same : (a : ℕ) → Sat u (operand (splitFormulas [] ns) a) 0 ↔ Sat v (operand (splitFormulas [] ns) a) 0
+  joint-same : (a : ℕ) → Sat u (operand (split_formulas [] ns) a) 0 ↔ Sat v (operand (split_formulas [] ns) a) 0
   joint-same a =
       iff-trans ((values-right u 0 j.label (known-none u 0) ns j.left).right a)
       (rw j.event (iff-sym ((values-right v 0 j.label (known-none v 0) ns j.right).right a)))
@@ -66,8 +66,8 @@ pub record Twin (Σ : Alphabet) (ns : List Split) (σ : ℕ → ℕ) : Type 0 wh
   pub lasso : Lasso
   pub continuation : Continuation Σ lasso
   pub same : (w : List ℕ) (a : ℕ)
-      → Sat (prepend∞ w σ) (operand (splitFormulas [] ns) a) 0
-      ↔ Holds (prepend w lasso) 0 (operand (splitFormulas [] ns) a)
+      → Sat (prepend∞ w σ) (operand (split_formulas [] ns) a) 0
+      ↔ Holds (prepend w lasso) 0 (operand (split_formulas [] ns) a)
 
 module _ {Σ : Alphabet} {ns : List Split} {profile fair : ℕ → ℕ → ℕ} (table : Tabulates Σ ns profile fair) (σ : ℕ → ℕ)
     (c : Continuation∞ Σ σ) where
@@ -83,7 +83,7 @@ module _ {Σ : Alphabet} {ns : List Split} {profile fair : ℕ → ℕ → ℕ} 
       left = l.has;
       right = right-shift (behind (at r.lasso) (at ρ) (λ k. refl)) [] 0 l.label ns
           (subst (λ (y : ℕ). Right (at r.lasso) ns 0 y) r.is
-          (label-at-right (at r.lasso) (decHolds r.lasso) ns 0));
+          (label-at-right (at r.lasso) (dec_holds r.lasso) ns 0));
     }
     joint (e ∷ w) =
         joint-more ns (joint w) refl (behind (prepend∞ w σ) (prepend∞ (e ∷ w) σ) (λ k. refl))

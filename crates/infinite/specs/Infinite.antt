@@ -3,12 +3,12 @@
 -- lassos. No excluded middle is used, so "every one satisfies" is said as "none fails to" (¬ ¬): the two are the same
 -- where truth is decided, as it is on a lasso.
 use Rattle.std.specs.Prelude.{◌≡◌, ◌⊎◌, ◌↔◌, true, List, [], ◌∷◌, ◌++◌, ℕ, zero, suc, ◌≤◌, ◌<◌}
-use Rattle.meaning.specs.Traces.{Alphabet, Event, isEvent, Word}
+use Rattle.meaning.specs.Traces.{Alphabet, Event, is_event, Word}
 use Rattle.meaning.specs.Formulas.{Sat}
 use Rattle.meaning.specs.Verdicts.{NoneSatisfies, AllSatisfy, SameResidual, Judged, MoreThan}
 use Rattle.meaning.specs.Monitors.{Monitor, Over, shows, Renumbered, BreadthFirst}
-use Rattle.meaning.specs.RuleFiles.{Rule, ruleFormula, alphabetOf, propertyOf}
-use Rattle.meaning.specs.TableFiles.{isTable, alphabetIn, signalsIn, statesIn, monitorOf}
+use Rattle.meaning.specs.RuleFiles.{Rule, rule_formula, alphabet_of, property_of}
+use Rattle.meaning.specs.TableFiles.{is_table, alphabet_in, signals_in, states_in, monitor_of}
 use Rattle.meaning.specs.Demands.{Reads}
 use Rattle.meaning.specs.declared.Verdict.{Verdict}
 use Rattle.meaning.specs.declared.Verdict.TheVariants.{Undecided, Satisfied, Violated, Moot}
@@ -31,8 +31,8 @@ prepend∞ (e ∷ w) σ (suc i) = prepend∞ w σ i
 abbrev pub Property∞ : Type 1
 Property∞ = (ℕ → ℕ) → Type 0
 
-abbrev pub propertyOf∞ : Rule → Property∞
-propertyOf∞ r σ = Sat σ (ruleFormula r) 0
+abbrev pub property_of∞ : Rule → Property∞
+property_of∞ r σ = Sat σ (rule_formula r) 0
 
 -- "The remaining property after a list of events"
 abbrev pub residual∞ : Property∞ → List ℕ → Property∞
@@ -77,45 +77,45 @@ module _ (Σ : Alphabet) (L : Property∞) where
 -- after every list; and so are the remaining properties, and how many there are
 pub record SameOverAll (r : Rule) : Type 0 where
   pub none : (w : List ℕ)
-      → NoneSatisfies (alphabetOf r) (propertyOf r) w ↔ NoneSatisfies∞ (alphabetOf r) (propertyOf∞ r) w
-  pub all : (w : List ℕ) → AllSatisfy (alphabetOf r) (propertyOf r) w ↔ AllSatisfy∞ (alphabetOf r) (propertyOf∞ r) w
+      → NoneSatisfies (alphabet_of r) (property_of r) w ↔ NoneSatisfies∞ (alphabet_of r) (property_of∞ r) w
+  pub all : (w : List ℕ) → AllSatisfy (alphabet_of r) (property_of r) w ↔ AllSatisfy∞ (alphabet_of r) (property_of∞ r) w
   pub judged : (w : List ℕ) (v : Verdict)
-      → Judged (alphabetOf r) (propertyOf r) w v ↔ Judged∞ (alphabetOf r) (propertyOf∞ r) w v
+      → Judged (alphabet_of r) (property_of r) w v ↔ Judged∞ (alphabet_of r) (property_of∞ r) w v
   pub same : (u v : List ℕ)
-      → SameResidual (alphabetOf r) (propertyOf r) u v ↔ SameResidual∞ (alphabetOf r) (propertyOf∞ r) u v
-  pub more : (n : ℕ) → MoreThan (alphabetOf r) (propertyOf r) n ↔ MoreThan∞ (alphabetOf r) (propertyOf∞ r) n
+      → SameResidual (alphabet_of r) (property_of r) u v ↔ SameResidual∞ (alphabet_of r) (property_of∞ r) u v
+  pub more : (n : ℕ) → MoreThan (alphabet_of r) (property_of r) n ↔ MoreThan∞ (alphabet_of r) (property_of∞ r) n
   -- "every continuation does", without ¬ ¬, where it is decided of each whether it does
   pub every : (w : List ℕ)
-      → ((σ : ℕ → ℕ) → Continuation∞ (alphabetOf r) σ → Dec (residual∞ (propertyOf∞ r) w σ))
-      → AllSatisfy (alphabetOf r) (propertyOf r) w
-      ↔ ((σ : ℕ → ℕ) → Continuation∞ (alphabetOf r) σ → residual∞ (propertyOf∞ r) w σ)
+      → ((σ : ℕ → ℕ) → Continuation∞ (alphabet_of r) σ → Dec (residual∞ (property_of∞ r) w σ))
+      → AllSatisfy (alphabet_of r) (property_of r) w
+      ↔ ((σ : ℕ → ℕ) → Continuation∞ (alphabet_of r) σ → residual∞ (property_of∞ r) w σ)
 
 -- ---- demands 2 and 3, with any infinite trace of possible events as a continuation
 
 module _ (Built : List ℕ → List ℕ → Type 0) where
-  pub record Demand-2∞ (file : List ℕ) (rule : Rule) : Type 0 where
-    pub verdicts : (table : List ℕ) → Built file table → (w : List ℕ) → Word (alphabetOf rule) w → (v : Verdict)
-        → (shows (monitorOf table) w ≡ v) ↔ Judged∞ (alphabetOf rule) (propertyOf∞ rule) w v
-    pub built-or-many : ((table : List ℕ) × Built file table) ⊎ MoreThan∞ (alphabetOf rule) (propertyOf∞ rule) 256
-    pub not-both : (table : List ℕ) → Built file table → ¬ MoreThan∞ (alphabetOf rule) (propertyOf∞ rule) 256
+  pub record Demand2∞ (file : List ℕ) (rule : Rule) : Type 0 where
+    pub verdicts : (table : List ℕ) → Built file table → (w : List ℕ) → Word (alphabet_of rule) w → (v : Verdict)
+        → (shows (monitor_of table) w ≡ v) ↔ Judged∞ (alphabet_of rule) (property_of∞ rule) w v
+    pub built_or_many : ((table : List ℕ) × Built file table) ⊎ MoreThan∞ (alphabet_of rule) (property_of∞ rule) 256
+    pub not_both : (table : List ℕ) → Built file table → ¬ MoreThan∞ (alphabet_of rule) (property_of∞ rule) 256
 
-  pub record Demand-3∞ (file : List ℕ) (rule : Rule) (table : List ℕ) : Type 0 where
-    pub form : isTable table ≡ true
-    pub signals : signalsIn table ≡ rule.signals
-    pub events : (e : ℕ) → isEvent (alphabetIn table (signalsIn table)) e ≡ isEvent (alphabetOf rule) e
-    pub order : BreadthFirst (alphabetOf rule) (monitorOf table)
-    pub verdicts : ShowsVerdicts∞ (alphabetOf rule) (propertyOf∞ rule) (monitorOf table)
-    pub smallest : (m : Monitor) → Over (alphabetOf rule) m → ShowsVerdicts∞ (alphabetOf rule) (propertyOf∞ rule) m
-        → statesIn table ≤ m.states
-    pub unique : (m : Monitor) → Over (alphabetOf rule) m → ShowsVerdicts∞ (alphabetOf rule) (propertyOf∞ rule) m
-        → m.states ≡ statesIn table → Renumbered (alphabetOf rule) (monitorOf table) m
+  pub record Demand3∞ (file : List ℕ) (rule : Rule) (table : List ℕ) : Type 0 where
+    pub form : is_table table ≡ true
+    pub signals : signals_in table ≡ rule.signals
+    pub events : (e : ℕ) → is_event (alphabet_in table (signals_in table)) e ≡ is_event (alphabet_of rule) e
+    pub order : BreadthFirst (alphabet_of rule) (monitor_of table)
+    pub verdicts : ShowsVerdicts∞ (alphabet_of rule) (property_of∞ rule) (monitor_of table)
+    pub smallest : (m : Monitor) → Over (alphabet_of rule) m → ShowsVerdicts∞ (alphabet_of rule) (property_of∞ rule) m
+        → states_in table ≤ m.states
+    pub unique : (m : Monitor) → Over (alphabet_of rule) m → ShowsVerdicts∞ (alphabet_of rule) (property_of∞ rule) m
+        → m.states ≡ states_in table → Renumbered (alphabet_of rule) (monitor_of table) m
     pub canonical : (file' : List ℕ) (rule' : Rule) (table' : List ℕ) → Reads file' rule' → Built file' table'
         → rule'.signals ≡ rule.signals → rule'.mask ≡ rule.mask
         → (table ≡ table')
-        ↔ ((w : List ℕ) → Word (alphabetOf rule) w → (v : Verdict)
-        → Judged∞ (alphabetOf rule) (propertyOf∞ rule) w v ↔ Judged∞ (alphabetOf rule') (propertyOf∞ rule') w v)
+        ↔ ((w : List ℕ) → Word (alphabet_of rule) w → (v : Verdict)
+        → Judged∞ (alphabet_of rule) (property_of∞ rule) w v ↔ Judged∞ (alphabet_of rule') (property_of∞ rule') w v)
 
   pub record Demands∞ : Type 0 where
-    pub demand-2 : (file : List ℕ) (rule : Rule) → Reads file rule → Demand-2∞ file rule
-    pub demand-3 : (file : List ℕ) (rule : Rule) (table : List ℕ) → Reads file rule → Built file table
-        → Demand-3∞ file rule table
+    pub demand_2 : (file : List ℕ) (rule : Rule) → Reads file rule → Demand2∞ file rule
+    pub demand_3 : (file : List ℕ) (rule : Rule) (table : List ℕ) → Reads file rule → Built file table
+        → Demand3∞ file rule table

@@ -11,13 +11,13 @@ use lib.Seq.{get_or-set_same, get_or-set_other}
 use lib.Dec.{T, eqb, eqb→eq}
 use borrow.Author.Tests.{eq-eqb, ne_eqb}
 use Rattle.sequences.proofs.Pointwise.{least-same}
-use Rattle.sequences.specs.Tabulate.{tabulate, leastBelow}
-use Rattle.sequences.proofs.Loops.{length-tab, getD-tab, least-is}
+use Rattle.sequences.specs.Tabulate.{tabulate, least_below}
+use Rattle.sequences.proofs.Loops.{length-tab, get_d-tab, least-is}
 use Rattle.sequences.proofs.Pigeonhole.{least-below}
 use Rattle.walk.specs.Explore.{locate}
 use Rattle.profile_sets.specs.Arrays.{key_of, WordsFit}
 use Rattle.profile_sets.proofs.Words.{key-differ}
-use Rattle.key_slots.specs.Arrays.{keysIn, KeysFit, metAt, slot_of, LastIn, Slotted}
+use Rattle.key_slots.specs.Arrays.{keys_in, KeysFit, met_at, slot_of, LastIn, Slotted}
 
 module _ {A : Type 0} where
   tab-last : (n : ℕ) (f : ℕ → A) → tabulate (suc n) f ≡ tabulate n f ++ (f n ∷ [])
@@ -75,11 +75,11 @@ keys-first keys key l w = (record { some = omega arith; few = omega arith; room 
     go zero m = subst WordsFit (sym first) w
     go (suc i) m = absurd (omega arith)
 
-pub locate-is : (s count : ℕ) (keys : List (List ℕ)) (k : ℕ) → locate eqb s (keysIn count keys) k ≡ leastBelow count (metAt keys k)
+pub locate-is : (s count : ℕ) (keys : List (List ℕ)) (k : ℕ) → locate eqb s (keys_in count keys) k ≡ least_below count (met_at keys k)
 unfolding locate
 locate-is s count keys k =
-    ap (λ (n : ℕ). leastBelow n (λ i. eqb (get_or (keysIn count keys) i s) k)) (length-tab count (λ i. key_of (get_or keys i [])))
-    ∙ least-same count (λ i. eqb (get_or (keysIn count keys) i s) k) (metAt keys k) (λ i l. ap (λ (x : ℕ). eqb x k) (getD-tab count (λ i. key_of (get_or keys i [])) i s l))
+    ap (λ (n : ℕ). least_below n (λ i. eqb (get_or (keys_in count keys) i s) k)) (length-tab count (λ i. key_of (get_or keys i [])))
+    ∙ least-same count (λ i. eqb (get_or (keys_in count keys) i s) k) (met_at keys k) (λ i l. ap (λ (x : ℕ). eqb x k) (get_d-tab count (λ i. key_of (get_or keys i [])) i s l))
 
 -- ---- the slots
 
@@ -165,11 +165,11 @@ module _ {count : ℕ} {keys : List (List ℕ)} {slots : List ℕ} (fit : KeysFi
 -- i is the number of a key in the slot, or 0, and none past it is the same
 pub record Sought (count : ℕ) (keys : List (List ℕ)) (slot k i : ℕ) : Type 0 where
   pub there : 0 < i → (i < count) × (slot_of (get_or keys i []) ≡ slot)
-  pub past : (j : ℕ) → i < j → j < count → metAt keys k j ≡ false
+  pub past : (j : ℕ) → i < j → j < count → met_at keys k j ≡ false
 
 module _ {count : ℕ} {keys : List (List ℕ)} {slots : List ℕ} (fit : KeysFit count keys) (h : Slotted count keys slots) (key : List ℕ) (w : WordsFit key) (slot : ℕ) (at : slot ≡ slot_of key) (low : slot < 768) where
   -- a key that is the same is in the slot
-  in-slot : (j : ℕ) → j < count → (slot_of (get_or keys j []) ≡ slot → ⊥) → metAt keys (key_of key) j ≡ false
+  in-slot : (j : ℕ) → j < count → (slot_of (get_or keys j []) ≡ slot → ⊥) → met_at keys (key_of key) j ≡ false
   in-slot j l n = ne_eqb (key_of (get_or keys j [])) (key_of key) (λ p. n (slot_same (get_or keys j []) key (fit.words j l) w p ∙ sym at))
 
   pub sought-first : {x : ℕ} → x ≡ get_or slots slot 0 → Sought count keys slot (key_of key) x
@@ -189,33 +189,33 @@ module _ {count : ℕ} {keys : List (List ℕ)} {slots : List ℕ} (fit : KeysFi
         go (yes z) = omega arith
         go (no z) = (link.there (omega arith)).0
 
-    pub sought-next : metAt keys (key_of key) i ≡ false → Sought count keys slot (key_of key) x
+    pub sought-next : met_at keys (key_of key) i ≡ false → Sought count keys slot (key_of key) x
     sought-next f = record {
       there = λ l. (let t = (link.there l).0 in let u = (r.there o).0 in omega arith, (link.there l).1 ∙ (r.there o).1);
       past = λ j l m. go j l m (dec_lt j i) (ℕ_discrete j i);
     }
       where
-        go : (j : ℕ) → x < j → j < count → Dec (j < i) → Dec (j ≡ i) → metAt keys (key_of key) j ≡ false
+        go : (j : ℕ) → x < j → j < count → Dec (j < i) → Dec (j ≡ i) → met_at keys (key_of key) j ≡ false
         go j l m (yes n) q = in-slot j m (λ z. let t = link.last j (omega arith) n (z ∙ sym (r.there o).1) in omega arith)
-        go j l m (no n) (yes q) = subst (λ (k : ℕ). metAt keys (key_of key) k ≡ false) (sym q) f
+        go j l m (no n) (yes q) = subst (λ (k : ℕ). met_at keys (key_of key) k ≡ false) (sym q) f
         go j l m (no n) (no q) = r.past j (omega arith) m
 
   -- no key is the same
-  pub sought-none : {i : ℕ} → Sought count keys slot (key_of key) i → i ≡ 0 → metAt keys (key_of key) 0 ≡ false → count ≡ leastBelow count (metAt keys (key_of key))
-  sought-none {i} r z f = sym (least-is count (metAt keys (key_of key)) count (omega arith) (λ j l. go j l (ℕ_discrete j 0)) (λ l. absurd (omega arith)))
+  pub sought-none : {i : ℕ} → Sought count keys slot (key_of key) i → i ≡ 0 → met_at keys (key_of key) 0 ≡ false → count ≡ least_below count (met_at keys (key_of key))
+  sought-none {i} r z f = sym (least-is count (met_at keys (key_of key)) count (omega arith) (λ j l. go j l (ℕ_discrete j 0)) (λ l. absurd (omega arith)))
     where
-      go : (j : ℕ) → j < count → Dec (j ≡ 0) → metAt keys (key_of key) j ≡ false
-      go j l (yes q) = subst (λ (k : ℕ). metAt keys (key_of key) k ≡ false) (sym q) f
+      go : (j : ℕ) → j < count → Dec (j ≡ 0) → met_at keys (key_of key) j ≡ false
+      go j l (yes q) = subst (λ (k : ℕ). met_at keys (key_of key) k ≡ false) (sym q) f
       go j l (no q) = r.past j (omega arith) l
 
 -- the number of a key that is the same is the least
-pub found-met : {count : ℕ} {keys : List (List ℕ)} → KeysFit count keys → (k i : ℕ) → i < count → metAt keys k i ≡ true → i ≡ leastBelow count (metAt keys k)
+pub found-met : {count : ℕ} {keys : List (List ℕ)} → KeysFit count keys → (k i : ℕ) → i < count → met_at keys k i ≡ true → i ≡ least_below count (met_at keys k)
 found-met {count} {keys} fit k i l t =
-    sym (least-is count (metAt keys k) i (omega arith) (λ j m. ne_eqb (key_of (get_or keys j [])) k (λ q. fit.apart j i m l (q ∙ sym (eqb→eq (key_of (get_or keys i [])) k (subst T (sym t) tt))))) (λ _. t))
+    sym (least-is count (met_at keys k) i (omega arith) (λ j m. ne_eqb (key_of (get_or keys j [])) k (λ q. fit.apart j i m l (q ∙ sym (eqb→eq (key_of (get_or keys i [])) k (subst T (sym t) tt))))) (λ _. t))
 
 -- none of the keys is the same
-pub new-key : {count : ℕ} (keys : List (List ℕ)) (k i : ℕ) → i ≡ leastBelow count (metAt keys k) → count ≤ i → (j : ℕ) → j < count → ¬ (key_of (get_or keys j []) ≡ k)
+pub new-key : {count : ℕ} (keys : List (List ℕ)) (k i : ℕ) → i ≡ least_below count (met_at keys k) → count ≤ i → (j : ℕ) → j < count → ¬ (key_of (get_or keys j []) ≡ k)
 new-key {count} keys k i e l j m q =
-    let r = least-below count (metAt keys k) in
+    let r = least-below count (met_at keys k) in
     let z : ◌≡◌ {A = ℕ} 1 0 = ap (λ (b : Bool). cond b 1 0) (sym (eq-eqb (key_of (get_or keys j [])) k q) ∙ r.before j (omega (arith, r.bound))) in
     omega arith

@@ -1,7 +1,7 @@
 -- What the answer of a key entered says of the model.
 use Rattle.std.specs.Prelude.{◌≡◌, List, ℕ, ◌<◌, eqb}
 use Rattle.walk.specs.Explore.{Explored, within, beyond, enter}
-use Rattle.key_slots.specs.Arrays.{keysIn, KeysFit, Slotted}
+use Rattle.key_slots.specs.Arrays.{keys_in, KeysFit, Slotted}
 use Rattle.key_slots.specs.declared.Entered.{Entered}
 use Rattle.key_slots.specs.declared.Entered.TheVariants as Entered
 
@@ -13,7 +13,7 @@ pub record Beyond {A : Type 0} (m : Explored ℕ A) : Type 0 where
 
 -- the model kept within the limit with the answer a, and its keys are the first `count` of the array
 pub record Within {A : Type 0} (m : Explored ℕ A) (count : ℕ) (keys : List (List ℕ)) (slots : List ℕ) (a : A) : Type 0 where
-  pub is : m ≡ within (keysIn count keys) a
+  pub is : m ≡ within (keys_in count keys) a
   pub fit : KeysFit count keys
   pub slotted : Slotted count keys slots
 

@@ -4,12 +4,12 @@ use Rattle.sequences.specs.Tabulate.{tabulate}
 use Rattle.profile_sets.specs.Arrays.{key_of, WordsFit}
 
 -- the first `count` keys of an array
-abbrev pub keysIn : ℕ → List (List ℕ) → List ℕ
-keysIn count keys = tabulate count (λ i. key_of (get_or keys i []))
+abbrev pub keys_in : ℕ → List (List ℕ) → List ℕ
+keys_in count keys = tabulate count (λ i. key_of (get_or keys i []))
 
 -- key i of the array is k
-abbrev pub metAt : List (List ℕ) → ℕ → ℕ → Bool
-metAt keys k i = eqb (key_of (get_or keys i [])) k
+abbrev pub met_at : List (List ℕ) → ℕ → ℕ → Bool
+met_at keys k i = eqb (key_of (get_or keys i [])) k
 
 -- there are so many keys, one at least, and no two are the same
 pub record KeysFit (count : ℕ) (keys : List (List ℕ)) : Type 0 where

@@ -1,8 +1,8 @@
 // The keys met, and their slots: a hash table with the numbers of the keys, chained. A key is a set of at most 256 profiles, in four words.
 ghost use Rattle.std.specs.Prelude.{◌≡◌, ◌<◌, replicate};
-ghost use Rattle.sequences.specs.Tabulate.{leastBelow};
+ghost use Rattle.sequences.specs.Tabulate.{least_below};
 ghost use Rattle.profile_sets.specs.Arrays.{key_of, WordsFit};
-ghost use Rattle.key_slots.specs.Arrays.{keysIn, KeysFit, metAt, slot_of, Slotted};
+ghost use Rattle.key_slots.specs.Arrays.{keys_in, KeysFit, met_at, slot_of, Slotted};
 ghost use Rattle.key_slots.specs.Answers.{Enters};
 
 use profile_sets::same_key;
@@ -36,7 +36,7 @@ pub fn first_slots() -> [u8; 1024]
 // Whether key number i is the same.
 fn same_at(keys: &[[u64; 4]; 256], count: usize, i: usize, key: [u64; 4]) -> bool
     requires { KeysFit count keys.now × WordsFit key × (i < count) }
-    ensures { result ≡ metAt keys.now (key_of key) i }
+    ensures { result ≡ met_at keys.now (key_of key) i }
 {
     let met = keys[i];
     same_key(met, key)
@@ -52,7 +52,7 @@ fn find(
 ) -> usize
     requires keys_fit { KeysFit count keys.now × WordsFit key × Slotted count keys.now slots.now }
     requires slot_value { (slot ≡ slot_of key) × (slot < 768) }
-    ensures { result ≡ leastBelow count (metAt keys.now (key_of key)) }
+    ensures { result ≡ least_below count (met_at keys.now (key_of key)) }
 {
     let mut i = wide(slots[slot]);
     while 0 < i {
@@ -75,7 +75,7 @@ pub fn enter(
     key: [u64; 4],
 ) -> Entered
     requires { KeysFit count keys.old × WordsFit key × Slotted count keys.old slots.old }
-    ensures { Enters (keysIn count keys.old) (key_of key) keys.new slots.new result }
+    ensures { Enters (keys_in count keys.old) (key_of key) keys.new slots.new result }
 {
     let slot = slot_of(key);
     let i = find(keys, slots, slot, count, key);

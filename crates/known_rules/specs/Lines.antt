@@ -4,18 +4,18 @@ use Rattle.meaning.specs.Traces.{Alphabet, masked, Word}
 use Rattle.meaning.specs.Formulas.{Holds}
 use Rattle.meaning.specs.Verdicts.{Property, Judged}
 use Rattle.meaning.specs.Monitors.{shows}
-use Rattle.meaning.specs.RuleFiles.{Rule, alphabetOf, propertyOf, ruleFormula}
-use Rattle.meaning.specs.TableFiles.{monitorOf}
-use Rattle.meaning.specs.Demands.{Reads, Demand-3}
+use Rattle.meaning.specs.RuleFiles.{Rule, alphabet_of, property_of, rule_formula}
+use Rattle.meaning.specs.TableFiles.{monitor_of}
+use Rattle.meaning.specs.Demands.{Reads, Demand3}
 use Rattle.meaning.specs.declared.Verdict.{Verdict}
-use Rattle.ltl.proofs.Instance.{ltlSystem}
+use Rattle.ltl.proofs.Instance.{ltl_system}
 use Rattle.smallest.specs.Builder.{Built}
-use Rattle.known_rules.specs.Files.{tableFile}
+use Rattle.known_rules.specs.Files.{table_file}
 use Rattle.known_rules.specs.Rules.{KnownRule}
 
 -- the bytes of a line's table
 abbrev pub bytes : KnownRule → List ℕ
-bytes k = tableFile k.table
+bytes k = table_file k.table
 
 -- the traces that satisfy a line's formula
 abbrev pub property : KnownRule → Property
@@ -32,12 +32,12 @@ pub record Line (k : KnownRule) : Type 0 where
   pub reads : Reads k.file rule
   pub signals : rule.signals ≡ k.table.signals
   pub mask : rule.mask ≡ k.table.mask
-  pub formula : ruleFormula rule ≡ k.formula
-  pub built : Built ltlSystem k.file (bytes k)
-  pub only : (t : List ℕ) → Built ltlSystem k.file t → t ≡ bytes k
-  pub verdicts : (w : List ℕ) → Word (alphabetOf rule) w → (v : Verdict) → (shows (monitorOf (bytes k)) w ≡ v) ↔ Judged (alphabetOf rule) (propertyOf rule) w v
-  pub demand-3 : Demand-3 (Built ltlSystem) k.file rule (bytes k)
+  pub formula : rule_formula rule ≡ k.formula
+  pub built : Built ltl_system k.file (bytes k)
+  pub only : (t : List ℕ) → Built ltl_system k.file t → t ≡ bytes k
+  pub verdicts : (w : List ℕ) → Word (alphabet_of rule) w → (v : Verdict) → (shows (monitor_of (bytes k)) w ≡ v) ↔ Judged (alphabet_of rule) (property_of rule) w v
+  pub demand_3 : Demand3 (Built ltl_system) k.file rule (bytes k)
 
 -- the same of the formula itself, with no file: the table shows a verdict after a list exactly if the continuations of the list give it
 abbrev pub TableOf : KnownRule → Type 0
-TableOf k = (w : List ℕ) → Word (alphabet k) w → (v : Verdict) → (shows (monitorOf (bytes k)) w ≡ v) ↔ Judged (alphabet k) (property k) w v
+TableOf k = (w : List ℕ) → Word (alphabet k) w → (v : Verdict) → (shows (monitor_of (bytes k)) w ≡ v) ↔ Judged (alphabet k) (property k) w v

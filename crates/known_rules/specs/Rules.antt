@@ -2,7 +2,7 @@
 use Rattle.std.specs.Prelude.{List, [], ◌∷◌, ℕ}
 use Rattle.meaning.specs.Formulas.{Formula, falsum, verum, signal, neg, and, or, implies, next, until, eventually, always}
 use Rattle.meaning.specs.declared.Verdict.TheVariants.{Undecided, Satisfied, Violated, Moot}
-use Rattle.known_rules.specs.Files.{node, ruleFile, state, Table, table}
+use Rattle.known_rules.specs.Files.{node, rule_file, state, Table, table}
 
 pub record KnownRule : Type 0 where
   pub formula : Formula
@@ -20,7 +20,7 @@ q = signal 1
 abbrev pub P1 : KnownRule
 P1 = record {
   formula = verum;
-  file = ruleFile 1 (node 1 [] ∷ []);
+  file = rule_file 1 (node 1 [] ∷ []);
   table = table 1 (state Satisfied (0 ∷ 0 ∷ []) ∷ []);
 }
 
@@ -28,7 +28,7 @@ P1 = record {
 abbrev pub P2 : KnownRule
 P2 = record {
   formula = falsum;
-  file = ruleFile 1 (node 0 [] ∷ []);
+  file = rule_file 1 (node 0 [] ∷ []);
   table = table 1 (state Violated (0 ∷ 0 ∷ []) ∷ []);
 }
 
@@ -36,7 +36,7 @@ P2 = record {
 abbrev pub P3 : KnownRule
 P3 = record {
   formula = p;
-  file = ruleFile 1 (node 2 (0 ∷ []) ∷ []);
+  file = rule_file 1 (node 2 (0 ∷ []) ∷ []);
   table = table 1 (state Undecided (1 ∷ 2 ∷ []) ∷ state Violated (1 ∷ 1 ∷ []) ∷ state Satisfied (2 ∷ 2 ∷ []) ∷ []);
 }
 
@@ -44,7 +44,7 @@ P3 = record {
 abbrev pub P4 : KnownRule
 P4 = record {
   formula = always p;
-  file = ruleFile 1 (node 2 (0 ∷ []) ∷ node 13 (0 ∷ []) ∷ []);
+  file = rule_file 1 (node 2 (0 ∷ []) ∷ node 13 (0 ∷ []) ∷ []);
   table = table 1 (state Undecided (1 ∷ 0 ∷ []) ∷ state Violated (1 ∷ 1 ∷ []) ∷ []);
 }
 
@@ -52,7 +52,7 @@ P4 = record {
 abbrev pub P5 : KnownRule
 P5 = record {
   formula = eventually p;
-  file = ruleFile 1 (node 2 (0 ∷ []) ∷ node 12 (0 ∷ []) ∷ []);
+  file = rule_file 1 (node 2 (0 ∷ []) ∷ node 12 (0 ∷ []) ∷ []);
   table = table 1 (state Undecided (0 ∷ 1 ∷ []) ∷ state Satisfied (1 ∷ 1 ∷ []) ∷ []);
 }
 
@@ -60,7 +60,7 @@ P5 = record {
 abbrev pub P6 : KnownRule
 P6 = record {
   formula = always (eventually p);
-  file = ruleFile 1 (node 2 (0 ∷ []) ∷ node 12 (0 ∷ []) ∷ node 13 (1 ∷ []) ∷ []);
+  file = rule_file 1 (node 2 (0 ∷ []) ∷ node 12 (0 ∷ []) ∷ node 13 (1 ∷ []) ∷ []);
   table = table 1 (state Moot (0 ∷ 0 ∷ []) ∷ []);
 }
 
@@ -68,7 +68,7 @@ P6 = record {
 abbrev pub P7 : KnownRule
 P7 = record {
   formula = eventually (always p);
-  file = ruleFile 1 (node 2 (0 ∷ []) ∷ node 13 (0 ∷ []) ∷ node 12 (1 ∷ []) ∷ []);
+  file = rule_file 1 (node 2 (0 ∷ []) ∷ node 13 (0 ∷ []) ∷ node 12 (1 ∷ []) ∷ []);
   table = P6.table;
 }
 
@@ -76,7 +76,7 @@ P7 = record {
 abbrev pub P8 : KnownRule
 P8 = record {
   formula = or (next p) (next (neg p));
-  file = ruleFile 1 (node 2 (0 ∷ []) ∷ node 10 (0 ∷ []) ∷ node 4 (0 ∷ []) ∷ node 10 (2 ∷ []) ∷ node 6 (1 ∷ 3 ∷ []) ∷ []);
+  file = rule_file 1 (node 2 (0 ∷ []) ∷ node 10 (0 ∷ []) ∷ node 4 (0 ∷ []) ∷ node 10 (2 ∷ []) ∷ node 6 (1 ∷ 3 ∷ []) ∷ []);
   table = P1.table;
 }
 
@@ -84,7 +84,7 @@ P8 = record {
 abbrev pub P9 : KnownRule
 P9 = record {
   formula = until p q;
-  file = ruleFile 2 (node 2 (0 ∷ []) ∷ node 2 (1 ∷ []) ∷ node 11 (0 ∷ 1 ∷ []) ∷ []);
+  file = rule_file 2 (node 2 (0 ∷ []) ∷ node 2 (1 ∷ []) ∷ node 11 (0 ∷ 1 ∷ []) ∷ []);
   table = table 2 (state Undecided (1 ∷ 0 ∷ 2 ∷ 2 ∷ []) ∷ state Violated (1 ∷ 1 ∷ 1 ∷ 1 ∷ []) ∷ state Satisfied (2 ∷ 2 ∷ 2 ∷ 2 ∷ []) ∷ []);
 }
 
@@ -92,7 +92,7 @@ P9 = record {
 abbrev pub P10 : KnownRule
 P10 = record {
   formula = always (or p q);
-  file = ruleFile 2 (node 2 (0 ∷ []) ∷ node 2 (1 ∷ []) ∷ node 6 (0 ∷ 1 ∷ []) ∷ node 13 (2 ∷ []) ∷ []);
+  file = rule_file 2 (node 2 (0 ∷ []) ∷ node 2 (1 ∷ []) ∷ node 6 (0 ∷ 1 ∷ []) ∷ node 13 (2 ∷ []) ∷ []);
   table = table 2 (state Undecided (1 ∷ 0 ∷ 0 ∷ 0 ∷ []) ∷ state Violated (1 ∷ 1 ∷ 1 ∷ 1 ∷ []) ∷ []);
 }
 
@@ -100,7 +100,7 @@ P10 = record {
 abbrev pub P11 : KnownRule
 P11 = record {
   formula = always (until p q);
-  file = ruleFile 2 (node 2 (0 ∷ []) ∷ node 2 (1 ∷ []) ∷ node 11 (0 ∷ 1 ∷ []) ∷ node 13 (2 ∷ []) ∷ []);
+  file = rule_file 2 (node 2 (0 ∷ []) ∷ node 2 (1 ∷ []) ∷ node 11 (0 ∷ 1 ∷ []) ∷ node 13 (2 ∷ []) ∷ []);
   table = P10.table;
 }
 
@@ -108,7 +108,7 @@ P11 = record {
 abbrev pub P12 : KnownRule
 P12 = record {
   formula = always (implies p (next (until (neg p) q)));
-  file = ruleFile 2 (node 2 (0 ∷ []) ∷ node 2 (1 ∷ []) ∷ node 4 (0 ∷ []) ∷ node 11 (2 ∷ 1 ∷ []) ∷ node 10 (3 ∷ []) ∷ node 7 (0 ∷ 4 ∷ []) ∷ node 13 (5 ∷ []) ∷ []);
+  file = rule_file 2 (node 2 (0 ∷ []) ∷ node 2 (1 ∷ []) ∷ node 4 (0 ∷ []) ∷ node 11 (2 ∷ 1 ∷ []) ∷ node 10 (3 ∷ []) ∷ node 7 (0 ∷ 4 ∷ []) ∷ node 13 (5 ∷ []) ∷ []);
   table = table 2 (state Undecided (0 ∷ 1 ∷ 0 ∷ 1 ∷ []) ∷ state Undecided (1 ∷ 2 ∷ 0 ∷ 1 ∷ []) ∷ state Violated (2 ∷ 2 ∷ 2 ∷ 2 ∷ []) ∷ []);
 }
 
@@ -116,9 +116,9 @@ P12 = record {
 abbrev pub P13 : KnownRule
 P13 = record {
   formula = and q (always (eventually p));
-  file = ruleFile 2 (node 2 (0 ∷ []) ∷ node 2 (1 ∷ []) ∷ node 12 (0 ∷ []) ∷ node 13 (2 ∷ []) ∷ node 5 (1 ∷ 3 ∷ []) ∷ []);
+  file = rule_file 2 (node 2 (0 ∷ []) ∷ node 2 (1 ∷ []) ∷ node 12 (0 ∷ []) ∷ node 13 (2 ∷ []) ∷ node 5 (1 ∷ 3 ∷ []) ∷ []);
   table = table 2 (state Undecided (1 ∷ 1 ∷ 2 ∷ 2 ∷ []) ∷ state Violated (1 ∷ 1 ∷ 1 ∷ 1 ∷ []) ∷ state Moot (2 ∷ 2 ∷ 2 ∷ 2 ∷ []) ∷ []);
 }
 
-abbrev pub knownRules : List KnownRule
-knownRules = P1 ∷ P2 ∷ P3 ∷ P4 ∷ P5 ∷ P6 ∷ P7 ∷ P8 ∷ P9 ∷ P10 ∷ P11 ∷ P12 ∷ P13 ∷ []
+abbrev pub known_rules : List KnownRule
+known_rules = P1 ∷ P2 ∷ P3 ∷ P4 ∷ P5 ∷ P6 ∷ P7 ∷ P8 ∷ P9 ∷ P10 ∷ P11 ∷ P12 ∷ P13 ∷ []

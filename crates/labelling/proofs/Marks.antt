@@ -11,8 +11,8 @@ use lib.Seq.{get_or-set_same, get_or-set_other}
 use lib.Dec.{T, eqb, eqb→eq, eqb_refl}
 use borrow.Author.Tests.{eq-eqb, ne_eqb}
 use Rattle.meaning.specs.Traces.{Alphabet, masked}
-use Rattle.ltl.specs.Sets.{on, someBelow, unionBelow, someEvent}
-use Rattle.ltl.specs.Residuals.{profileFrom, whole_of}
+use Rattle.ltl.specs.Sets.{on, some_below, union_below, some_event}
+use Rattle.ltl.specs.Residuals.{profile_from, whole_of}
 use Rattle.ltl.specs.Keys.{look}
 use Rattle.ltl.proofs.Truth.{t-equal}
 use Rattle.ltl.proofs.Sets.{single-in, in-single}
@@ -50,13 +50,13 @@ module _ (profiles : List (List ℕ)) (real : List Bool) (e : ℕ) where
     long = length-set new q (get_or real n false || get_or new q false) ∙ h.long;
     is = λ p a.
         go p a (ℕ_discrete p q)
-        ∙ sym (ap (λ (j : ℕ). or (someBelow j (hits profiles real e p)) (get_or old p false)) (add-one n)
-        ∙ more (hits profiles real e p n) (someBelow n (hits profiles real e p)) (get_or old p false));
+        ∙ sym (ap (λ (j : ℕ). or (some_below j (hits profiles real e p)) (get_or old p false)) (add-one n)
+        ∙ more (hits profiles real e p n) (some_below n (hits profiles real e p)) (get_or old p false));
   }
     where
       go : (p : ℕ) → p < 256 → Dec (p ≡ q)
           → get_or (set new q (get_or real n false || get_or new q false)) p false
-          ≡ (hits profiles real e p n || or (someBelow n (hits profiles real e p)) (get_or old p false))
+          ≡ (hits profiles real e p n || or (some_below n (hits profiles real e p)) (get_or old p false))
       go p a (yes c) =
           ap (λ (i : ℕ). get_or (set new q (get_or real n false || get_or new q false)) i false) c
           ∙ get_or-set_same new q (get_or real n false || get_or new q false) false (omega (arith, h.long))
@@ -64,7 +64,7 @@ module _ (profiles : List (List ℕ)) (real : List Bool) (e : ℕ) where
           (ap (λ (i : ℕ). get_or new i false) (sym c) ∙ h.is p a)
       go p a (no c) =
           get_or-set_other new q p (get_or real n false || get_or new q false) false c ∙ h.is p a
-          ∙ ap (λ (t : Bool). t || or (someBelow n (hits profiles real e p)) (get_or old p false))
+          ∙ ap (λ (t : Bool). t || or (some_below n (hits profiles real e p)) (get_or old p false))
           (sym (ap (if (get_or real n false)) (ne_eqb (look profiles e n) p (λ d. c (sym d ∙ sym k))) ∙ if-false (get_or real n false)))
 
 pub marked-to : {n : ℕ} {f : ℕ → ℕ → Bool} {old new : List Bool} → Marked n f old new → (m : ℕ) → n ≡ m → Marked m f old new
@@ -79,10 +79,10 @@ module _ (mask : ℕ) {n : ℕ} {profiles : List (List ℕ)} {real : List Bool} 
   module _ (e : ℕ) {whole : List Bool} (h : AllMarked (masked e mask) n profiles real whole) where
     -- with what e hits, if e can happen, these are the profiles of the events up to e
     one_more : (p : ℕ) → p < 256 → (t : Bool) → on mask e ≡ t
-        → or (if t (someBelow n (hits profiles real e p))) (get_or whole p false) ≡ someEvent (masked (e + 1) mask) (λ e. someBelow n (hits profiles real e p))
+        → or (if t (some_below n (hits profiles real e p))) (get_or whole p false) ≡ some_event (masked (e + 1) mask) (λ e. some_below n (hits profiles real e p))
     one_more p a t k =
-        ap₂ (λ (t b : Bool). or (if t (someBelow n (hits profiles real e p))) b) (sym k) (h.is p a)
-        ∙ ap (λ (j : ℕ). someEvent (masked j mask) (λ e. someBelow n (hits profiles real e p))) (sym (add-one e))
+        ap₂ (λ (t b : Bool). or (if t (some_below n (hits profiles real e p))) b) (sym k) (h.is p a)
+        ∙ ap (λ (j : ℕ). some_event (masked j mask) (λ e. some_below n (hits profiles real e p))) (sym (add-one e))
 
     -- the event e can happen, and what it hits is marked
     pub all_more : on mask e ≡ true → {new whole' : List Bool} → Marked n (hits profiles real e) whole new → whole' ≡ new → AllMarked (masked (e + 1) mask) n profiles real whole'
@@ -102,26 +102,26 @@ module _ (Σ : Alphabet) (n : ℕ) (profile : ℕ → ℕ → ℕ) (R p : ℕ) w
   abbrev pub gives : ℕ → ℕ → Bool
   gives e y = elim (on R y) [ true ↦ eqb (profile e y) p | false ↦ false ]
 
-  pub marks-on : someEvent Σ (λ e. someBelow n (gives e)) ≡ on (whole_of Σ n profile R) p
-  marks-on = t-equal (someEvent Σ (λ e. someBelow n (gives e))) (on (whole_of Σ n profile R) p) into out
+  pub marks-on : some_event Σ (λ e. some_below n (gives e)) ≡ on (whole_of Σ n profile R) p
+  marks-on = t-equal (some_event Σ (λ e. some_below n (gives e))) (on (whole_of Σ n profile R) p) into out
     where
-      into : T (someEvent Σ (λ e. someBelow n (gives e))) → T (on (whole_of Σ n profile R) p)
+      into : T (some_event Σ (λ e. some_below n (gives e))) → T (on (whole_of Σ n profile R) p)
       into t =
-          let s = some-event→ Σ (λ e. someBelow n (gives e)) t in
+          let s = some-event→ Σ (λ e. some_below n (gives e)) t in
           let e = s.event in
           let v = some→ n (gives e) s.test in
           let y = v.index in
           let q = both-cases (on R y) (eqb (profile e y) p) v.test in
-          events-in Σ (λ e. unionBelow n (profileFrom profile R e)) p e s.possible
-          (union-in n (profileFrom profile R e) p y v.below
+          events-in Σ (λ e. union_below n (profile_from profile R e)) p e s.possible
+          (union-in n (profile_from profile R e) p y v.below
           (only (on R y) (2 ^ profile e y) p q.0 (subst (λ (i : ℕ). T (on (2 ^ profile e y) i)) (eqb→eq (profile e y) p q.1) (single-in (profile e y)))))
 
-      out : T (on (whole_of Σ n profile R) p) → T (someEvent Σ (λ e. someBelow n (gives e)))
+      out : T (on (whole_of Σ n profile R) p) → T (some_event Σ (λ e. some_below n (gives e)))
       out t =
-          let s = in-events Σ (λ e. unionBelow n (profileFrom profile R e)) p t in
+          let s = in-events Σ (λ e. union_below n (profile_from profile R e)) p t in
           let e = s.event in
-          let v = in-union n (profileFrom profile R e) p s.test in
+          let v = in-union n (profile_from profile R e) p s.test in
           let y = v.index in
           let q = only-cases (on R y) (2 ^ profile e y) p v.test in
-          →some-event Σ (λ e. someBelow n (gives e)) e s.possible
+          →some-event Σ (λ e. some_below n (gives e)) e s.possible
           (→some n (gives e) y v.below (both (on R y) (eqb (profile e y) p) q.0 (subst (λ (i : ℕ). T (eqb (profile e y) i)) (sym (in-single (profile e y) p q.1)) (eqb_refl (profile e y)))))

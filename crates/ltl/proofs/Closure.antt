@@ -10,7 +10,7 @@ use lib.ListN.{get_or, get_or-map}
 use lib.Bits.{bit_or}
 use lib.Dec.{T}
 use Rattle.ltl.specs.Sets.{on}
-use Rattle.ltl.specs.Closure.{row, passRow, pass, closure}
+use Rattle.ltl.specs.Closure.{row, pass_row, pass, closure}
 use Rattle.ltl.proofs.Sets.{on-zero, in-or, or-in}
 use Rattle.ltl.proofs.Walks.{Walk, one, step, ◌⧺◌}
 
@@ -47,10 +47,10 @@ through-pass {M} {M'} {k} t p = record { via = λ {x} {y} v l a b. p.into (go v 
 abbrev pub Related : List ℕ → ℕ → ℕ → Type 0
 Related rows x y = T (on (row rows x) y)
 
-pub row-pass : (k : ℕ) (rows : List ℕ) (x : ℕ) → row (pass k rows) x ≡ passRow k (row rows k) (row rows x)
+pub row-pass : (k : ℕ) (rows : List ℕ) (x : ℕ) → row (pass k rows) x ≡ pass_row k (row rows k) (row rows x)
 row-pass k rows x =
-    let e : passRow k (row rows k) 0 ≡ 0 = ap (λ (b : Bool). elim b [ true ↦ bit_or (row rows k) 0 | false ↦ 0 ]) (on-zero k) in
-    ap (λ (d : ℕ). get_or (pass k rows) x d) (sym e) ∙ get_or-map (passRow k (row rows k)) rows x 0
+    let e : pass_row k (row rows k) 0 ≡ 0 = ap (λ (b : Bool). elim b [ true ↦ bit_or (row rows k) 0 | false ↦ 0 ]) (on-zero k) in
+    ap (λ (d : ℕ). get_or (pass k rows) x d) (sym e) ∙ get_or-map (pass_row k (row rows k)) rows x 0
 
 pass-pass : (k : ℕ) (rows : List ℕ) → Pass (Related rows) k (Related (pass k rows))
 pass-pass k rows = record {

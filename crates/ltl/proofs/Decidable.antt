@@ -8,7 +8,7 @@ use native.Mathlib.Omega.{arith}
 use lib.ListN.{length}
 use Rattle.meaning.specs.Traces.{Lasso, at}
 use Rattle.meaning.specs.Bytes.{bit}
-use Rattle.meaning.specs.Formulas.{Formula, falsum, verum, signal, at_least, neg, and, or, implies, iff, xor, next, until, eventually, always, Until, Sat, Holds, countOn}
+use Rattle.meaning.specs.Formulas.{Formula, falsum, verum, signal, at_least, neg, and, or, implies, iff, xor, next, until, eventually, always, Until, Sat, Holds, count_on}
 use Rattle.ltl.proofs.Shift.{holds-period}
 
 -- an until whose time is below i + n
@@ -44,10 +44,10 @@ module _ {A B : ℕ → Type 0} where
             record { base = record { time = s.base.time; after = omega arith; there = s.base.there; before = λ k p q. s.base.before k (omega arith) q }; soon = omega arith },
           )
 
-module _ (A B : ℕ → Type 0) (decA : (i : ℕ) → Dec (A i)) (decB : (i : ℕ) → Dec (B i)) where
-  decSoon : (n i : ℕ) → Dec (Soon A B n i)
-  decSoon zero i = no (λ s. let l : i ≤ s.base.time = s.base.after in let q : s.base.time < i + 0 = s.soon in omega arith)
-  decSoon (suc n) i = pick (decB i) (decA i) (decSoon n (suc i))
+module _ (A B : ℕ → Type 0) (dec_a : (i : ℕ) → Dec (A i)) (dec_b : (i : ℕ) → Dec (B i)) where
+  dec_soon : (n i : ℕ) → Dec (Soon A B n i)
+  dec_soon zero i = no (λ s. let l : i ≤ s.base.time = s.base.after in let q : s.base.time < i + 0 = s.soon in omega arith)
+  dec_soon (suc n) i = pick (dec_b i) (dec_a i) (dec_soon n (suc i))
     where
       pick : Dec (B i) → Dec (A i) → Dec (Soon A B n (suc i)) → Dec (Soon A B (suc n) i)
       pick (yes b) a s = yes (soon-now b)
@@ -70,50 +70,50 @@ module _ (A B : ℕ → Type 0) (decA : (i : ℕ) → Dec (A i)) (decB : (i : �
         go f (yes l) = let v = less u l in f v.0 (let e : v.0.time ≡ u.time - p = v.1 in omega arith)
         go f (no l) = record { base = u; soon = omega arith }
 
-    decUntil : (i : ℕ) → Dec (Until A B i)
-    decUntil i = go (decSoon (s + p) i)
+    dec_until : (i : ℕ) → Dec (Until A B i)
+    dec_until i = go (dec_soon (s + p) i)
       where
         go : Dec (Soon A B (s + p) i) → Dec (Until A B i)
         go (yes x) = yes x.base
         go (no x) = no (λ u. x (reduce u.time u (omega (arith, pos))))
 
-decNot : {P : Type 0} → Dec P → Dec (¬ P)
-decNot (yes x) = no (λ f. f x)
-decNot (no x) = yes x
+dec_not : {P : Type 0} → Dec P → Dec (¬ P)
+dec_not (yes x) = no (λ f. f x)
+dec_not (no x) = yes x
 
-decPair : {P Q : Type 0} → Dec P → Dec Q → Dec (P × Q)
-decPair (yes x) (yes y) = yes (x, y)
-decPair (yes x) (no y) = no (λ t. y t.1)
-decPair (no x) q = no (λ t. x t.0)
+dec_pair : {P Q : Type 0} → Dec P → Dec Q → Dec (P × Q)
+dec_pair (yes x) (yes y) = yes (x, y)
+dec_pair (yes x) (no y) = no (λ t. y t.1)
+dec_pair (no x) q = no (λ t. x t.0)
 
-decSum : {P Q : Type 0} → Dec P → Dec Q → Dec (P ⊎ Q)
-decSum (yes x) q = yes (inl x)
-decSum (no x) (yes y) = yes (inr y)
-decSum (no x) (no y) = no (λ t. elim t [ inl a ↦ x a | inr b ↦ y b ])
+dec_sum : {P Q : Type 0} → Dec P → Dec Q → Dec (P ⊎ Q)
+dec_sum (yes x) q = yes (inl x)
+dec_sum (no x) (yes y) = yes (inr y)
+dec_sum (no x) (no y) = no (λ t. elim t [ inl a ↦ x a | inr b ↦ y b ])
 
-decFun : {P Q : Type 0} → Dec P → Dec Q → Dec (P → Q)
-decFun p (yes y) = yes (λ _. y)
-decFun (yes x) (no y) = no (λ f. y (f x))
-decFun (no x) (no y) = yes (λ p. absurd (x p))
+dec_fun : {P Q : Type 0} → Dec P → Dec Q → Dec (P → Q)
+dec_fun p (yes y) = yes (λ _. y)
+dec_fun (yes x) (no y) = no (λ f. y (f x))
+dec_fun (no x) (no y) = yes (λ p. absurd (x p))
 
-pub decHolds : (ρ : Lasso) (f : Formula) (i : ℕ) → Dec (Holds ρ i f)
-decHolds ρ falsum i = no (λ x. x)
-decHolds ρ verum i = yes tt
-decHolds ρ (signal s) i = ℕ_discrete (bit s (at ρ i)) 1
-decHolds ρ (at_least m n u) i = decPair (dec_le n (countOn 4 m (at ρ i))) (dec_le (countOn 4 m (at ρ i)) u)
-decHolds ρ (neg a) i = decNot (decHolds ρ a i)
-decHolds ρ (and a b) i = decPair (decHolds ρ a i) (decHolds ρ b i)
-decHolds ρ (or a b) i = decSum (decHolds ρ a i) (decHolds ρ b i)
-decHolds ρ (implies a b) i = decFun (decHolds ρ a i) (decHolds ρ b i)
-decHolds ρ (iff a b) i = decPair (decFun (decHolds ρ a i) (decHolds ρ b i)) (decFun (decHolds ρ b i) (decHolds ρ a i))
-decHolds ρ (xor a b) i = decSum (decPair (decHolds ρ a i) (decNot (decHolds ρ b i))) (decPair (decNot (decHolds ρ a i)) (decHolds ρ b i))
-decHolds ρ (next a) i = decHolds ρ a (suc i)
-decHolds ρ (until a b) i =
-    decUntil (Sat (at ρ) a) (Sat (at ρ) b) (decHolds ρ a) (decHolds ρ b) (length ρ.stem) (length ρ.loop) ρ.nonEmpty
+pub dec_holds : (ρ : Lasso) (f : Formula) (i : ℕ) → Dec (Holds ρ i f)
+dec_holds ρ falsum i = no (λ x. x)
+dec_holds ρ verum i = yes tt
+dec_holds ρ (signal s) i = ℕ_discrete (bit s (at ρ i)) 1
+dec_holds ρ (at_least m n u) i = dec_pair (dec_le n (count_on 4 m (at ρ i))) (dec_le (count_on 4 m (at ρ i)) u)
+dec_holds ρ (neg a) i = dec_not (dec_holds ρ a i)
+dec_holds ρ (and a b) i = dec_pair (dec_holds ρ a i) (dec_holds ρ b i)
+dec_holds ρ (or a b) i = dec_sum (dec_holds ρ a i) (dec_holds ρ b i)
+dec_holds ρ (implies a b) i = dec_fun (dec_holds ρ a i) (dec_holds ρ b i)
+dec_holds ρ (iff a b) i = dec_pair (dec_fun (dec_holds ρ a i) (dec_holds ρ b i)) (dec_fun (dec_holds ρ b i) (dec_holds ρ a i))
+dec_holds ρ (xor a b) i = dec_sum (dec_pair (dec_holds ρ a i) (dec_not (dec_holds ρ b i))) (dec_pair (dec_not (dec_holds ρ a i)) (dec_holds ρ b i))
+dec_holds ρ (next a) i = dec_holds ρ a (suc i)
+dec_holds ρ (until a b) i =
+    dec_until (Sat (at ρ) a) (Sat (at ρ) b) (dec_holds ρ a) (dec_holds ρ b) (length ρ.stem) (length ρ.loop) ρ.non_empty
     (λ k h. (holds-period ρ k b h).0) i
-decHolds ρ (eventually a) i =
-    decUntil (λ _. Unit {0}) (Sat (at ρ) a) (λ _. yes tt) (decHolds ρ a) (length ρ.stem) (length ρ.loop) ρ.nonEmpty
+dec_holds ρ (eventually a) i =
+    dec_until (λ _. Unit {0}) (Sat (at ρ) a) (λ _. yes tt) (dec_holds ρ a) (length ρ.stem) (length ρ.loop) ρ.non_empty
     (λ k h. (holds-period ρ k a h).0) i
-decHolds ρ (always a) i =
-    decNot (decUntil (λ _. Unit {0}) (λ k. ¬ Sat (at ρ) a k) (λ _. yes tt) (λ k. decNot (decHolds ρ a k)) (length ρ.stem) (length ρ.loop) ρ.nonEmpty
+dec_holds ρ (always a) i =
+    dec_not (dec_until (λ _. Unit {0}) (λ k. ¬ Sat (at ρ) a k) (λ _. yes tt) (λ k. dec_not (dec_holds ρ a k)) (length ρ.stem) (length ρ.loop) ρ.non_empty
     (λ k h n t. n ((holds-period ρ k a h).1 t)) i)

@@ -9,8 +9,8 @@ use native.Mathlib.Omega.{arith}
 use lib.Dec.{T}
 use Rattle.meaning.specs.Formulas.{Formula, Sat}
 use Rattle.ltl.specs.Sets.{on}
-use Rattle.ltl.specs.Nodes.{Plain, Temporal, next, until, eventually, always, Split, plain, temporal, temporals, plainFormula, temporalFormula}
-use Rattle.ltl.specs.Valuation.{temporalValue, labelBit, fairBit, Valued, value, valueAll, valued}
+use Rattle.ltl.specs.Nodes.{Plain, Temporal, next, until, eventually, always, Split, plain, temporal, temporals, plain_formula, temporal_formula}
+use Rattle.ltl.specs.Valuation.{temporal_value, label_bit, fair_bit, Valued, value, value_all, valued}
 use Rattle.ltl.proofs.Truth.{◌⇔◌, iff-trans, iff-sym, t_same, t-and, t-or}
 use Rattle.ltl.proofs.Unfolding.{until-fair, Later}
 use Rattle.ltl.proofs.Valuation.{Known, known-none, known-plain, known-temporal, plain-right, label-here, fairs-here}
@@ -40,39 +40,39 @@ pub later-map : {P Q : ℕ → Type 0} {i : ℕ} → ((k : ℕ) → P k → Q k)
 later-map f l = record { time = l.time; after = l.after; there = f l.time l.there }
 
 module _ {w : ℕ → ℕ} {fs : List Formula} {j : ℕ} {s : ℕ → Valued} (k : (i : ℕ) → Known w i fs j (s i)) (x : ℕ → Bool) where
-  temporal-fair : (t : Temporal) → ((i : ℕ) → labelBit (s i).values (x (suc i)) t ≡ x i) → ((i : ℕ) → Later (λ n. T (fairBit (s n).values (x (suc n)) t)) i)
-      → (i : ℕ) → Sat w (temporalFormula fs t) i ⇔ temporalValue (s i).values (x (suc i)) t
+  temporal-fair : (t : Temporal) → ((i : ℕ) → label_bit (s i).values (x (suc i)) t ≡ x i) → ((i : ℕ) → Later (λ n. T (fair_bit (s n).values (x (suc n)) t)) i)
+      → (i : ℕ) → Sat w (temporal_formula fs t) i ⇔ temporal_value (s i).values (x (suc i)) t
   temporal-fair (next a) c fair i = rw (← (c (suc i))) ((k (suc i)).right a)
   temporal-fair (until a b) c fair i =
       iff-sym (until-fair
       (λ n. iff-sym (t-or (on (s n).values b) (on (s n).values a && x (suc n)) ((k n).right b)
       (t-and (on (s n).values a) (x (suc n)) ((k n).right a) (t_same _ _ (c (suc n))))))
-      (λ n. later-map (λ q. unfair (temporalValue (s q).values (x (suc q)) (until a b)) (on (s q).values b) ((k q).right b)) (fair n)) i)
+      (λ n. later-map (λ q. unfair (temporal_value (s q).values (x (suc q)) (until a b)) (on (s q).values b) ((k q).right b)) (fair n)) i)
   temporal-fair (eventually a) c fair i =
       iff-sym (until-fair
       (λ n. iff-sym (t-or (on (s n).values a) (x (suc n)) ((k n).right a) (iff-trans (λ p. p.1, λ t. (tt, t)) (t_same _ _ (c (suc n))))))
-      (λ n. later-map (λ q. unfair (temporalValue (s q).values (x (suc q)) (eventually a)) (on (s q).values a) ((k q).right a)) (fair n)) i)
+      (λ n. later-map (λ q. unfair (temporal_value (s q).values (x (suc q)) (eventually a)) (on (s q).values a) ((k q).right a)) (fair n)) i)
   temporal-fair (always a) c fair i =
-      double (temporalValue (s i).values (x (suc i)) (always a)) (until-fair {U = λ n. ¬ T (temporalValue (s n).values (x (suc n)) (always a))}
+      double (temporal_value (s i).values (x (suc i)) (always a)) (until-fair {U = λ n. ¬ T (temporal_value (s n).values (x (suc n)) (always a))}
       (λ n. rw (c (suc n)) (nand (on (s n).values a) (x (suc n)) ((k n).right a)))
-      (λ n. later-map (λ q. unfair-always (temporalValue (s q).values (x (suc q)) (always a)) (on (s q).values a) ((k q).right a)) (fair n)) i)
+      (λ n. later-map (λ q. unfair-always (temporal_value (s q).values (x (suc q)) (always a)) (on (s q).values a) ((k q).right a)) (fair n)) i)
 
 -- ---- a run: x i is the label at i, made of the event there and the next label; every temporal node is fair again and again
 
 module _ (w x : ℕ → ℕ) where
   abbrev Consistent : (ℕ → Valued) → List Split → Type 0
-  Consistent s ns = (i : ℕ) → (valueAll (w i) (x (suc i)) (s i) ns).label ≡ x i
+  Consistent s ns = (i : ℕ) → (value_all (w i) (x (suc i)) (s i) ns).label ≡ x i
 
   abbrev FairFrom : ℕ → (ℕ → Valued) → List Split → Type 0
-  FairFrom j s ns = (q : ℕ) → j ≤ q → q < j + temporals ns → (i : ℕ) → Later (λ n. T (on (valueAll (w n) (x (suc n)) (s n) ns).fairs q)) i
+  FairFrom j s ns = (q : ℕ) → j ≤ q → q < j + temporals ns → (i : ℕ) → Later (λ n. T (on (value_all (w n) (x (suc n)) (s n) ns).fairs q)) i
 
   more-plain : {fs : List Formula} {j : ℕ} {s : ℕ → Valued} (p : Plain) → ((i : ℕ) → Known w i fs j (s i))
-      → (i : ℕ) → Known w i (fs ++ (plainFormula fs p ∷ [])) j (value (w i) (x (suc i)) (s i) (plain p))
+      → (i : ℕ) → Known w i (fs ++ (plain_formula fs p ∷ [])) j (value (w i) (x (suc i)) (s i) (plain p))
   more-plain p k i = known-plain (k i) (x (suc i)) p (plain-right (k i) p)
 
   head-right : {fs : List Formula} {j : ℕ} {s : ℕ → Valued} (t : Temporal) (ns : List Split) → ((i : ℕ) → Known w i fs j (s i))
       → Consistent s (temporal t ∷ ns) → FairFrom j s (temporal t ∷ ns)
-      → (i : ℕ) → Sat w (temporalFormula fs t) i ⇔ temporalValue (s i).values (on (x (suc i)) j) t
+      → (i : ℕ) → Sat w (temporal_formula fs t) i ⇔ temporal_value (s i).values (on (x (suc i)) j) t
   head-right {j = j} {s} t ns k c f =
       temporal-fair k (λ i. on (x i) j) t
       (λ i. sym (label-here (k i) (w i) (x (suc i)) t ns) ∙ ap (λ (y : ℕ). on y j) (c i))

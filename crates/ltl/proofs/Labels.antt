@@ -7,9 +7,9 @@ use Prim.Native.Nat.{ℕ, zero, suc, ◌+◌, ◌^◌, ◌<◌}
 use native.Mathlib.Nat.{zero-add, add-zero, add-suc, suc-add}
 use native.Mathlib.Omega.{arith}
 use Rattle.meaning.specs.Formulas.{Formula, Eventually, Sat}
-use Rattle.ltl.specs.Sets.{on, setBelow}
-use Rattle.ltl.specs.Nodes.{Plain, Temporal, next, until, eventually, always, Split, plain, temporal, temporals, operand, plainFormula, temporalFormula, obligation, obligations, splitFormulas}
-use Rattle.ltl.specs.Valuation.{temporalValue, labelBit, Valued, none, value, valueAll, valued}
+use Rattle.ltl.specs.Sets.{on, set_below}
+use Rattle.ltl.specs.Nodes.{Plain, Temporal, next, until, eventually, always, Split, plain, temporal, temporals, operand, plain_formula, temporal_formula, obligation, obligations, split_formulas}
+use Rattle.ltl.specs.Valuation.{temporal_value, label_bit, Valued, none, value, value_all, valued}
 use Rattle.ltl.proofs.Sets.{same_set, on-set, set-lt}
 use Rattle.ltl.proofs.Truth.{◌⇔◌, iff-trans, t_same, t-eq, t-and, t-or}
 use Rattle.ltl.proofs.Unfolding.{until-step}
@@ -31,7 +31,7 @@ always-step {A} {i} a f = (
 
 module _ {w : ℕ → ℕ} {i : ℕ} {fs : List Formula} {j : ℕ} {s : Valued} (k : Known w i fs j s) where
   -- a temporal node's truth, from the truth of its obligation one position later
-  pub temporal-right : (t : Temporal) (x : Bool) → Sat w (obligation fs t) (suc i) ⇔ x → Sat w (temporalFormula fs t) i ⇔ temporalValue s.values x t
+  pub temporal-right : (t : Temporal) (x : Bool) → Sat w (obligation fs t) (suc i) ⇔ x → Sat w (temporal_formula fs t) i ⇔ temporal_value s.values x t
   temporal-right (next a) x h = h
   temporal-right (until a b) x h =
       iff-trans until-step (t-or (on s.values b) (on s.values a && x) (k.right b) (t-and (on s.values a) x (k.right a) h))
@@ -40,7 +40,7 @@ module _ {w : ℕ → ℕ} {i : ℕ} {fs : List Formula} {j : ℕ} {s : Valued} 
       iff-trans (always-step {A = Sat w (operand fs a)} (on s.values a) (k.right a)) (t-and (on s.values a) x (k.right a) h)
 
   -- its obligation's truth, from its own
-  pub obligation-right : (t : Temporal) (x : Bool) → Sat w (temporalFormula fs t) i ⇔ temporalValue s.values x t → Sat w (obligation fs t) i ⇔ labelBit s.values x t
+  pub obligation-right : (t : Temporal) (x : Bool) → Sat w (temporal_formula fs t) i ⇔ temporal_value s.values x t → Sat w (obligation fs t) i ⇔ label_bit s.values x t
   obligation-right (next a) x h = k.right a
   obligation-right (until a b) x h = h
   obligation-right (eventually a) x h = h
@@ -49,25 +49,25 @@ module _ {w : ℕ → ℕ} {i : ℕ} {fs : List Formula} {j : ℕ} {s : Valued} 
 -- y holds, from bit j on, for each temporal node of ns the truth at i of its obligation
 abbrev pub LabelRight : (ℕ → ℕ) → ℕ → List Formula → ℕ → ℕ → List Split → Type 0
 LabelRight w i fs j y [] = Unit {0}
-LabelRight w i fs j y (plain p ∷ ns) = LabelRight w i (fs ++ (plainFormula fs p ∷ [])) j y ns
-LabelRight w i fs j y (temporal t ∷ ns) = (Sat w (obligation fs t) i ⇔ on y j) × LabelRight w i (fs ++ (temporalFormula fs t ∷ [])) (suc j) y ns
+LabelRight w i fs j y (plain p ∷ ns) = LabelRight w i (fs ++ (plain_formula fs p ∷ [])) j y ns
+LabelRight w i fs j y (temporal t ∷ ns) = (Sat w (obligation fs t) i ⇔ on y j) × LabelRight w i (fs ++ (temporal_formula fs t ∷ [])) (suc j) y ns
 
 module _ (w : ℕ → ℕ) (i y : ℕ) where
-  plain_more : {fs : List Formula} {j : ℕ} {s : Valued} → Known w i fs j s → (p : Plain) → Known w i (fs ++ (plainFormula fs p ∷ [])) j (value (w i) y s (plain p))
+  plain_more : {fs : List Formula} {j : ℕ} {s : Valued} → Known w i fs j s → (p : Plain) → Known w i (fs ++ (plain_formula fs p ∷ [])) j (value (w i) y s (plain p))
   plain_more k p = known-plain k y p (plain-right k p)
 
   temporal-more : {fs : List Formula} {j : ℕ} {s : Valued} → Known w i fs j s → (t : Temporal) → Sat w (obligation fs t) (suc i) ⇔ on y j
-      → Known w i (fs ++ (temporalFormula fs t ∷ [])) (suc j) (value (w i) y s (temporal t))
+      → Known w i (fs ++ (temporal_formula fs t ∷ [])) (suc j) (value (w i) y s (temporal t))
   temporal-more {j = j} k t h = known-temporal k y t (temporal-right k t (on y j) h)
 
   pub values-right : {fs : List Formula} {j : ℕ} {s : Valued} → Known w i fs j s → (ns : List Split) → LabelRight w (suc i) fs j y ns
-      → Known w i (splitFormulas fs ns) (j + temporals ns) (valueAll (w i) y s ns)
+      → Known w i (split_formulas fs ns) (j + temporals ns) (value_all (w i) y s ns)
   values-right {j = j} k [] l = rw add-zero k
   values-right k (plain p ∷ ns) l = values-right (plain_more k p) ns l
   values-right {j = j} k (temporal t ∷ ns) l = rw (add-suc, ← suc-add) (values-right (temporal-more k t l.0) ns l.1)
 
   pub label-right : {fs : List Formula} {j : ℕ} {s : Valued} → Known w i fs j s → (ns : List Split) → LabelRight w (suc i) fs j y ns
-      → LabelRight w i fs j (valueAll (w i) y s ns).label ns
+      → LabelRight w i fs j (value_all (w i) y s ns).label ns
   label-right k [] l = tt
   label-right k (plain p ∷ ns) l = label-right (plain_more k p) ns l
   label-right {j = j} {s} k (temporal t ∷ ns) l = (
@@ -86,18 +86,18 @@ label-lt e y ns = rw valued-temporals at (sized-all e y sized-none ns).label-lt
 obligations-right : (w : ℕ → ℕ) (i : ℕ) (fs : List Formula) (j y : ℕ) (ns : List Split) → LabelRight w i fs j y ns
     → (q : ℕ) → q < temporals ns → Sat w (operand (obligations fs ns) q) i ⇔ on y (j + q)
 obligations-right w i fs j y [] l q h = absurd (omega arith)
-obligations-right w i fs j y (plain p ∷ ns) l q h = obligations-right w i (fs ++ (plainFormula fs p ∷ [])) j y ns l q h
+obligations-right w i fs j y (plain p ∷ ns) l q h = obligations-right w i (fs ++ (plain_formula fs p ∷ [])) j y ns l q h
 obligations-right w i fs j y (temporal t ∷ ns) l zero h = rw add-zero l.0
 obligations-right w i fs j y (temporal t ∷ ns) l (suc q) h =
-    rw (add-suc, ← suc-add) (obligations-right w i (fs ++ (temporalFormula fs t ∷ [])) (suc j) y ns l.1 q (omega arith))
+    rw (add-suc, ← suc-add) (obligations-right w i (fs ++ (temporal_formula fs t ∷ [])) (suc j) y ns l.1 q (omega arith))
 
 pub right-obligations : (w : ℕ → ℕ) (i : ℕ) (fs : List Formula) (j y : ℕ) (ns : List Split)
     → ((q : ℕ) → q < temporals ns → Sat w (operand (obligations fs ns) q) i ⇔ on y (j + q)) → LabelRight w i fs j y ns
 right-obligations w i fs j y [] f = tt
-right-obligations w i fs j y (plain p ∷ ns) f = right-obligations w i (fs ++ (plainFormula fs p ∷ [])) j y ns f
+right-obligations w i fs j y (plain p ∷ ns) f = right-obligations w i (fs ++ (plain_formula fs p ∷ [])) j y ns f
 right-obligations w i fs j y (temporal t ∷ ns) f = (
   rw add-zero at (f 0 (omega arith)),
-  right-obligations w i (fs ++ (temporalFormula fs t ∷ [])) (suc j) y ns (λ q h. rw (add-suc, ← suc-add) at (f (suc q) (omega arith))),
+  right-obligations w i (fs ++ (temporal_formula fs t ∷ [])) (suc j) y ns (λ q h. rw (add-suc, ← suc-add) at (f (suc q) (omega arith))),
 )
 
 -- there is at most one right label
@@ -121,7 +121,7 @@ module _ (w : ℕ → ℕ) (dec : (f : Formula) (i : ℕ) → Dec (Sat w f i)) w
 
   module _ (ns : List Split) where
     abbrev pub label_at : ℕ → ℕ
-    label_at i = setBelow (temporals ns) (λ q. truth (operand (obligations [] ns) q) i)
+    label_at i = set_below (temporals ns) (λ q. truth (operand (obligations [] ns) q) i)
 
     pub label-at-right : (i : ℕ) → LabelRight w i [] 0 (label_at i) ns
     label-at-right i =
@@ -141,5 +141,5 @@ module _ (w : ℕ → ℕ) (dec : (f : Formula) (i : ℕ) → Dec (Sat w f i)) w
         (label-right w i (label_at (suc i)) (known-none w i) ns (label-at-right (suc i)))
 
     -- and so is every node's value
-    pub value-right : (i a : ℕ) → Sat w (operand (splitFormulas [] ns) a) i ⇔ on (valued (w i) (label_at (suc i)) ns).values a
+    pub value-right : (i a : ℕ) → Sat w (operand (split_formulas [] ns) a) i ⇔ on (valued (w i) (label_at (suc i)) ns).values a
     value-right i a = (values-right w i (label_at (suc i)) (known-none w i) ns (label-at-right (suc i))).right a

@@ -9,16 +9,16 @@ use lib.ListN.{replicate, get_or-replicate, get_or-map, get_or-append}
 use lib.Dec.{T, leb, le→leb}
 use Rattle.meaning.specs.Formulas.{Formula}
 use Rattle.meaning.specs.RuleFiles
-use Rattle.meaning.specs.RuleFiles.{formulaOf, formulas}
+use Rattle.meaning.specs.RuleFiles.{formula_of, formulas}
 use Rattle.meaning.specs.declared.Node.{Node}
-use Rattle.ltl.specs.Nodes.{Split, plain, temporal, falsum, kinds, split, splits, temporals, splitFormula, splitFormulas}
+use Rattle.ltl.specs.Nodes.{Split, plain, temporal, falsum, kinds, split, splits, temporals, split_formula, split_formulas}
 
-split-formula : (fs : List Formula) (n : Node) → splitFormula fs (split n) ≡ formulaOf fs n
-split-formula fs n = sym (get_or-map (splitFormula fs) (kinds n.a n.b n.upper) n.kind (plain falsum))
+split-formula : (fs : List Formula) (n : Node) → split_formula fs (split n) ≡ formula_of fs n
+split-formula fs n = sym (get_or-map (split_formula fs) (kinds n.a n.b n.upper) n.kind (plain falsum))
 
-pub split-formulas : (fs : List Formula) (ns : List Node) → splitFormulas fs (splits ns) ≡ formulas fs ns
+pub split-formulas : (fs : List Formula) (ns : List Node) → split_formulas fs (splits ns) ≡ formulas fs ns
 split-formulas fs [] = refl
-split-formulas fs (n ∷ ns) = ap (λ (f : Formula). splitFormulas (fs ++ (f ∷ [])) (splits ns)) (split-formula fs n) ∙ split-formulas (fs ++ (formulaOf fs n ∷ [])) ns
+split-formulas fs (n ∷ ns) = ap (λ (f : Formula). split_formulas (fs ++ (f ∷ [])) (splits ns)) (split-formula fs n) ∙ split-formulas (fs ++ (formula_of fs n ∷ [])) ns
 
 -- ---- temporal nodes
 

@@ -1,4 +1,4 @@
--- The profile of a lasso: its label at 0 with the rule's truth there on top. `wholeSet` holds the profiles of all continuations and no others.
+-- The profile of a lasso: its label at 0 with the rule's truth there on top. `whole_set` holds the profiles of all continuations and no others.
 use mathlib.Core.Path.{◌≡◌, sym, ap, ap₂, ◌∙◌, subst}
 use mathlib.Core.Bool.{Bool}
 use mathlib.Core.List.{List, [], ◌∷◌}
@@ -9,16 +9,16 @@ use lib.ListN.{length}
 use lib.Dec.{T}
 use Rattle.meaning.specs.Traces.{Alphabet, Event, Lasso, at, prepend, Continuation}
 use Rattle.meaning.specs.Formulas.{Formula}
-use Rattle.ltl.specs.Sets.{on, put, unionBelow}
-use Rattle.ltl.specs.Nodes.{Split, temporals, operand, splitFormulas}
+use Rattle.ltl.specs.Sets.{on, put, union_below}
+use Rattle.ltl.specs.Nodes.{Split, temporals, operand, split_formulas}
 use Rattle.ltl.specs.Valuation.{valued}
 use Rattle.ltl.specs.Realizable.{realizable}
-use Rattle.ltl.specs.Residuals.{before, profileFrom, wholeSet}
+use Rattle.ltl.specs.Residuals.{before, profile_from, whole_set}
 use Rattle.ltl.proofs.Sets.{put-lt, single-in, in-single}
 use Rattle.ltl.proofs.Searches.{only, only-cases, in-union, union-in, in-events, events-in}
 use Rattle.ltl.proofs.Truth.{iff-trans, t-eq}
 use Rattle.ltl.proofs.Shift.{Agree, shift-iff}
-use Rattle.ltl.proofs.Decidable.{decHolds}
+use Rattle.ltl.proofs.Decidable.{dec_holds}
 use Rattle.ltl.proofs.Labels.{truth, truth-right, value-right}
 use Rattle.ltl.proofs.Lassos.{label_of, label-of-lt, label_same, label-of-step, label-realizable}
 use Rattle.ltl.proofs.Realized.{realized}
@@ -26,22 +26,22 @@ use Rattle.ltl.proofs.Tables.{Tabulates, profile-valued, put-mod}
 
 -- the rule: the last node's formula
 abbrev pub root : List Split → Formula
-root ns = operand (splitFormulas [] ns) (length ns - 1)
+root ns = operand (split_formulas [] ns) (length ns - 1)
 
-abbrev pub rootOf : Lasso → List Split → ℕ → Bool
-rootOf ρ ns i = truth (at ρ) (decHolds ρ) (root ns) i
+abbrev pub root_of : Lasso → List Split → ℕ → Bool
+root_of ρ ns i = truth (at ρ) (dec_holds ρ) (root ns) i
 
-abbrev pub lassoProfile : Lasso → List Split → ℕ
-lassoProfile ρ ns = put (temporals ns) (rootOf ρ ns 0) (label_of ρ ns 0)
+abbrev pub lasso_profile : Lasso → List Split → ℕ
+lasso_profile ρ ns = put (temporals ns) (root_of ρ ns 0) (label_of ρ ns 0)
 
-pub lasso-profile-lt : (ρ : Lasso) (ns : List Split) → lassoProfile ρ ns < 2 ^ temporals ns + 2 ^ temporals ns
-lasso-profile-lt ρ ns = omega (arith, put-lt (temporals ns) (rootOf ρ ns 0) (label_of ρ ns 0) (label-of-lt ρ ns 0), pow-suc 2 (temporals ns))
+pub lasso-profile-lt : (ρ : Lasso) (ns : List Split) → lasso_profile ρ ns < 2 ^ temporals ns + 2 ^ temporals ns
+lasso-profile-lt ρ ns = omega (arith, put-lt (temporals ns) (root_of ρ ns 0) (label_of ρ ns 0) (label-of-lt ρ ns 0), pow-suc 2 (temporals ns))
 
-pub lasso-profile-label : (ρ : Lasso) (ns : List Split) → lassoProfile ρ ns % 2 ^ temporals ns ≡ label_of ρ ns 0
-lasso-profile-label ρ ns = put-mod (temporals ns) (rootOf ρ ns 0) (label_of ρ ns 0) (label-of-lt ρ ns 0)
+pub lasso-profile-label : (ρ : Lasso) (ns : List Split) → lasso_profile ρ ns % 2 ^ temporals ns ≡ label_of ρ ns 0
+lasso-profile-label ρ ns = put-mod (temporals ns) (root_of ρ ns 0) (label_of ρ ns 0) (label-of-lt ρ ns 0)
 
-root-step : (ρ : Lasso) (ns : List Split) → rootOf ρ ns 0 ≡ on (valued (at ρ 0) (label_of ρ ns 1) ns).values (length ns - 1)
-root-step ρ ns = t-eq _ _ (truth-right (at ρ) (decHolds ρ) (root ns) 0) (value-right (at ρ) (decHolds ρ) ns 0 (length ns - 1))
+root-step : (ρ : Lasso) (ns : List Split) → root_of ρ ns 0 ≡ on (valued (at ρ 0) (label_of ρ ns 1) ns).values (length ns - 1)
+root-step ρ ns = t-eq _ _ (truth-right (at ρ) (dec_holds ρ) (root ns) 0) (value-right (at ρ) (dec_holds ρ) ns 0 (length ns - 1))
 
 -- ---- one event before a lasso
 
@@ -54,7 +54,7 @@ agree_after e ρ = record { same = λ k. let p : 1 + k ≡ suc k = omega arith i
 label_after : (e : ℕ) (ρ : Lasso) (ns : List Split) → label_of (after e ρ) ns 1 ≡ label_of ρ ns 0
 label_after e ρ ns =
     label_same (after e ρ) ρ ns 1 0
-    (λ f. t-eq _ _ (truth-right (at (after e ρ)) (decHolds (after e ρ)) f 1) (iff-trans (shift-iff f (agree_after e ρ)) (truth-right (at ρ) (decHolds ρ) f 0)))
+    (λ f. t-eq _ _ (truth-right (at (after e ρ)) (dec_holds (after e ρ)) f 1) (iff-trans (shift-iff f (agree_after e ρ)) (truth-right (at ρ) (dec_holds ρ) f 0)))
 
 pub continuation-after : (Σ : Alphabet) (e : ℕ) (ρ : Lasso) → Event Σ e → Continuation Σ ρ → Continuation Σ (after e ρ)
 continuation-after Σ e ρ h c zero = h
@@ -62,28 +62,28 @@ continuation-after Σ e ρ h c (suc i) = c i
 
 module _ {Σ : Alphabet} {ns : List Split} {profile fair : ℕ → ℕ → ℕ} (table : Tabulates Σ ns profile fair) where
   -- the profile of a lasso, by its first event and the label of its rest
-  profile-of-first : (ρ : Lasso) → Event Σ (at ρ 0) → lassoProfile ρ ns ≡ profile (at ρ 0) (label_of ρ ns 1)
+  profile-of-first : (ρ : Lasso) → Event Σ (at ρ 0) → lasso_profile ρ ns ≡ profile (at ρ 0) (label_of ρ ns 1)
   profile-of-first ρ h =
       let e = at ρ 0 in let y = label_of ρ ns 1 in
       ap₂ (λ (b : Bool) (x : ℕ). put (temporals ns) b x)
       (root-step ρ ns) (sym (label-of-step ρ ns 0))
       ∙ sym (table.profile-is e y h (label-of-lt ρ ns 1) ∙ profile-valued e y ns)
 
-  pub profile-after : (e : ℕ) (ρ : Lasso) → Event Σ e → lassoProfile (after e ρ) ns ≡ profile e (label_of ρ ns 0)
+  pub profile-after : (e : ℕ) (ρ : Lasso) → Event Σ e → lasso_profile (after e ρ) ns ≡ profile e (label_of ρ ns 0)
   profile-after e ρ h = profile-of-first (after e ρ) h ∙ ap (profile e) (label_after e ρ ns)
 
   abbrev whole : ℕ
-  whole = wholeSet Σ (2 ^ temporals ns) profile (temporals ns) fair
+  whole = whole_set Σ (2 ^ temporals ns) profile (temporals ns) fair
 
   abbrev labels : ℕ
   labels = realizable Σ (2 ^ temporals ns) (before (2 ^ temporals ns) profile) fair (temporals ns)
 
-  pub whole-complete : (ρ : Lasso) → Continuation Σ ρ → T (on whole (lassoProfile ρ ns))
-  unfolding wholeSet
+  pub whole-complete : (ρ : Lasso) → Continuation Σ ρ → T (on whole (lasso_profile ρ ns))
+  unfolding whole_set
   whole-complete ρ c =
-      let e = at ρ 0 in let y = label_of ρ ns 1 in let p = lassoProfile ρ ns in
-      events-in Σ (λ e. unionBelow (2 ^ temporals ns) (profileFrom profile labels e)) p e (c 0)
-      (union-in (2 ^ temporals ns) (profileFrom profile labels e) p y (label-of-lt ρ ns 1)
+      let e = at ρ 0 in let y = label_of ρ ns 1 in let p = lasso_profile ρ ns in
+      events-in Σ (λ e. union_below (2 ^ temporals ns) (profile_from profile labels e)) p e (c 0)
+      (union-in (2 ^ temporals ns) (profile_from profile labels e) p y (label-of-lt ρ ns 1)
       (only (on labels y) (2 ^ profile e y) p (label-realizable table ρ c 1)
       (subst (λ (q : ℕ). T (on (2 ^ profile e y) q)) (sym (profile-of-first ρ (c 0))) (single-in (profile e y)))))
 
@@ -91,14 +91,14 @@ module _ {Σ : Alphabet} {ns : List Split} {profile fair : ℕ → ℕ → ℕ} 
   pub record Placed (p : ℕ) : Type 0 where
     pub lasso : Lasso
     pub continuation : Continuation Σ lasso
-    pub is : lassoProfile lasso ns ≡ p
+    pub is : lasso_profile lasso ns ≡ p
 
   pub whole-sound : (p : ℕ) → T (on whole p) → Placed p
-  unfolding wholeSet
+  unfolding whole_set
   whole-sound p t =
-      let s = in-events Σ (λ e. unionBelow (2 ^ temporals ns) (profileFrom profile labels e)) p t in
+      let s = in-events Σ (λ e. union_below (2 ^ temporals ns) (profile_from profile labels e)) p t in
       let e = s.event in
-      let v = in-union (2 ^ temporals ns) (profileFrom profile labels e) p s.test in
+      let v = in-union (2 ^ temporals ns) (profile_from profile labels e) p s.test in
       let y = v.index in
       let q = only-cases (on labels y) (2 ^ profile e y) p v.test in
       let r = realized table y q.0 in

@@ -12,8 +12,8 @@ use lib.Dec.{T}
 use Rattle.meaning.specs.Formulas.{Formula, Until, Sat}
 use Rattle.ltl.specs.Sets.{on}
 use Rattle.ltl.specs.Nodes.{Temporal, next, until, eventually, always, Split, plain, temporal, temporals}
-use Rattle.ltl.specs.Nodes.{plainFormula, temporalFormula, obligation}
-use Rattle.ltl.specs.Valuation.{temporalValue, fairBit, Valued, valueAll, valued}
+use Rattle.ltl.specs.Nodes.{plain_formula, temporal_formula, obligation}
+use Rattle.ltl.specs.Valuation.{temporal_value, fair_bit, Valued, value_all, valued}
 use Rattle.ltl.proofs.Truth.{◌⇔◌, t_not, t-or}
 use Rattle.ltl.proofs.Deciding.{decided}
 use Rattle.ltl.proofs.Unfolding.{Later}
@@ -33,41 +33,41 @@ module _ (w : ℕ → ℕ) where
   -- at k the promise of the node t is kept, or is none
   record Kept (fs : List Formula) (t : Temporal) (k : ℕ) : Type 0 where
     fair : {j : ℕ} {s : Valued} → Known w k fs j s → (x : Bool) → Sat w (obligation fs t) (suc k) ⇔ x
-        → T (fairBit s.values x t)
+        → T (fair_bit s.values x t)
 
   kept : (fs : List Formula) (t : Temporal) (i : ℕ) → ¬ ¬ Later (Kept fs t) i
   kept fs (next a) i g = g (record { time = i; after = le_refl i; there = record { fair = λ k x h. tt } })
   kept fs (until a b) i g = kept-or-none i (λ l. g (later-map (λ n p. record {
     fair = λ {s = s} k x h.
-        let v = temporalValue s.values x (until a b) in
+        let v = temporal_value s.values x (until a b) in
         (t-or (not v) (on s.values b) (t_not v (temporal-right k (until a b) x h)) (k.right b)).0 p;
   }) l))
   kept fs (eventually a) i g = kept-or-none i (λ l. g (later-map (λ n p. record {
     fair = λ {s = s} k x h.
-        let v = temporalValue s.values x (eventually a) in
+        let v = temporal_value s.values x (eventually a) in
         (t-or (not v) (on s.values a) (t_not v (temporal-right k (eventually a) x h)) (k.right a)).0 p;
   }) l))
   kept fs (always a) i g = kept-or-none i (λ l. g (later-map (λ n p. record {
     fair = λ {s = s} k x h.
-        let v = temporalValue s.values x (always a) in
+        let v = temporal_value s.values x (always a) in
         (t-or v (not (on s.values a)) (temporal-right k (always a) x h) (t_not (on s.values a) (k.right a))).0 p;
   }) l))
 
   -- the edge at k is fair to the temporal node q, those of ns being counted from j on
   record FairFrom (fs : List Formula) (j : ℕ) (ns : List Split) (q k : ℕ) : Type 0 where
     fair : {s : Valued} → Known w k fs j s → (y : ℕ) → LabelRight w (suc k) fs j y ns
-        → T (on (valueAll (w k) y s ns).fairs q)
+        → T (on (value_all (w k) y s ns).fairs q)
 
   fair-from : (fs : List Formula) (j : ℕ) (ns : List Split) (q : ℕ) → j ≤ q → q < j + temporals ns
       → (i : ℕ) → ¬ ¬ Later (FairFrom fs j ns q) i
   fair-from fs j [] q h l i g = omega arith
   fair-from fs j (plain p ∷ ns) q h l i g =
-      fair-from (fs ++ (plainFormula fs p ∷ [])) j ns q h l i
+      fair-from (fs ++ (plain_formula fs p ∷ [])) j ns q h l i
       (λ f. g (later-map (λ n r. record { fair = λ k y o. r.fair (known-plain k y p (plain-right k p)) y o }) f))
   fair-from fs j (temporal t ∷ ns) q h l i g =
-      go (λ e. fair-from (fs ++ (temporalFormula fs t ∷ [])) (suc j) ns q e (omega arith) i) (ℕ_discrete q j)
+      go (λ e. fair-from (fs ++ (temporal_formula fs t ∷ [])) (suc j) ns q e (omega arith) i) (ℕ_discrete q j)
     where
-      go : (j < q → ¬ ¬ Later (FairFrom (fs ++ (temporalFormula fs t ∷ [])) (suc j) ns q) i) → Dec (q ≡ j) → ⊥
+      go : (j < q → ¬ ¬ Later (FairFrom (fs ++ (temporal_formula fs t ∷ [])) (suc j) ns q) i) → Dec (q ≡ j) → ⊥
       go f (yes e) = kept fs t i (λ f. g (later-map (λ n r. record {
         fair = λ k y o. rw (e, fairs-here k (w n) y t ns) (r.fair k (on y j) o.0);
       }) f))

@@ -11,7 +11,7 @@ use Rattle.ltl.specs.Valuation.{valued}
 use Rattle.ltl.specs.Realizable.{realizable}
 use Rattle.ltl.specs.Residuals.{before}
 use Rattle.ltl.proofs.Unfolding.{Later}
-use Rattle.ltl.proofs.Decidable.{decHolds}
+use Rattle.ltl.proofs.Decidable.{dec_holds}
 use Rattle.ltl.proofs.Labels.{LabelRight, label-unique}
 use Rattle.ltl.proofs.Fairness.{run-right}
 use Rattle.ltl.proofs.Walks.{Walk, Way, events, events-pos, Round}
@@ -31,8 +31,8 @@ module _ {Σ : Alphabet} {ns : List Split} {profile fair : ℕ → ℕ → ℕ} 
   E x e y = Edge Σ (2 ^ temporals ns) (before (2 ^ temporals ns) profile) x e y
 
   module _ {c x : ℕ} (r : Round E (Fair fair) (temporals ns) c) (w : Walk E x c) where
-    abbrev lassoOf : Lasso
-    lassoOf = record { stem = events w; loop = events r.walk; nonEmpty = events-pos r.walk }
+    abbrev lasso_of : Lasso
+    lasso_of = record { stem = events w; loop = events r.walk; non_empty = events-pos r.walk }
 
     abbrev state : ℕ → State E c
     state i = after r.walk (record { label = x; rest = w }) i
@@ -54,14 +54,14 @@ module _ {Σ : Alphabet} {ns : List Split} {profile fair : ℕ → ℕ → ℕ} 
         let l = again r.walk (Fair fair q) (r.has q h) (record { label = x; rest = w }) i in
         record { time = l.time; after = l.after; there = rw (table.fair-is (event-at l.time) (label_at (suc l.time)) (edge_at l.time).event (edge_at l.time).to) at l.there }
 
-    label-right : LabelRight (at lassoOf) 0 [] 0 x ns
+    label-right : LabelRight (at lasso_of) 0 [] 0 x ns
     label-right = subst (λ (v : ℕ → ℕ). LabelRight v 0 [] 0 x ns) (fun_ext (word r.walk w)) (run-right event-at label_at ns consistent fair-later 0)
 
     realized-walk : x < 2 ^ temporals ns → Realized Σ ns x
     realized-walk h = record {
-      lasso = lassoOf;
+      lasso = lasso_of;
       continuation = λ i. subst (λ (e : ℕ). Event Σ e) (word r.walk w i) (edge_at i).event;
-      is = sym (label-unique (at lassoOf) (decHolds lassoOf) ns 0 x h label-right);
+      is = sym (label-unique (at lasso_of) (dec_holds lasso_of) ns 0 x h label-right);
     }
 
   realized-way : {c x : ℕ} → Round E (Fair fair) (temporals ns) c → Way E x c → x < 2 ^ temporals ns → Realized Σ ns x

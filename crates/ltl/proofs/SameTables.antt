@@ -6,7 +6,7 @@ use lib.Dec.{T}
 use Rattle.meaning.specs.Traces.{Alphabet}
 use Rattle.ltl.specs.Sets.{on}
 use Rattle.ltl.specs.Nodes.{Split, temporals}
-use Rattle.ltl.specs.Residuals.{wholeSet}
+use Rattle.ltl.specs.Residuals.{whole_set}
 use Rattle.ltl.proofs.Sets.{same-members}
 use Rattle.ltl.proofs.Truth.{t-equal}
 use Rattle.ltl.proofs.Tables.{Tabulates}
@@ -16,9 +16,9 @@ module _ {Σ : Alphabet} {ns : List Split} {profile fair profile' fair' : ℕ �
   abbrev n : ℕ
   n = 2 ^ temporals ns
 
-  pub same_whole : wholeSet Σ n profile (temporals ns) fair ≡ wholeSet Σ n profile' (temporals ns) fair'
+  pub same_whole : whole_set Σ n profile (temporals ns) fair ≡ whole_set Σ n profile' (temporals ns) fair'
   same_whole =
-      same-members (wholeSet Σ n profile (temporals ns) fair) (wholeSet Σ n profile' (temporals ns) fair')
-      (λ p. t-equal (on (wholeSet Σ n profile (temporals ns) fair) p) (on (wholeSet Σ n profile' (temporals ns) fair') p)
-      (λ h. let r = whole-sound t p h in subst (λ (q : ℕ). T (on (wholeSet Σ n profile' (temporals ns) fair') q)) r.is (whole-complete t' r.lasso r.continuation))
-      (λ h. let r = whole-sound t' p h in subst (λ (q : ℕ). T (on (wholeSet Σ n profile (temporals ns) fair) q)) r.is (whole-complete t r.lasso r.continuation)))
+      same-members (whole_set Σ n profile (temporals ns) fair) (whole_set Σ n profile' (temporals ns) fair')
+      (λ p. t-equal (on (whole_set Σ n profile (temporals ns) fair) p) (on (whole_set Σ n profile' (temporals ns) fair') p)
+      (λ h. let r = whole-sound t p h in subst (λ (q : ℕ). T (on (whole_set Σ n profile' (temporals ns) fair') q)) r.is (whole-complete t' r.lasso r.continuation))
+      (λ h. let r = whole-sound t' p h in subst (λ (q : ℕ). T (on (whole_set Σ n profile (temporals ns) fair) q)) r.is (whole-complete t r.lasso r.continuation)))

@@ -9,7 +9,7 @@ use native.Mathlib.Omega.{arith}
 use lib.Dec.{T, eqb}
 use lib.Bits.{bit_and, bit_or, and_shr, and_mod, or_shr, or_step}
 use lib.Pow.{pow_pos, pow_mono}
-use Rattle.ltl.specs.Sets.{on, put, setBelow}
+use Rattle.ltl.specs.Sets.{on, put, set_below}
 
 pub on-zero : (i : ℕ) → on 0 i ≡ false
 on-zero i = rw zero-div
@@ -84,39 +84,39 @@ put_other (suc k) b A (suc i) h n =
 
 -- ---- sets by a test
 
-pub set-lt : (n : ℕ) (f : ℕ → Bool) → setBelow n f < 2 ^ n
+pub set-lt : (n : ℕ) (f : ℕ → Bool) → set_below n f < 2 ^ n
 set-lt zero f = omega arith
-set-lt (suc n) f = put-lt n (f n) (setBelow n f) (set-lt n f)
+set-lt (suc n) f = put-lt n (f n) (set_below n f) (set-lt n f)
 
-pub on-set : (n : ℕ) (f : ℕ → Bool) (i : ℕ) → i < n → on (setBelow n f) i ≡ f i
+pub on-set : (n : ℕ) (f : ℕ → Bool) (i : ℕ) → i < n → on (set_below n f) i ≡ f i
 on-set zero f i h = absurd (omega arith)
 on-set (suc n) f i h = go (on-set n f i) (ℕ_discrete i n)
   where
-    go : (i < n → on (setBelow n f) i ≡ f i) → Dec (i ≡ n) → on (put n (f n) (setBelow n f)) i ≡ f i
-    go r (yes e) = rw e (put-here n (f n) (setBelow n f) (set-lt n f))
-    go r (no e) = put_other n (f n) (setBelow n f) i (set-lt n f) e ∙ r (omega arith)
+    go : (i < n → on (set_below n f) i ≡ f i) → Dec (i ≡ n) → on (put n (f n) (set_below n f)) i ≡ f i
+    go r (yes e) = rw e (put-here n (f n) (set_below n f) (set-lt n f))
+    go r (no e) = put_other n (f n) (set_below n f) i (set-lt n f) e ∙ r (omega arith)
 
 -- a set made by a test has only numbers below its bound, and they pass the test
-pub in-set : (n : ℕ) (f : ℕ → Bool) (i : ℕ) → T (on (setBelow n f) i) → (i < n) × T (f i)
+pub in-set : (n : ℕ) (f : ℕ → Bool) (i : ℕ) → T (on (set_below n f) i) → (i < n) × T (f i)
 in-set n f i t = go (dec_lt i n)
   where
     go : Dec (i < n) → (i < n) × T (f i)
     go (yes h) = (h, subst T (on-set n f i h) t)
-    go (no h) = absurd (subst T (on_out (setBelow n f) n i (set-lt n f) (omega arith)) t)
+    go (no h) = absurd (subst T (on_out (set_below n f) n i (set-lt n f) (omega arith)) t)
 
-pub set-in : (n : ℕ) (f : ℕ → Bool) (i : ℕ) → i < n → T (f i) → T (on (setBelow n f) i)
+pub set-in : (n : ℕ) (f : ℕ → Bool) (i : ℕ) → i < n → T (f i) → T (on (set_below n f) i)
 set-in n f i h t = subst T (sym (on-set n f i h)) t
 
-pub set_same : (n : ℕ) (f g : ℕ → Bool) → ((i : ℕ) → i < n → f i ≡ g i) → setBelow n f ≡ setBelow n g
-set_same n f g h = same_set n (setBelow n f) (setBelow n g) (set-lt n f) (set-lt n g) (λ i l. on-set n f i l ∙ h i l ∙ sym (on-set n g i l))
+pub set_same : (n : ℕ) (f g : ℕ → Bool) → ((i : ℕ) → i < n → f i ≡ g i) → set_below n f ≡ set_below n g
+set_same n f g h = same_set n (set_below n f) (set_below n g) (set-lt n f) (set-lt n g) (λ i l. on-set n f i l ∙ h i l ∙ sym (on-set n g i l))
 
 -- a set whose members are below k
 pub members-lt : (k A : ℕ) → ((i : ℕ) → T (on A i) → i < k) → A < 2 ^ k
-members-lt k A f = subst (λ (B : ℕ). B < 2 ^ k) (sym (same-members A (setBelow k (on A)) (λ i. go i (dec_lt i k)))) (set-lt k (on A))
+members-lt k A f = subst (λ (B : ℕ). B < 2 ^ k) (sym (same-members A (set_below k (on A)) (λ i. go i (dec_lt i k)))) (set-lt k (on A))
   where
-    go : (i : ℕ) → Dec (i < k) → on A i ≡ on (setBelow k (on A)) i
+    go : (i : ℕ) → Dec (i < k) → on A i ≡ on (set_below k (on A)) i
     go i (yes h) = sym (on-set k (on A) i h)
-    go i (no h) = out (on A i) (f i) ∙ sym (on_out (setBelow k (on A)) k i (set-lt k (on A)) (omega arith))
+    go i (no h) = out (on A i) (f i) ∙ sym (on_out (set_below k (on A)) k i (set-lt k (on A)) (omega arith))
       where
         out : (b : Bool) → (T b → i < k) → b ≡ false
         out true g = absurd (h (g tt))

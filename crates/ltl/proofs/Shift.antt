@@ -8,7 +8,7 @@ use native.Mathlib.Omega.{arith}
 use lib.ListN.{length}
 use Rattle.meaning.specs.Traces.{Lasso, turn}
 use Rattle.meaning.specs.Bytes.{bit}
-use Rattle.meaning.specs.Formulas.{Formula, falsum, verum, signal, at_least, neg, and, or, implies, iff, xor, next, until, eventually, always, Until, Sat, Holds, countOn}
+use Rattle.meaning.specs.Formulas.{Formula, falsum, verum, signal, at_least, neg, and, or, implies, iff, xor, next, until, eventually, always, Until, Sat, Holds, count_on}
 
 -- w from i on is v from j on
 pub record Agree (w : ℕ → ℕ) (i : ℕ) (v : ℕ → ℕ) (j : ℕ) : Type 0 where
@@ -46,7 +46,7 @@ pub shift : {w v : ℕ → ℕ} (f : Formula) {i j : ℕ} → Agree w i v j → 
 shift falsum h s = s
 shift verum h s = s
 shift (signal x) h s = subst (λ (e : ℕ). bit x e ≡ 1) (agree-here h) s
-shift (at_least x n u) h s = subst (λ (e : ℕ). (n ≤ countOn 4 x e) × (countOn 4 x e ≤ u)) (agree-here h) s
+shift (at_least x n u) h s = subst (λ (e : ℕ). (n ≤ count_on 4 x e) × (count_on 4 x e ≤ u)) (agree-here h) s
 shift (neg a) h s = λ t. s (shift a (agree-sym h) t)
 shift (and a b) h s = (shift a h s.0, shift b h s.1)
 shift (or a b) h (inl s) = inl (shift a h s)

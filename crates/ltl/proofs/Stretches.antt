@@ -12,7 +12,7 @@ use native.Mathlib.Omega.{arith}
 use lib.Dec.{T}
 use Rattle.meaning.specs.Traces.{Alphabet, Event}
 use Rattle.meaning.specs.Formulas.{Sat}
-use Rattle.ltl.specs.Sets.{on, setBelow}
+use Rattle.ltl.specs.Sets.{on, set_below}
 use Rattle.ltl.specs.Nodes.{Split, temporals, operand, obligations}
 use Rattle.ltl.specs.Valuation.{valued}
 use Rattle.ltl.specs.Realizable.{realizable}
@@ -59,9 +59,9 @@ module _ (w : ℕ → ℕ) (ns : List Split) where
 
     labelled : Labelled Right (2 ^ temporals ns) i
     labelled = record {
-      label = setBelow (temporals ns) test;
+      label = set_below (temporals ns) test;
       below = set-lt (temporals ns) test;
-      has = right-obligations w i [] 0 (setBelow (temporals ns) test) ns
+      has = right-obligations w i [] 0 (set_below (temporals ns) test) ns
           (λ q h. rw (zero-add q, on-set (temporals ns) test q h) (test-right q h));
     }
 

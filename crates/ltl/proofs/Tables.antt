@@ -8,17 +8,17 @@ use lib.ListN.{length}
 use Rattle.meaning.specs.Traces.{Alphabet, Event}
 use Rattle.ltl.specs.Sets.{on, put}
 use Rattle.ltl.specs.Nodes.{Split, temporals}
-use Rattle.ltl.specs.Valuation.{none, valued, profileOf}
+use Rattle.ltl.specs.Valuation.{none, valued, profile_of}
 use Rattle.ltl.specs.Residuals.{before}
 use Rattle.ltl.proofs.Valuation.{count-all}
 use Rattle.ltl.proofs.Labels.{valued-temporals, label-lt}
 
 pub record Tabulates (Σ : Alphabet) (ns : List Split) (profile fair : ℕ → ℕ → ℕ) : Type 0 where
-  pub profile-is : (e y : ℕ) → Event Σ e → y < 2 ^ temporals ns → profile e y ≡ profileOf (valued e y ns)
+  pub profile-is : (e y : ℕ) → Event Σ e → y < 2 ^ temporals ns → profile e y ≡ profile_of (valued e y ns)
   pub fair-is : (e y : ℕ) → Event Σ e → y < 2 ^ temporals ns → fair e y ≡ (valued e y ns).fairs
 
 -- a profile is the label with the rule's value on top
-pub profile-valued : (e y : ℕ) (ns : List Split) → profileOf (valued e y ns) ≡ put (temporals ns) (on (valued e y ns).values (length ns - 1)) (valued e y ns).label
+pub profile-valued : (e y : ℕ) (ns : List Split) → profile_of (valued e y ns) ≡ put (temporals ns) (on (valued e y ns).values (length ns - 1)) (valued e y ns).label
 profile-valued e y ns =
     ap₂ (λ (m c : ℕ). put m (on (valued e y ns).values (c - 1)) (valued e y ns).label) (valued-temporals e y ns) (count-all e y none ns ∙ zero-add (length ns))
 

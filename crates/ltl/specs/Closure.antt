@@ -7,11 +7,11 @@ abbrev pub row : List ℕ → ℕ → ℕ
 row rows x = get_or rows x 0
 
 -- a row with the ways through k, where `through` is the row of k
-abbrev pub passRow : ℕ → ℕ → ℕ → ℕ
-passRow k through r = elim (on r k) [ true ↦ bit_or through r | false ↦ r ]
+abbrev pub pass_row : ℕ → ℕ → ℕ → ℕ
+pass_row k through r = elim (on r k) [ true ↦ bit_or through r | false ↦ r ]
 
 abbrev pub pass : ℕ → List ℕ → List ℕ
-pass k rows = map (passRow k (row rows k)) rows
+pass k rows = map (pass_row k (row rows k)) rows
 
 -- the ways through the numbers below n
 abbrev pub closure : ℕ → List ℕ → List ℕ

@@ -3,8 +3,8 @@ use Rattle.std.specs.Prelude.{Bool, List, [], ℕ, ◌^◌, get_or, eqb}
 use Rattle.sequences.specs.Tabulate.{tabulate}
 use Rattle.meaning.specs.Traces.{Alphabet}
 use Rattle.ltl.specs.Nodes.{Split, temporals}
-use Rattle.ltl.specs.Valuation.{Valued, valued, profileOf}
-use Rattle.ltl.specs.Residuals.{startFrom, stepFrom, wholeSet}
+use Rattle.ltl.specs.Valuation.{Valued, valued, profile_of}
+use Rattle.ltl.specs.Residuals.{start_from, step_from, whole_set}
 
 -- how many labels there are, the profile by event and next label, and the profiles of all continuations
 pub record Tables : Type 0 where
@@ -21,24 +21,24 @@ abbrev pub table_of : Alphabet → List Split → ℕ → (Valued → ℕ) → L
 table_of Σ ns n f = tabulate Σ.width (λ e. tabulate n (λ y. f (valued e y ns)))
 
 -- m temporal nodes, n labels
-abbrev pub tablesFrom : Alphabet → ℕ → ℕ → List (List ℕ) → List (List ℕ) → Tables
-tablesFrom Σ m n profiles fairs = record { labels = n; profiles = profiles; whole = wholeSet Σ n (look profiles) m (look fairs) }
+abbrev pub tables_from : Alphabet → ℕ → ℕ → List (List ℕ) → List (List ℕ) → Tables
+tables_from Σ m n profiles fairs = record { labels = n; profiles = profiles; whole = whole_set Σ n (look profiles) m (look fairs) }
 
 unfoldable pub tables_of : Alphabet → List Split → Tables
 tables_of Σ ns =
-    tablesFrom Σ (temporals ns) (2 ^ temporals ns) (table_of Σ ns (2 ^ temporals ns) profileOf) (table_of Σ ns (2 ^ temporals ns) (λ v. v.fairs))
+    tables_from Σ (temporals ns) (2 ^ temporals ns) (table_of Σ ns (2 ^ temporals ns) profile_of) (table_of Σ ns (2 ^ temporals ns) (λ v. v.fairs))
 
 -- before any event
-abbrev pub startKey : Tables → ℕ
-startKey t = startFrom t.labels t.whole
+abbrev pub start_key : Tables → ℕ
+start_key t = start_from t.labels t.whole
 
 -- after one event more
-abbrev pub stepKey : Tables → ℕ → ℕ → ℕ
-stepKey t A e = stepFrom t.labels (look t.profiles) t.whole A e
+abbrev pub step_key : Tables → ℕ → ℕ → ℕ
+step_key t A e = step_from t.labels (look t.profiles) t.whole A e
 
 -- no continuation satisfies the rule; every one does
-abbrev pub emptyKey : ℕ → Bool
-emptyKey A = eqb A 0
+abbrev pub empty_key : ℕ → Bool
+empty_key A = eqb A 0
 
-abbrev pub fullKey : Tables → ℕ → Bool
-fullKey t A = eqb A t.whole
+abbrev pub full_key : Tables → ℕ → Bool
+full_key t A = eqb A t.whole

@@ -48,41 +48,41 @@ temporals (temporal t ∷ ns) = suc (temporals ns)
 abbrev pub operand : List Formula → ℕ → Formula
 operand fs a = get_or fs a Formula.falsum
 
-abbrev pub plainFormula : List Formula → Plain → Formula
-plainFormula fs falsum = Formula.falsum
-plainFormula fs verum = Formula.verum
-plainFormula fs (signal s) = Formula.signal s
-plainFormula fs (at_least m k u) = Formula.at_least m k u
-plainFormula fs (neg a) = Formula.neg (operand fs a)
-plainFormula fs (and a b) = Formula.and (operand fs a) (operand fs b)
-plainFormula fs (or a b) = Formula.or (operand fs a) (operand fs b)
-plainFormula fs (implies a b) = Formula.implies (operand fs a) (operand fs b)
-plainFormula fs (iff a b) = Formula.iff (operand fs a) (operand fs b)
-plainFormula fs (xor a b) = Formula.xor (operand fs a) (operand fs b)
+abbrev pub plain_formula : List Formula → Plain → Formula
+plain_formula fs falsum = Formula.falsum
+plain_formula fs verum = Formula.verum
+plain_formula fs (signal s) = Formula.signal s
+plain_formula fs (at_least m k u) = Formula.at_least m k u
+plain_formula fs (neg a) = Formula.neg (operand fs a)
+plain_formula fs (and a b) = Formula.and (operand fs a) (operand fs b)
+plain_formula fs (or a b) = Formula.or (operand fs a) (operand fs b)
+plain_formula fs (implies a b) = Formula.implies (operand fs a) (operand fs b)
+plain_formula fs (iff a b) = Formula.iff (operand fs a) (operand fs b)
+plain_formula fs (xor a b) = Formula.xor (operand fs a) (operand fs b)
 
-abbrev pub temporalFormula : List Formula → Temporal → Formula
-temporalFormula fs (next a) = Formula.next (operand fs a)
-temporalFormula fs (until a b) = Formula.until (operand fs a) (operand fs b)
-temporalFormula fs (eventually a) = Formula.eventually (operand fs a)
-temporalFormula fs (always a) = Formula.always (operand fs a)
+abbrev pub temporal_formula : List Formula → Temporal → Formula
+temporal_formula fs (next a) = Formula.next (operand fs a)
+temporal_formula fs (until a b) = Formula.until (operand fs a) (operand fs b)
+temporal_formula fs (eventually a) = Formula.eventually (operand fs a)
+temporal_formula fs (always a) = Formula.always (operand fs a)
 
 -- the formula whose truth at a position is the temporal node's bit of the label there
 abbrev pub obligation : List Formula → Temporal → Formula
 obligation fs (next a) = operand fs a
-obligation fs (until a b) = temporalFormula fs (until a b)
-obligation fs (eventually a) = temporalFormula fs (eventually a)
-obligation fs (always a) = temporalFormula fs (always a)
+obligation fs (until a b) = temporal_formula fs (until a b)
+obligation fs (eventually a) = temporal_formula fs (eventually a)
+obligation fs (always a) = temporal_formula fs (always a)
 
-abbrev pub splitFormula : List Formula → Split → Formula
-splitFormula fs (plain p) = plainFormula fs p
-splitFormula fs (temporal t) = temporalFormula fs t
+abbrev pub split_formula : List Formula → Split → Formula
+split_formula fs (plain p) = plain_formula fs p
+split_formula fs (temporal t) = temporal_formula fs t
 
-abbrev pub splitFormulas : List Formula → List Split → List Formula
-splitFormulas fs [] = fs
-splitFormulas fs (n ∷ ns) = splitFormulas (fs ++ (splitFormula fs n ∷ [])) ns
+abbrev pub split_formulas : List Formula → List Split → List Formula
+split_formulas fs [] = fs
+split_formulas fs (n ∷ ns) = split_formulas (fs ++ (split_formula fs n ∷ [])) ns
 
 -- the obligations of the temporal nodes, in their order
 abbrev pub obligations : List Formula → List Split → List Formula
 obligations fs [] = []
-obligations fs (plain p ∷ ns) = obligations (fs ++ (plainFormula fs p ∷ [])) ns
-obligations fs (temporal t ∷ ns) = obligation fs t ∷ obligations (fs ++ (temporalFormula fs t ∷ [])) ns
+obligations fs (plain p ∷ ns) = obligations (fs ++ (plain_formula fs p ∷ [])) ns
+obligations fs (temporal t ∷ ns) = obligation fs t ∷ obligations (fs ++ (temporal_formula fs t ∷ [])) ns

@@ -14,30 +14,30 @@ put k true A = A + 2 ^ k
 put k false A = A
 
 -- the numbers below n that pass the test f
-abbrev pub setBelow : ℕ → (ℕ → Bool) → ℕ
-setBelow zero f = 0
-setBelow (suc n) f = put n (f n) (setBelow n f)
+abbrev pub set_below : ℕ → (ℕ → Bool) → ℕ
+set_below zero f = 0
+set_below (suc n) f = put n (f n) (set_below n f)
 
 -- some number below n passes the test f
-abbrev pub someBelow : ℕ → (ℕ → Bool) → Bool
-someBelow zero f = false
-someBelow (suc n) f = elim (f n) [ true ↦ true | false ↦ someBelow n f ]
+abbrev pub some_below : ℕ → (ℕ → Bool) → Bool
+some_below zero f = false
+some_below (suc n) f = elim (f n) [ true ↦ true | false ↦ some_below n f ]
 
 -- every number below n passes the test f
-abbrev pub everyBelow : ℕ → (ℕ → Bool) → Bool
-everyBelow zero f = true
-everyBelow (suc n) f = elim (f n) [ true ↦ everyBelow n f | false ↦ false ]
+abbrev pub every_below : ℕ → (ℕ → Bool) → Bool
+every_below zero f = true
+every_below (suc n) f = elim (f n) [ true ↦ every_below n f | false ↦ false ]
 
 -- the union of f 0, f 1, .., f (n - 1)
-abbrev pub unionBelow : ℕ → (ℕ → ℕ) → ℕ
-unionBelow zero f = 0
-unionBelow (suc n) f = bit_or (f n) (unionBelow n f)
+abbrev pub union_below : ℕ → (ℕ → ℕ) → ℕ
+union_below zero f = 0
+union_below (suc n) f = bit_or (f n) (union_below n f)
 
 module _ (Σ : Alphabet) where
   -- some event that can happen passes the test f
-  abbrev pub someEvent : (ℕ → Bool) → Bool
-  someEvent f = someBelow Σ.width (λ e. elim (Σ.possible e) [ true ↦ f e | false ↦ false ])
+  abbrev pub some_event : (ℕ → Bool) → Bool
+  some_event f = some_below Σ.width (λ e. elim (Σ.possible e) [ true ↦ f e | false ↦ false ])
 
   -- the union of f e over the events e that can happen
-  abbrev pub unionEvents : (ℕ → ℕ) → ℕ
-  unionEvents f = unionBelow Σ.width (λ e. elim (Σ.possible e) [ true ↦ f e | false ↦ 0 ])
+  abbrev pub union_events : (ℕ → ℕ) → ℕ
+  union_events f = union_below Σ.width (λ e. elim (Σ.possible e) [ true ↦ f e | false ↦ 0 ])

@@ -8,8 +8,8 @@ abbrev pub bit : ℕ → ℕ → ℕ
 bit k n = (n / 2 ^ k) % 2
 
 -- "two bytes, low byte first", at place i of the bytes b
-abbrev pub u16At : List ℕ → ℕ → ℕ
-u16At b i = get_or b i 0 + 256 * get_or b (i + 1) 0
+abbrev pub u16_at : List ℕ → ℕ → ℕ
+u16_at b i = get_or b i 0 + 256 * get_or b (i + 1) 0
 
 -- a word in ASCII: the code of each character
 abbrev pub ascii : String → List ℕ

@@ -14,9 +14,9 @@ pub data Formula : Type 0 where
   eventually always : Formula → Formula
 
 -- how many of the signals below n are in the mask m and on in the event e, counted one by one: "bit s (bit 0 lowest) says that signal s is on"
-abbrev pub countOn : ℕ → ℕ → ℕ → ℕ
-countOn zero m e = 0
-countOn (suc s) m e = bit s m * bit s e + countOn s m e
+abbrev pub count_on : ℕ → ℕ → ℕ → ℕ
+count_on zero m e = 0
+count_on (suc s) m e = bit s m * bit s e + count_on s m e
 
 -- "'a until b' holds where b holds now or later and a holds at each position before that one, from now on."
 pub record Until (A B : ℕ → Type 0) (i : ℕ) : Type 0 where
@@ -37,7 +37,7 @@ abbrev pub Sat : (ℕ → ℕ) → Formula → ℕ → Type 0
 Sat w falsum i = ⊥
 Sat w verum i = Unit {0}
 Sat w (signal s) i = bit s (w i) ≡ 1
-Sat w (at_least m k upper) i = (k ≤ countOn 4 m (w i)) × (countOn 4 m (w i) ≤ upper)
+Sat w (at_least m k upper) i = (k ≤ count_on 4 m (w i)) × (count_on 4 m (w i) ≤ upper)
 Sat w (neg a) i = ¬ Sat w a i
 Sat w (and a b) i = Sat w a i × Sat w b i
 Sat w (or a b) i = Sat w a i ⊎ Sat w b i

@@ -1,8 +1,8 @@
 -- Document 02, C-15: "From a fresh desk, which only posts and turns with one table change, each turn taking the number that the turn before returned".
 use Rattle.std.specs.Prelude.{List, [], ◌∷◌, ◌++◌, Bool, cond, ℕ, suc, replicate, eqb}
-use Rattle.meaning.specs.TableFiles.{monitorOf}
+use Rattle.meaning.specs.TableFiles.{monitor_of}
 use Rattle.meaning.specs.Openings.{Opening}
-use Rattle.meaning.specs.Desks.{Outcome, freshWatch, post_of, turn_of}
+use Rattle.meaning.specs.Desks.{Outcome, fresh_watch, post_of, turn_of}
 use Rattle.meaning.specs.declared.Watch.{Watch}
 use Rattle.meaning.specs.declared.Served.{Served}
 use Rattle.meaning.specs.declared.Served.TheVariants as Served
@@ -19,14 +19,14 @@ pub record Standing : Type 0 where
 
 -- a fresh desk of n watches, made with the opening o, whose first turn takes l
 abbrev pub begun : Opening → ℕ → ℕ → Standing
-begun o n l = record { desk = replicate n (freshWatch o.number ((monitorOf o.table).verdict 0)); last = l }
+begun o n l = record { desk = replicate n (fresh_watch o.number ((monitor_of o.table).verdict 0)); last = l }
 
 -- the number that an answer returns, and l where it returns none
-abbrev pub lastAfter : Served → ℕ → ℕ
-lastAfter Served.Done l = l
-lastAfter (Served.Heard i e s v) l = i
-lastAfter (Served.NoneWaits k) l = k
-lastAfter (Served.Refused x) l = l
+abbrev pub last_after : Served → ℕ → ℕ
+last_after Served.Done l = l
+last_after (Served.Heard i e s v) l = i
+last_after (Served.NoneWaits k) l = k
+last_after (Served.Refused x) l = l
 
 -- what an action comes to, with the opening o
 abbrev pub asked : Opening → Standing → Action → Outcome
@@ -34,7 +34,7 @@ asked o c (Post i e) = post_of o c.desk i e
 asked o c Turn = turn_of o c.desk c.last
 
 abbrev pub onward : Opening → Standing → Action → Standing
-onward o c a = record { desk = (asked o c a).desk; last = lastAfter (asked o c a).answer c.last }
+onward o c a = record { desk = (asked o c a).desk; last = last_after (asked o c a).answer c.last }
 
 -- after a list of actions
 abbrev pub reached : Opening → Standing → List Action → Standing

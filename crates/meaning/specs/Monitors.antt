@@ -14,8 +14,8 @@ pub record Monitor : Type 0 where
   pub next : ℕ → ℕ → ℕ
 
 pub record Over (Σ : Alphabet) (m : Monitor) : Type 0 where
-  pub start-in : m.start < m.states
-  pub next-in : (s e : ℕ) → s < m.states → Event Σ e → m.next s e < m.states
+  pub start_in : m.start < m.states
+  pub next_in : (s e : ℕ) → s < m.states → Event Σ e → m.next s e < m.states
 
 -- "Each event moves it to the successor, for that event, of the state on which it stands; nothing else moves it."
 abbrev pub follow : Monitor → ℕ → List ℕ → ℕ
@@ -37,8 +37,8 @@ pub record Renumbered (Σ : Alphabet) (ours other : Monitor) : Type 0 where
   pub from : ℕ → ℕ
   pub to_in : (s : ℕ) → s < ours.states → to s < other.states
   pub from_in : (t : ℕ) → t < other.states → from t < ours.states
-  pub from-to : (s : ℕ) → s < ours.states → from (to s) ≡ s
-  pub to-from : (t : ℕ) → t < other.states → to (from t) ≡ t
+  pub from_to : (s : ℕ) → s < ours.states → from (to s) ≡ s
+  pub to_from : (t : ℕ) → t < other.states → to (from t) ≡ t
   pub starts : to ours.start ≡ other.start
   pub verdicts : (s : ℕ) → s < ours.states → other.verdict (to s) ≡ ours.verdict s
   pub successors : (s e : ℕ) → s < ours.states → Event Σ e → other.next (to s) e ≡ to (ours.next s e)
@@ -50,9 +50,9 @@ member s [] = false
 member s (t ∷ ts) = eqb s t || member s ts
 
 -- of a list of states, those that were not met before, each once, in the order of their first meeting
-abbrev pub newlyMet : List ℕ → List ℕ → List ℕ
-newlyMet met [] = []
-newlyMet met (t ∷ ts) = cond (member t met) (newlyMet met ts) (t ∷ newlyMet (met ++ (t ∷ [])) ts)
+abbrev pub newly_met : List ℕ → List ℕ → List ℕ
+newly_met met [] = []
+newly_met met (t ∷ ts) = cond (member t met) (newly_met met ts) (t ∷ newly_met (met ++ (t ∷ [])) ts)
 
 abbrev pub keep : (ℕ → Bool) → List ℕ → List ℕ
 keep p [] = []
@@ -66,7 +66,7 @@ events Σ = keep Σ.possible (up_to Σ.width)
 abbrev pub walk : Alphabet → Monitor → ℕ → List ℕ → List ℕ → List ℕ
 walk Σ m zero queue met = met
 walk Σ m (suc k) [] met = met
-walk Σ m (suc k) (s ∷ queue) met = let new = newlyMet met (map (m.next s) (events Σ)) in walk Σ m k (queue ++ new) (met ++ new)
+walk Σ m (suc k) (s ∷ queue) met = let new = newly_met met (map (m.next s) (events Σ)) in walk Σ m k (queue ++ new) (met ++ new)
 
 -- each state joins the queue once, so as many turns as there are states are enough; every state is met, and in the order of its number
 unfoldable pub BreadthFirst : Alphabet → Monitor → Type 0

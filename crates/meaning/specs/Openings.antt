@@ -1,7 +1,7 @@
 -- Document 02, C-18: "States from the wrong table".
 use Rattle.std.specs.Prelude.{List, cond, ℕ, eqb}
-use Rattle.meaning.specs.TableFiles.{isTable}
-use Rattle.meaning.specs.Runs.{run_of, ranIn, countsFit}
+use Rattle.meaning.specs.TableFiles.{is_table}
+use Rattle.meaning.specs.Runs.{run_of, ran_in, counts_fit}
 use Rattle.meaning.specs.declared.Refusal.TheVariants.{WrongTable, WrongOpening}
 use Rattle.meaning.specs.declared.Ran.{Ran}
 use Rattle.meaning.specs.declared.Ran.TheVariants as Ran
@@ -32,13 +32,13 @@ carried n (Ran.Ended s v d) = Arrived.At (state_of n s) v d
 carried n (Ran.Refused x) = Arrived.Refused x
 
 -- "a run .. with another number is refused": by 24, and otherwise it is the run of the table from the state's own number, which is given
-abbrev pub ownRun : ℕ → State → Ran → Arrived
-ownRun n s r = cond (eqb s.opening n) (carried n r) (Arrived.Refused (WrongOpening 0))
+abbrev pub own_run : ℕ → State → Ran → Arrived
+own_run n s r = cond (eqb s.opening n) (carried n r) (Arrived.Refused (WrongOpening 0))
 
 -- "A run takes an opened table, a state and a list of events": 14, then 24, then 13 and 12
 abbrev pub run_from : Opening → State → List ℕ → Arrived
-run_from o s es = cond (isTable o.table) (ownRun o.number s (run_of o.table s.number es)) (Arrived.Refused WrongTable)
+run_from o s es = cond (is_table o.table) (own_run o.number s (run_of o.table s.number es)) (Arrived.Refused WrongTable)
 
 -- the same from the opening's number and bytes and counts in hand: 14 for counts and length, 24, 13, 12, and 14 where the way leaves the table
-abbrev pub runFromIn : ℕ → List ℕ → ℕ → ℕ → State → List ℕ → Arrived
-runFromIn n t P S s es = cond (countsFit t P S) (ownRun n s (ranIn t P S s.number es)) (Arrived.Refused WrongTable)
+abbrev pub run_from_in : ℕ → List ℕ → ℕ → ℕ → State → List ℕ → Arrived
+run_from_in n t P S s es = cond (counts_fit t P S) (own_run n s (ran_in t P S s.number es)) (Arrived.Refused WrongTable)

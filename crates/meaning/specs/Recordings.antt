@@ -7,8 +7,8 @@ use Rattle.meaning.specs.Bytes.{bit}
 use Rattle.meaning.specs.Traces.{Alphabet, Event}
 use Rattle.meaning.specs.Monitors.{Monitor, follow, keep, events}
 use Rattle.meaning.specs.RuleFiles.{first_of}
-use Rattle.meaning.specs.TableFiles.{isTable, alphabetIn, signalsIn, monitorIn, monitorOf, verdictNumber}
-use Rattle.meaning.specs.Runs.{countsFit, onTable}
+use Rattle.meaning.specs.TableFiles.{is_table, alphabet_in, signals_in, monitor_in, monitor_of, verdict_number}
+use Rattle.meaning.specs.Runs.{counts_fit, on_table}
 use Rattle.meaning.specs.declared.Verdict.{Verdict}
 use Rattle.meaning.specs.declared.Verdict.TheVariants.{Undecided, Satisfied, Violated, Moot}
 use Rattle.meaning.specs.declared.Refusal.{Refusal}
@@ -30,11 +30,11 @@ abbrev pub join : Seen → Seen → Seen
 join r q = record { known = bit_or r.known q.known; values = bit_or r.values q.values }
 
 -- the events of two recordings, joined
-abbrev pub joinedAt : List ℕ → List ℕ → ℕ → Seen
-joinedAt a b i = join (seen_at a i) (seen_at b i)
+abbrev pub joined_at : List ℕ → List ℕ → ℕ → Seen
+joined_at a b i = join (seen_at a i) (seen_at b i)
 
-abbrev pub joinedList : List ℕ → List ℕ → List Seen
-joinedList a b = tabulate (length a / 2) (joinedAt a b)
+abbrev pub joined_list : List ℕ → List ℕ → List Seen
+joined_list a b = tabulate (length a / 2) (joined_at a b)
 
 -- ---- completions
 
@@ -66,24 +66,24 @@ completions Σ P (r ∷ rs) = before (choices Σ P r) (completions Σ P rs)
 -- ---- "Satisfied, violated or moot is answered exactly if every completion's run ends with it; else undecided."
 
 -- every completion's run from state 0 ends with the verdict
-unfoldable pub allEnd : Monitor → List (List ℕ) → Verdict → Bool
-allEnd m ws v = every (map (λ w. eqb (verdictNumber (m.verdict (follow m 0 w))) (verdictNumber v)) ws)
+unfoldable pub all_end : Monitor → List (List ℕ) → Verdict → Bool
+all_end m ws v = every (map (λ w. eqb (verdict_number (m.verdict (follow m 0 w))) (verdict_number v)) ws)
 
-abbrev pub verdictOver : Monitor → List (List ℕ) → Verdict
-verdictOver m ws =
-    cond (allEnd m ws Satisfied) Satisfied
-    (cond (allEnd m ws Violated) Violated
-    (cond (allEnd m ws Moot) Moot Undecided))
+abbrev pub verdict_over : Monitor → List (List ℕ) → Verdict
+verdict_over m ws =
+    cond (all_end m ws Satisfied) Satisfied
+    (cond (all_end m ws Violated) Violated
+    (cond (all_end m ws Moot) Moot Undecided))
 
 -- ---- refusals
 
 -- "22 byte lengths differ or are odd"
-abbrev pub lengthsFit : List ℕ → List ℕ → Bool
-lengthsFit a b = eqb (length a) (length b) && eqb (length a % 2) 0
+abbrev pub lengths_fit : List ℕ → List ℕ → Bool
+lengths_fit a b = eqb (length a) (length b) && eqb (length a % 2) 0
 
 -- "a bit at or above P or a value bit that is unknown" is none of a recorded event's
-abbrev pub seenFits : ℕ → Seen → Bool
-seenFits P r = every (ltb r.known (2 ^ P) ∷ ltb r.values (2 ^ P) ∷ all_below P (λ s. cond (knows r s) true (eqb (bit s r.values) 0)) ∷ [])
+abbrev pub seen_fits : ℕ → Seen → Bool
+seen_fits P r = every (ltb r.known (2 ^ P) ∷ ltb r.values (2 ^ P) ∷ all_below P (λ s. cond (knows r s) true (eqb (bit s r.values) 0)) ∷ [])
 
 -- "the recordings contradict each other": both know a signal, with different values
 abbrev pub contradict : ℕ → Seen → Seen → Bool
@@ -91,32 +91,32 @@ contradict P r q = not (all_below P (λ s. cond (knows r s && knows q s) (eqb (b
 
 -- "For each event: 12 if either recording has a bit at or above P or a value bit that is unknown, 23, 12 if the joined event has no possible completion";
 -- the place is the event's index
-abbrev pub eventChecks : Alphabet → ℕ → List ℕ → List ℕ → ℕ → List (Bool × Refusal)
-eventChecks Σ P a b i =
-    (not (seenFits P (seen_at a i) && seenFits P (seen_at b i)), WrongEvent i)
+abbrev pub event_checks : Alphabet → ℕ → List ℕ → List ℕ → ℕ → List (Bool × Refusal)
+event_checks Σ P a b i =
+    (not (seen_fits P (seen_at a i) && seen_fits P (seen_at b i)), WrongEvent i)
     ∷ (contradict P (seen_at a i) (seen_at b i), Contradiction i)
-    ∷ (eqb (length (choices Σ P (joinedAt a b i))) 0, WrongEvent i)
+    ∷ (eqb (length (choices Σ P (joined_at a b i))) 0, WrongEvent i)
     ∷ []
 
 -- all of one event come before the next event's
-abbrev pub recordingChecks : Alphabet → ℕ → List ℕ → List ℕ → List (Bool × Refusal)
-recordingChecks Σ P a b = (not (lengthsFit a b), WrongRecordings) ∷ joined (length a / 2) (eventChecks Σ P a b)
+abbrev pub recording_checks : Alphabet → ℕ → List ℕ → List ℕ → List (Bool × Refusal)
+recording_checks Σ P a b = (not (lengths_fit a b), WrongRecordings) ∷ joined (length a / 2) (event_checks Σ P a b)
 
 -- ---- "run the table from state 0 over all possible completions"
 
 -- 14 where the bytes are no table, before all else
-unfoldable pub judgedOf : List ℕ → List ℕ → List ℕ → Shown
-judgedOf t a b =
-    let Σ = alphabetIn t (signalsIn t) in
-    cond (isTable t)
-    (first_of Shown.Refused (recordingChecks Σ (signalsIn t) a b) (Shown.Verdict (verdictOver (monitorOf t) (completions Σ (signalsIn t) (joinedList a b)))))
+unfoldable pub judged_of : List ℕ → List ℕ → List ℕ → Shown
+judged_of t a b =
+    let Σ = alphabet_in t (signals_in t) in
+    cond (is_table t)
+    (first_of Shown.Refused (recording_checks Σ (signals_in t) a b) (Shown.Verdict (verdict_over (monitor_of t) (completions Σ (signals_in t) (joined_list a b)))))
     (Shown.Refused WrongTable)
 
 -- the same from bytes and counts in hand, as a step takes them: 14 for counts and length, and last where a completion's way leaves the table
-unfoldable pub judgedIn : List ℕ → ℕ → ℕ → List ℕ → List ℕ → Shown
-judgedIn t P S a b =
-    let ws = completions (alphabetIn t P) P (joinedList a b) in
-    cond (countsFit t P S)
-    (first_of Shown.Refused (recordingChecks (alphabetIn t P) P a b)
-    (cond (every (map (onTable t P S 0) ws)) (Shown.Verdict (verdictOver (monitorIn t P S) ws)) (Shown.Refused WrongTable)))
+unfoldable pub judged_in : List ℕ → ℕ → ℕ → List ℕ → List ℕ → Shown
+judged_in t P S a b =
+    let ws = completions (alphabet_in t P) P (joined_list a b) in
+    cond (counts_fit t P S)
+    (first_of Shown.Refused (recording_checks (alphabet_in t P) P a b)
+    (cond (every (map (on_table t P S 0) ws)) (Shown.Verdict (verdict_over (monitor_in t P S) ws)) (Shown.Refused WrongTable)))
     (Shown.Refused WrongTable)

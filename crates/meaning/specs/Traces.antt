@@ -12,19 +12,19 @@ abbrev pub masked : ℕ → ℕ → Alphabet
 masked w m = record { width = w; possible = λ e. eqb (bit e m) 1 }
 
 -- all events over P signals, as a mask: "Without it all can."
-abbrev pub fullMask : ℕ → ℕ
-fullMask P = 2 ^ 2 ^ P - 1
+abbrev pub full_mask : ℕ → ℕ
+full_mask P = 2 ^ 2 ^ P - 1
 
 abbrev pub over : ℕ → Alphabet
-over P = masked (2 ^ P) (fullMask P)
+over P = masked (2 ^ P) (full_mask P)
 
 -- e can happen
 abbrev pub Event : Alphabet → ℕ → Type 0
 Event Σ e = (e < Σ.width) × T (Σ.possible e)
 
 -- the same as a test
-abbrev pub isEvent : Alphabet → ℕ → Bool
-isEvent Σ e = ltb e Σ.width && Σ.possible e
+abbrev pub is_event : Alphabet → ℕ → Bool
+is_event Σ e = ltb e Σ.width && Σ.possible e
 
 -- "a finite list of events", each of which can happen
 abbrev pub Word : Alphabet → List ℕ → Type 0
@@ -35,7 +35,7 @@ Word Σ (e ∷ w) = Event Σ e × Word Σ w
 pub record Lasso : Type 0 where
   pub stem : List ℕ
   pub loop : List ℕ
-  pub nonEmpty : 0 < length loop
+  pub non_empty : 0 < length loop
 
 -- the event at a position: in the stem, and then in the loop, round and round
 abbrev pub turn : List ℕ → List ℕ → ℕ → ℕ
@@ -48,7 +48,7 @@ at ρ i = turn ρ.stem ρ.loop i
 
 -- a finite list put before a trace
 abbrev pub prepend : List ℕ → Lasso → Lasso
-prepend w ρ = record { stem = w ++ ρ.stem; loop = ρ.loop; nonEmpty = ρ.nonEmpty }
+prepend w ρ = record { stem = w ++ ρ.stem; loop = ρ.loop; non_empty = ρ.non_empty }
 
 -- "A continuation is such a trace", of events that can happen.
 abbrev pub Continuation : Alphabet → Lasso → Type 0

@@ -2,7 +2,7 @@
 use Rattle.std.specs.Prelude.{◌≡◌, List, ℕ, ◌^◌}
 use Rattle.meaning.specs.Traces.{masked}
 use Rattle.meaning.specs.declared.Built.{Built}
-use Rattle.table_bytes.specs.Written.{written_of, tableAfter}
+use Rattle.table_bytes.specs.Written.{written_of, table_after}
 use Rattle.grouping.specs.Reduction.{Reduction}
 
 -- the machine was reduced to so many groups, with these verdict bytes and rows, and they were written
@@ -14,4 +14,4 @@ pub record Finished (P mask n : ℕ) (rows : List (List ℕ)) (classes before : 
   pub to : List (List ℕ)
   pub reduction : Reduction (masked (2 ^ P) mask) n rows classes bytes₀ to₀ groups bytes to
   pub answer : r ≡ written_of P groups before
-  pub output : after ≡ tableAfter (masked (2 ^ P) mask) P groups bytes to before
+  pub output : after ≡ table_after (masked (2 ^ P) mask) P groups bytes to before

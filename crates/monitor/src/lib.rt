@@ -4,8 +4,8 @@ ghost use Rattle.meaning.specs.Traces.{masked};
 ghost use Rattle.moore.specs.Grouping.{Machine};
 ghost use Rattle.meaning.specs.RuleFiles.{Accepted, judge};
 ghost use Rattle.smallest.proofs.Accepted.{Formed};
-ghost use Rattle.building.specs.Build.{answer_of, outputAfter, Right};
-ghost use Rattle.rule_file.specs.Reading.{ruleIn};
+ghost use Rattle.building.specs.Build.{answer_of, output_after, Right};
+ghost use Rattle.rule_file.specs.Reading.{rule_in};
 ghost use Rattle.monitor.specs.Parts.{Finished};
 
 use exploration::no_rows;
@@ -51,9 +51,9 @@ fn nowhere() -> [bool; 256]
 
 // Builds the table of an accepted rule: the tables of its residuals, the walk over them, and what follows.
 fn construct(signals: u8, mask: u16, count: u8, nodes: [Node; 64], table: &mut [u8]) -> Built
-    requires { Formed (ruleIn signals mask count nodes) × (count ≤ 64) }
-    ensures value { result ≡ answer_of (Accepted (ruleIn signals mask count nodes)) table.old }
-    ensures table_after { table.new ≡ outputAfter (Accepted (ruleIn signals mask count nodes)) table.old }
+    requires { Formed (rule_in signals mask count nodes) × (count ≤ 64) }
+    ensures value { result ≡ answer_of (Accepted (rule_in signals mask count nodes)) table.old }
+    ensures table_after { table.new ≡ output_after (Accepted (rule_in signals mask count nodes)) table.old }
 {
     let mut profiles = no_profiles();
     let mut whole = nowhere();
@@ -79,7 +79,7 @@ fn construct(signals: u8, mask: u16, count: u8, nodes: [Node; 64], table: &mut [
 // Bytes past the table, and on a refusal all bytes, keep their values.
 pub fn build(rule: &[u8], table: &mut [u8]) -> Built
     ensures answer { result ≡ answer_of (judge rule.now) table.old }
-    ensures output { table.new ≡ outputAfter (judge rule.now) table.old }
+    ensures output { table.new ≡ output_after (judge rule.now) table.old }
     ensures demands { Right rule.now table.old table.new result }
 {
     let read = rule_file::read(rule);

@@ -10,7 +10,7 @@ use lib.Dec.{eqb}
 use lib.ListN.{length, get_or}
 use borrow.Author.Tests.{eq-eqb, ne_eqb}
 use Rattle.sequences.specs.Tabulate.{tabulate, up_to}
-use Rattle.meaning.specs.Monitors.{member, newlyMet}
+use Rattle.meaning.specs.Monitors.{member, newly_met}
 
 -- c, c + 1, .., c + k - 1
 abbrev pub from : ℕ → ℕ → List ℕ
@@ -21,8 +21,8 @@ tabulate-from : (n c : ℕ) (f : ℕ → ℕ) → ((i : ℕ) → f i ≡ c + i) 
 tabulate-from zero c f h = refl
 tabulate-from (suc n) c f h = ap₂ ◌∷◌ (h zero ∙ add-zero c) (tabulate-from n (suc c) (λ i. f (suc i)) (λ i. h (suc i) ∙ add-suc c i ∙ sym (suc-add c i)))
 
-pub upTo-from : (n : ℕ) → up_to n ≡ from 0 n
-upTo-from n = tabulate-from n 0 (λ i. i) (λ i. sym (zero-add i))
+pub up_to-from : (n : ℕ) → up_to n ≡ from 0 n
+up_to-from n = tabulate-from n 0 (λ i. i) (λ i. sym (zero-add i))
 
 pub from-length : (c k : ℕ) → length (from c k) ≡ k
 from-length c zero = refl
@@ -110,26 +110,26 @@ known-suc c a e =
     ap (λ (x : ℕ). from 0 c ++ (x ∷ [])) (e ∙ sym (zero-add c)) ∙ from-append 0 c 1 ∙ ap (from 0) (let q : c + 1 ≡ suc c = omega arith in q)
 
 -- what meeting a state of the row comes to
-new-old : (c a : ℕ) (ts : List ℕ) → a < c → newlyMet (from 0 c) (a ∷ ts) ≡ newlyMet (from 0 c) ts
+new-old : (c a : ℕ) (ts : List ℕ) → a < c → newly_met (from 0 c) (a ∷ ts) ≡ newly_met (from 0 c) ts
 new-old c a ts h = rw (member-yes 0 c a (omega arith) (omega arith))
 
-new-more : (c a : ℕ) (ts : List ℕ) → c ≤ a → newlyMet (from 0 c) (a ∷ ts) ≡ a ∷ newlyMet (from 0 c ++ (a ∷ [])) ts
+new-more : (c a : ℕ) (ts : List ℕ) → c ≤ a → newly_met (from 0 c) (a ∷ ts) ≡ a ∷ newly_met (from 0 c ++ (a ∷ [])) ts
 new-more c a ts h = rw (member-no 0 c a (omega arith))
 
-new-next : (c a : ℕ) (ts : List ℕ) → a ≡ c → newlyMet (from 0 c) (a ∷ ts) ≡ a ∷ newlyMet (from 0 (suc c)) ts
-new-next c a ts e = new-more c a ts (omega arith) ∙ ap (λ (l : List ℕ). a ∷ newlyMet l ts) (known-suc c a e)
+new-next : (c a : ℕ) (ts : List ℕ) → a ≡ c → newly_met (from 0 c) (a ∷ ts) ≡ a ∷ newly_met (from 0 (suc c)) ts
+new-next c a ts e = new-more c a ts (omega arith) ∙ ap (λ (l : List ℕ). a ∷ newly_met l ts) (known-suc c a e)
 
-pub row→ : (ts : List ℕ) (c k : ℕ) → newlyMet (from 0 c) ts ≡ from c k → Row c (c + k) ts
+pub row→ : (ts : List ℕ) (c k : ℕ) → newly_met (from 0 c) ts ≡ from c k → Row c (c + k) ts
 row→ [] c zero h = record { below = λ i l. absurd (not-suc-le-zero l); order = λ i t l. absurd (not-suc-le-zero l); found = λ t l m. absurd (omega arith) }
 row→ [] c (suc k) h = absurd (nil≢cons h)
 row→ (a ∷ ts) c k h = go (dec_lt a c) (row→ ts c k) (row→ ts (suc c))
   where
-    go : Dec (a < c) → (newlyMet (from 0 c) ts ≡ from c k → Row c (c + k) ts)
-        → ((k : ℕ) → newlyMet (from 0 (suc c)) ts ≡ from (suc c) k → Row (suc c) (suc c + k) ts) → Row c (c + k) (a ∷ ts)
+    go : Dec (a < c) → (newly_met (from 0 c) ts ≡ from c k → Row c (c + k) ts)
+        → ((k : ℕ) → newly_met (from 0 (suc c)) ts ≡ from (suc c) k → Row (suc c) (suc c + k) ts) → Row c (c + k) (a ∷ ts)
     go (yes l) r r' = row_old a l (omega arith) (r (sym (new-old c a ts l) ∙ h))
     go (no l) r r' = new k (sym (new-more c a ts (omega arith)) ∙ h) h
       where
-        new : (k : ℕ) → a ∷ newlyMet (from 0 c ++ (a ∷ [])) ts ≡ from c k → newlyMet (from 0 c) (a ∷ ts) ≡ from c k → Row c (c + k) (a ∷ ts)
+        new : (k : ℕ) → a ∷ newly_met (from 0 c ++ (a ∷ [])) ts ≡ from c k → newly_met (from 0 c) (a ∷ ts) ≡ from c k → Row c (c + k) (a ∷ ts)
         new zero e h = absurd (cons≢nil e)
         new (suc k) e h =
             let q : a ≡ c = head-eq_of_cons-eq e in
@@ -147,14 +147,14 @@ order-tail {c} {c'} {ts} a l m h i t n o p = go (h (suc i) t (suc-le-suc n) (ome
         at zero b q = absurd (omega arith)
         at (suc j) b q = record { index = j; before = le_of_suc-le-suc b; is = q }
 
-pub →row : (ts : List ℕ) (c : ℕ) → ((i t : ℕ) → i < length ts → c ≤ t → t < get_or ts i 0 → Earlier ts i t) → (k : ℕ) × (newlyMet (from 0 c) ts ≡ from c k)
+pub →row : (ts : List ℕ) (c : ℕ) → ((i t : ℕ) → i < length ts → c ≤ t → t < get_or ts i 0 → Earlier ts i t) → (k : ℕ) × (newly_met (from 0 c) ts ≡ from c k)
 →row [] c h = (0, refl)
 →row (a ∷ ts) c h = go (dec_lt a c) (dec_lt c a) (→row ts c) (→row ts (suc c))
   where
     go : Dec (a < c) → Dec (c < a)
-        → (((i t : ℕ) → i < length ts → c ≤ t → t < get_or ts i 0 → Earlier ts i t) → (k : ℕ) × (newlyMet (from 0 c) ts ≡ from c k))
-        → (((i t : ℕ) → i < length ts → suc c ≤ t → t < get_or ts i 0 → Earlier ts i t) → (k : ℕ) × (newlyMet (from 0 (suc c)) ts ≡ from (suc c) k))
-        → (k : ℕ) × (newlyMet (from 0 c) (a ∷ ts) ≡ from c k)
+        → (((i t : ℕ) → i < length ts → c ≤ t → t < get_or ts i 0 → Earlier ts i t) → (k : ℕ) × (newly_met (from 0 c) ts ≡ from c k))
+        → (((i t : ℕ) → i < length ts → suc c ≤ t → t < get_or ts i 0 → Earlier ts i t) → (k : ℕ) × (newly_met (from 0 (suc c)) ts ≡ from (suc c) k))
+        → (k : ℕ) × (newly_met (from 0 c) (a ∷ ts) ≡ from c k)
     go (yes l) m r r' = let x = r (order-tail a l (omega arith) h) in (x.0, new-old c a ts l ∙ x.1)
     go (no l) (yes m) r r' = absurd (not-suc-le-zero (h 0 c (omega arith) (omega arith) m).before)
     go (no l) (no m) r r' =

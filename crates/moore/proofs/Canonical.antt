@@ -9,10 +9,10 @@ use lib.Dec.{eqb}
 use lib.ListN.{get_or, get_or-map}
 use borrow.Author.Tests.{eq-eqb, ne_eqb}
 use Rattle.sequences.specs.Tabulate.{up_to}
-use Rattle.sequences.proofs.Loops.{length-tab, getD-tab}
+use Rattle.sequences.proofs.Loops.{length-tab, get_d-tab}
 use Rattle.sequences.proofs.Pigeonhole.{Injective, injective-le}
 use Rattle.meaning.specs.Traces.{Alphabet, Event, Word}
-use Rattle.meaning.specs.Monitors.{Monitor, Over, follow, Renumbered, member, newlyMet, events, walk, BreadthFirst}
+use Rattle.meaning.specs.Monitors.{Monitor, Over, follow, Renumbered, member, newly_met, events, walk, BreadthFirst}
 use Rattle.moore.specs.Reduced.{Reached, SameRows}
 use Rattle.moore.proofs.Words.{word-append, follow-append}
 use Rattle.moore.proofs.Walks.{All, all_append, all-at, all_map, map-map, map_same, events-all, turn-all, walk-all}
@@ -31,35 +31,35 @@ module _ (n k : ℕ) (f : ℕ → ℕ) (inj : Injective n k f) where
       same (yes e) = eq-eqb (f t) (f s) (ap f e) ∙ sym (eq-eqb t s e)
       same (no e) = ne_eqb (f t) (f s) (λ q. e (inj.injective t s h a.0 q)) ∙ sym (ne_eqb t s e)
 
-  new-map : (met l : List ℕ) → All (λ s. s < n) met → All (λ s. s < n) l → map f (newlyMet met l) ≡ newlyMet (map f met) (map f l)
+  new-map : (met l : List ℕ) → All (λ s. s < n) met → All (λ s. s < n) l → map f (newly_met met l) ≡ newly_met (map f met) (map f l)
   new-map met [] h a = refl
   new-map met (t ∷ l) h a = go (member t met) (member-map t met a.0 h) (new-map met l h a.1) (new-map (met ++ (t ∷ [])) l (all_append (λ s. s < n) met (t ∷ []) h (a.0, tt)) a.1)
     where
-      go : (b : Bool) → member (f t) (map f met) ≡ b → map f (newlyMet met l) ≡ newlyMet (map f met) (map f l)
-          → map f (newlyMet (met ++ (t ∷ [])) l) ≡ newlyMet (map f (met ++ (t ∷ []))) (map f l)
-          → map f (cond b (newlyMet met l) (t ∷ newlyMet (met ++ (t ∷ [])) l)) ≡ newlyMet (map f met) (f t ∷ map f l)
+      go : (b : Bool) → member (f t) (map f met) ≡ b → map f (newly_met met l) ≡ newly_met (map f met) (map f l)
+          → map f (newly_met (met ++ (t ∷ [])) l) ≡ newly_met (map f (met ++ (t ∷ []))) (map f l)
+          → map f (cond b (newly_met met l) (t ∷ newly_met (met ++ (t ∷ [])) l)) ≡ newly_met (map f met) (f t ∷ map f l)
       go true q r r' = rw q r
-      go false q r r' = rw q (ap (λ (x : List ℕ). f t ∷ x) (r' ∙ ap (λ (x : List ℕ). newlyMet x (map f l)) (map-append f met (t ∷ []))))
+      go false q r r' = rw q (ap (λ (x : List ℕ). f t ∷ x) (r' ∙ ap (λ (x : List ℕ). newly_met x (map f l)) (map-append f met (t ∷ []))))
 
 module _ {Σ : Alphabet} {m m' : Monitor} (o : Over Σ m) (r : Renumbered Σ m m') where
   inj : Injective m.states m'.states r.to
-  inj = record { into = r.to_in; injective = λ s t h l e. sym (r.from-to s h) ∙ ap r.from e ∙ r.from-to t l }
+  inj = record { into = r.to_in; injective = λ s t h l e. sym (r.from_to s h) ∙ ap r.from e ∙ r.from_to t l }
 
   inj' : Injective m'.states m.states r.from
-  inj' = record { into = r.from_in; injective = λ s t h l e. sym (r.to-from s h) ∙ ap r.to e ∙ r.to-from t l }
+  inj' = record { into = r.from_in; injective = λ s t h l e. sym (r.to_from s h) ∙ ap r.to e ∙ r.to_from t l }
 
   pub states-same : m.states ≡ m'.states
   states-same = le_antisymm (injective-le m.states m'.states inj) (injective-le m'.states m.states inj')
 
   new : ℕ → List ℕ → List ℕ
-  new s met = newlyMet met (map (m.next s) (events Σ))
+  new s met = newly_met met (map (m.next s) (events Σ))
 
-  new-same : (s : ℕ) (met : List ℕ) → s < m.states → All (λ s. s < m.states) met → map r.to (new s met) ≡ newlyMet (map r.to met) (map (m'.next (r.to s)) (events Σ))
+  new-same : (s : ℕ) (met : List ℕ) → s < m.states → All (λ s. s < m.states) met → map r.to (new s met) ≡ newly_met (map r.to met) (map (m'.next (r.to s)) (events Σ))
   unfolding new
   new-same s met h a =
       new-map m.states m'.states r.to inj met (map (m.next s) (events Σ)) a
-      (all_map (Event Σ) (λ s. s < m.states) (m.next s) (events Σ) (λ e l. o.next-in s e h l) (events-all Σ))
-      ∙ ap (newlyMet (map r.to met)) (map-map r.to (m.next s) (events Σ)
+      (all_map (Event Σ) (λ s. s < m.states) (m.next s) (events Σ) (λ e l. o.next_in s e h l) (events-all Σ))
+      ∙ ap (newly_met (map r.to met)) (map-map r.to (m.next s) (events Σ)
       ∙ map_same (Event Σ) (λ e. r.to (m.next s e)) (m'.next (r.to s)) (events Σ) (λ e l. sym (r.successors s e h l)) (events-all Σ))
 
   walk-map : (k : ℕ) (queue met : List ℕ) → All (λ s. s < m.states) queue → All (λ s. s < m.states) met
@@ -68,7 +68,7 @@ module _ {Σ : Alphabet} {m m' : Monitor} (o : Over Σ m) (r : Renumbered Σ m m
   walk-map zero queue met h a = refl
   walk-map (suc k) [] met h a = refl
   walk-map (suc k) (s ∷ queue) met h a =
-      let b : All (λ s. s < m.states) (new s met) = turn-all Σ m (λ s. s < m.states) (λ s e l t. o.next-in s e l t) met s h.0 in
+      let b : All (λ s. s < m.states) (new s met) = turn-all Σ m (λ s. s < m.states) (λ s e l t. o.next_in s e l t) met s h.0 in
       walk-map k (queue ++ new s met) (met ++ new s met) (all_append (λ s. s < m.states) queue (new s met) h.1 b) (all_append (λ s. s < m.states) met (new s met) a b)
       ∙ ap₂ (walk Σ m' k)
       (map-append r.to queue (new s met) ∙ ap (λ (x : List ℕ). map r.to queue ++ x) (new-same s met h.0 a))
@@ -76,28 +76,28 @@ module _ {Σ : Alphabet} {m m' : Monitor} (o : Over Σ m) (r : Renumbered Σ m m
 
   -- both numbered breadth-first: no state changes its number
   module _ (b : BreadthFirst Σ m) (b' : BreadthFirst Σ m') where
-    upTo-same : map r.to (up_to m.states) ≡ up_to m.states
+    up_to-same : map r.to (up_to m.states) ≡ up_to m.states
     unfolding BreadthFirst
-    upTo-same =
+    up_to-same =
         ap (map r.to) (sym b)
-        ∙ walk-map m.states (m.start ∷ []) (m.start ∷ []) (o.start-in, tt) (o.start-in, tt)
+        ∙ walk-map m.states (m.start ∷ []) (m.start ∷ []) (o.start_in, tt) (o.start_in, tt)
         ∙ ap₂ (λ (k s : ℕ). walk Σ m' k (s ∷ []) (s ∷ [])) states-same r.starts
         ∙ b'
         ∙ ap up_to (sym states-same)
 
     pub to_same : (s : ℕ) → s < m.states → r.to s ≡ s
     to_same s h =
-        ap r.to (sym (getD-tab m.states (λ i. i) s 0 h))
+        ap r.to (sym (get_d-tab m.states (λ i. i) s 0 h))
         ∙ sym (get_or-map r.to (up_to m.states) s 0)
-        ∙ ap (λ (l : List ℕ). get_or l s (r.to 0)) upTo-same
-        ∙ getD-tab m.states (λ i. i) s (r.to 0) h
+        ∙ ap (λ (l : List ℕ). get_or l s (r.to 0)) up_to-same
+        ∙ get_d-tab m.states (λ i. i) s (r.to 0) h
 
     pub canonical : SameRows Σ m m'
     canonical = record {
       states = states-same;
-      start = sym (to_same m.start o.start-in) ∙ r.starts;
+      start = sym (to_same m.start o.start_in) ∙ r.starts;
       verdict = λ s h. sym (r.verdicts s h) ∙ ap m'.verdict (to_same s h);
-      next = λ s e h l. sym (to_same (m.next s e) (o.next-in s e h l)) ∙ sym (r.successors s e h l) ∙ ap (λ (t : ℕ). m'.next t e) (to_same s h);
+      next = λ s e h l. sym (to_same (m.next s e) (o.next_in s e h l)) ∙ sym (r.successors s e h l) ∙ ap (λ (t : ℕ). m'.next t e) (to_same s h);
     }
 
 -- ---- access words
@@ -123,7 +123,7 @@ module _ (Σ : Alphabet) (m : Monitor) (b : BreadthFirst Σ m) where
       first = record { by = []; word = tt; arrives = refl }
 
   access-at : (s : ℕ) → s < m.states → Access Σ m s
-  access-at s h = subst (Access Σ m) (getD-tab m.states (λ i. i) s 0 h) (all-at (Access Σ m) (up_to m.states) s access-all (rw length-tab h))
+  access-at s h = subst (Access Σ m) (get_d-tab m.states (λ i. i) s 0 h) (all-at (Access Σ m) (up_to m.states) s access-all (rw length-tab h))
 
   access_of : (s : ℕ) → Dec (s < m.states) → List ℕ
   access_of s (yes h) = (access-at s h).by

@@ -11,10 +11,10 @@ use lib.Seq.{get_or_at}
 use Rattle.sequences.specs.Tabulate.{up_to}
 use Rattle.sequences.proofs.Loops.{tabulate-snoc}
 use Rattle.meaning.specs.Monitors.{keep}
-use Rattle.moore.specs.Counting.{countBelow}
+use Rattle.moore.specs.Counting.{count_below}
 use Rattle.moore.proofs.Tests.{clash}
 
-pub count-le : (n : ℕ) (p : ℕ → Bool) → countBelow n p ≤ n
+pub count-le : (n : ℕ) (p : ℕ → Bool) → count_below n p ≤ n
 count-le zero p = le_refl 0
 count-le (suc n) p = go (p n) (count-le n p)
   where
@@ -22,7 +22,7 @@ count-le (suc n) p = go (p n) (count-le n p)
     go true h = omega arith
     go false h = omega arith
 
-pub count-some : (n : ℕ) (p : ℕ → Bool) (i : ℕ) → i < n → p i ≡ true → 0 < countBelow n p
+pub count-some : (n : ℕ) (p : ℕ → Bool) (i : ℕ) → i < n → p i ≡ true → 0 < count_below n p
 count-some zero p i l h = absurd (not-suc-le-zero l)
 count-some (suc n) p i l h = go (p n) refl (ℕ_discrete i n) (count-some n p i)
   where
@@ -36,7 +36,7 @@ pub record More (n : ℕ) (p q : ℕ → Bool) (a b : ℕ) : Type 0 where
   pub le : a ≤ b
   pub equal : a ≡ b → (i : ℕ) → i < n → q i ≡ true → p i ≡ true
 
-pub count-more : (n : ℕ) (p q : ℕ → Bool) → ((i : ℕ) → i < n → p i ≡ true → q i ≡ true) → More n p q (countBelow n p) (countBelow n q)
+pub count-more : (n : ℕ) (p q : ℕ → Bool) → ((i : ℕ) → i < n → p i ≡ true → q i ≡ true) → More n p q (count_below n p) (count_below n q)
 count-more zero p q h = record { le = le_refl 0; equal = λ e i l. absurd (not-suc-le-zero l) }
 count-more (suc n) p q h = go (p n) (q n) refl refl (count-more n p q (λ i l. h i (omega arith)))
   where
@@ -53,21 +53,21 @@ count-more (suc n) p q h = go (p n) (q n) refl refl (count-more n p q (λ i l. h
     go false true e f r = record { le = omega arith; equal = λ k. absurd (omega arith) }
     go false false e f r = record { le = r.le; equal = λ k. last false e (λ t. sym f ∙ t) (r.equal k) }
 
-count-suc : (j : ℕ) (p : ℕ → Bool) → countBelow j p ≤ countBelow (suc j) p
+count-suc : (j : ℕ) (p : ℕ → Bool) → count_below j p ≤ count_below (suc j) p
 count-suc j p = go (p j)
   where
-    go : (b : Bool) → countBelow j p ≤ cond b (suc (countBelow j p)) (countBelow j p)
+    go : (b : Bool) → count_below j p ≤ cond b (suc (count_below j p)) (count_below j p)
     go true = omega arith
     go false = omega arith
 
-pub count-mono : (i j : ℕ) (p : ℕ → Bool) → i ≤ j → countBelow i p ≤ countBelow j p
-count-mono i j p h = le_ind (λ (k : ℕ). countBelow i p ≤ countBelow k p) (le_refl (countBelow i p)) (λ k l r. le_trans r (count-suc k p)) j h
+pub count-mono : (i j : ℕ) (p : ℕ → Bool) → i ≤ j → count_below i p ≤ count_below j p
+count-mono i j p h = le_ind (λ (k : ℕ). count_below i p ≤ count_below k p) (le_refl (count_below i p)) (λ k l r. le_trans r (count-suc k p)) j h
 
 -- one that passes is not counted before itself
-pub count-lt : (i j : ℕ) (p : ℕ → Bool) → i < j → p i ≡ true → countBelow i p < countBelow j p
-count-lt i j p h t = subst (λ (b : Bool). cond b (suc (countBelow i p)) (countBelow i p) ≤ countBelow j p) t (count-mono (suc i) j p h)
+pub count-lt : (i j : ℕ) (p : ℕ → Bool) → i < j → p i ≡ true → count_below i p < count_below j p
+count-lt i j p h t = subst (λ (b : Bool). cond b (suc (count_below i p)) (count_below i p) ≤ count_below j p) t (count-mono (suc i) j p h)
 
-pub count-one : (i j : ℕ) (p : ℕ → Bool) → p i ≡ true → p j ≡ true → countBelow i p ≡ countBelow j p → i ≡ j
+pub count-one : (i j : ℕ) (p : ℕ → Bool) → p i ≡ true → p j ≡ true → count_below i p ≡ count_below j p → i ≡ j
 count-one i j p h l e = go (dec_lt i j) (dec_lt j i)
   where
     go : Dec (i < j) → Dec (j < i) → i ≡ j
@@ -91,27 +91,27 @@ passing-suc n p = ap (keep p) (tabulate-snoc n (λ i. i)) ∙ keep_append p (up_
 pub record Standing (n : ℕ) (p : ℕ → Bool) (q j : ℕ) : Type 0 where
   pub below : j < n
   pub passes : p j ≡ true
-  pub count : countBelow j p ≡ q
+  pub count : count_below j p ≡ q
 
-pub passing-length : (n : ℕ) (p : ℕ → Bool) → length (keep p (up_to n)) ≡ countBelow n p
+pub passing-length : (n : ℕ) (p : ℕ → Bool) → length (keep p (up_to n)) ≡ count_below n p
 passing-length zero p = refl
 passing-length (suc n) p = ap length (passing-suc n p) ∙ length-append (keep p (up_to n)) (cond (p n) (n ∷ []) []) ∙ go (p n) (passing-length n p)
   where
-    go : (b : Bool) → length (keep p (up_to n)) ≡ countBelow n p → length (keep p (up_to n)) + length (cond b (n ∷ []) []) ≡ cond b (suc (countBelow n p)) (countBelow n p)
+    go : (b : Bool) → length (keep p (up_to n)) ≡ count_below n p → length (keep p (up_to n)) + length (cond b (n ∷ []) []) ≡ cond b (suc (count_below n p)) (count_below n p)
     go true e = omega arith
     go false e = omega arith
 
-pub standing : (n : ℕ) (p : ℕ → Bool) (q : ℕ) → q < countBelow n p → Standing n p q (get_or (keep p (up_to n)) q 0)
+pub standing : (n : ℕ) (p : ℕ → Bool) (q : ℕ) → q < count_below n p → Standing n p q (get_or (keep p (up_to n)) q 0)
 standing zero p q h = absurd (not-suc-le-zero h)
-standing (suc n) p q h = subst (λ (l : List ℕ). Standing (suc n) p q (get_or l q 0)) (sym (passing-suc n p)) (go (p n) refl h (dec_lt q (countBelow n p)) (standing n p q))
+standing (suc n) p q h = subst (λ (l : List ℕ). Standing (suc n) p q (get_or l q 0)) (sym (passing-suc n p)) (go (p n) refl h (dec_lt q (count_below n p)) (standing n p q))
   where
     up : {j : ℕ} → Standing n p q j → Standing (suc n) p q j
     up s = record { below = le_step s.below; passes = s.passes; count = s.count }
 
-    go : (b : Bool) → p n ≡ b → q < cond b (suc (countBelow n p)) (countBelow n p) → Dec (q < countBelow n p)
-        → (q < countBelow n p → Standing n p q (get_or (keep p (up_to n)) q 0)) → Standing (suc n) p q (get_or (keep p (up_to n) ++ cond b (n ∷ []) []) q 0)
+    go : (b : Bool) → p n ≡ b → q < cond b (suc (count_below n p)) (count_below n p) → Dec (q < count_below n p)
+        → (q < count_below n p → Standing n p q (get_or (keep p (up_to n)) q 0)) → Standing (suc n) p q (get_or (keep p (up_to n) ++ cond b (n ∷ []) []) q 0)
     go b e m (yes l) r = subst (λ (j : ℕ). Standing (suc n) p q j) (sym (get_or-append (keep p (up_to n)) (cond b (n ∷ []) []) 0 q (rw passing-length l))) (up (r l))
     go true e m (no l) r =
-        let a : countBelow n p ≡ q = omega arith in
+        let a : count_below n p ≡ q = omega arith in
         subst (λ (j : ℕ). Standing (suc n) p q j) (sym (get_or_at (keep p (up_to n)) n [] 0 q (passing-length n p ∙ a))) (record { below = le_refl (suc n); passes = e; count = a })
     go false e m (no l) r = absurd (l m)

@@ -20,7 +20,7 @@ module _ {Σ : Alphabet} {ours other : Monitor} (o : Over Σ ours) (o' : Over Σ
 
   partner-in : (s : ℕ) → s < ours.states → partner s < other.states
   unfolding partner
-  partner-in s l = follow-in o' other.start (r.reached.access s) o'.start-in (r.reached.word s l)
+  partner-in s l = follow-in o' other.start (r.reached.access s) o'.start_in (r.reached.word s l)
 
   alike : (s : ℕ) → s < ours.states → Alike Σ ours other s (partner s)
   unfolding partner
@@ -73,9 +73,9 @@ module _ {Σ : Alphabet} {ours other : Monitor} (o : Over Σ ours) (o' : Over Σ
       from = inverse ours.states partner;
       to_in = partner-in;
       from_in = onto.back_in;
-      from-to = onto.again;
-      to-from = onto.there;
-      starts = sym (partner-one o.start-in o'.start-in alike-start);
+      from_to = onto.again;
+      to_from = onto.there;
+      starts = sym (partner-one o.start_in o'.start_in alike-start);
       verdicts = λ s l. sym ((alike s l).same [] tt);
-      successors = λ s e l h. partner-one (o.next-in s e l h) (o'.next-in (partner s) e (partner-in s l) h) (alike_next e (alike s l) h);
+      successors = λ s e l h. partner-one (o.next_in s e l h) (o'.next_in (partner s) e (partner-in s l) h) (alike_next e (alike s l) h);
     }

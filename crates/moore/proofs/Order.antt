@@ -10,7 +10,7 @@ use lib.ListN.{length, get_or, get_or-map}
 use Rattle.meaning.specs.Traces.{Alphabet, Event}
 use Rattle.meaning.specs.Monitors.{events, BreadthFirst}
 use Rattle.moore.specs.Grouping.{entry, machine, Machine, leads, Grouped, Stable}
-use Rattle.moore.specs.Quotient.{leader, size, number, quotientRows, quotient}
+use Rattle.moore.specs.Quotient.{leader, size, number, quotient_rows, quotient}
 use Rattle.moore.proofs.Counting.{count-mono, count-lt}
 use Rattle.moore.proofs.Walks.{map-map, map_same, events-all}
 use Rattle.moore.proofs.Grouping.{machine-over}
@@ -44,7 +44,7 @@ module _ {Σ : Alphabet} {n : ℕ} {rows : List (List ℕ)} {classes group : Lis
   row_number : (s i : ℕ) → s < n → get_or (row Σ (quotient Σ n rows classes group) (number group s)) i 0 ≡ number group (get_or (row Σ (machine n rows classes) s) i 0)
   row_number s i h =
       ap (λ (l : List ℕ). get_or l i 0)
-      (map_same (Event Σ) (entry (quotientRows Σ n rows group) (number group s)) (λ e. number group (entry rows s e)) (events Σ) (λ e l. next-number M G S s e h l) (events-all Σ)
+      (map_same (Event Σ) (entry (quotient_rows Σ n rows group) (number group s)) (λ e. number group (entry rows s e)) (events Σ) (λ e l. next-number M G S s e h l) (events-all Σ)
       ∙ sym (map-map (number group) (entry rows s) (events Σ)))
       ∙ ap (get_or (map (number group) (row Σ (machine n rows classes) s)) i) (sym (number-start M G S))
       ∙ get_or-map (number group) (row Σ (machine n rows classes) s) i 0

@@ -8,9 +8,9 @@ use native.Mathlib.Decide.{ℕ_discrete, dec_lt}
 use native.Mathlib.Omega.{arith}
 use lib.ListN.{length, get_or, length-map}
 use Rattle.meaning.specs.Traces.{Alphabet, Event}
-use Rattle.meaning.specs.Monitors.{Monitor, Over, newlyMet, events, walk, BreadthFirst}
+use Rattle.meaning.specs.Monitors.{Monitor, Over, newly_met, events, walk, BreadthFirst}
 use Rattle.moore.proofs.Walks.{all-at, all_map, events-all}
-use Rattle.moore.proofs.Ascending.{from, upTo-from, from-length, from-append, from-split, Earlier, Row, row→, →row}
+use Rattle.moore.proofs.Ascending.{from, up_to-from, from-length, from-append, from-split, Earlier, Row, row→, →row}
 
 -- the successors of state s, for the events that can happen, ascending
 abbrev pub row : Alphabet → Monitor → ℕ → List ℕ
@@ -41,14 +41,14 @@ row-length Σ m s = length-map (events Σ) (m.next s)
 
 pub row_in : {Σ : Alphabet} {m : Monitor} → Over Σ m → (s i : ℕ) → s < m.states → i < length (events Σ) → get_or (row Σ m s) i 0 < m.states
 row_in {Σ} {m} v s i h l =
-    all-at (λ t. t < m.states) (row Σ m s) i (all_map (Event Σ) (λ t. t < m.states) (m.next s) (events Σ) (λ e q. v.next-in s e h q) (events-all Σ)) (rw row-length l)
+    all-at (λ t. t < m.states) (row Σ m s) i (all_map (Event Σ) (λ t. t < m.states) (m.next s) (events Σ) (λ e q. v.next_in s e h q) (events-all Σ)) (rw row-length l)
 
 -- what the walk has met stays in front
 walk_more : (Σ : Alphabet) (m : Monitor) (k : ℕ) (queue met : List ℕ) → (rest : List ℕ) × (walk Σ m k queue met ≡ met ++ rest)
 walk_more Σ m zero queue met = ([], sym (append-nil met))
 walk_more Σ m (suc k) [] met = ([], sym (append-nil met))
 walk_more Σ m (suc k) (s ∷ queue) met =
-    let new = newlyMet met (row Σ m s) in
+    let new = newly_met met (row Σ m s) in
     let r = walk_more Σ m k (queue ++ new) (met ++ new) in
     (new ++ r.0, r.1 ∙ append_assoc met new r.0)
 
@@ -57,16 +57,16 @@ from_one {n} {n'} e = sym (from-length 0 n) ∙ ap length e ∙ from-length 0 n'
 
 -- ---- the walk, where the queue is k, .., c - 1 and the states met are 0, .., c - 1: one turn
 module _ (Σ : Alphabet) (m : Monitor) where
-  turn : (j k d c b : ℕ) → suc k + d ≡ c → newlyMet (from 0 c) (row Σ m k) ≡ from c b
+  turn : (j k d c b : ℕ) → suc k + d ≡ c → newly_met (from 0 c) (row Σ m k) ≡ from c b
       → walk Σ m (suc j) (from k (suc d)) (from 0 c) ≡ walk Σ m j (from (suc k) (d + b)) (from 0 (c + b))
   turn j k d c b h e = ap₂ (walk Σ m j)
       (ap (λ (l : List ℕ). from (suc k) d ++ l) (e ∙ ap (λ (x : ℕ). from x b) (sym h)) ∙ from-append (suc k) d b)
       (ap (λ (l : List ℕ). from 0 c ++ l) (e ∙ ap (λ (x : ℕ). from x b) (sym (zero-add c))) ∙ from-append 0 c b)
 
   -- what a turn meets first is ascending, if all that the walk meets is
-  new-ascending : (j k d c n : ℕ) → walk Σ m (suc j) (from k (suc d)) (from 0 c) ≡ from 0 n → (b : ℕ) × (newlyMet (from 0 c) (row Σ m k) ≡ from c b)
+  new-ascending : (j k d c n : ℕ) → walk Σ m (suc j) (from k (suc d)) (from 0 c) ≡ from 0 n → (b : ℕ) × (newly_met (from 0 c) (row Σ m k) ≡ from c b)
   new-ascending j k d c n h =
-      let new = newlyMet (from 0 c) (row Σ m k) in
+      let new = newly_met (from 0 c) (row Σ m k) in
       let r = walk_more Σ m j (from (suc k) d ++ new) (from 0 c ++ new) in
       let a = from-split 0 n (from 0 c ++ new) r.0 (sym r.1 ∙ h) in
       let b = from-split 0 (length (from 0 c ++ new)) (from 0 c) new a.front in
@@ -104,7 +104,7 @@ module _ (Σ : Alphabet) (m : Monitor) where
 
   pub ordered : m.start ≡ 0 → BreadthFirst Σ m → OrderedFrom Σ m 0 1
   unfolding BreadthFirst
-  ordered z h = ordered-from m.states 0 1 1 refl (zero-add m.states) (ap (λ (s : ℕ). walk Σ m m.states (s ∷ []) (s ∷ [])) (sym z) ∙ h ∙ upTo-from m.states)
+  ordered z h = ordered-from m.states 0 1 1 refl (zero-add m.states) (ap (λ (s : ℕ). walk Σ m m.states (s ∷ []) (s ∷ [])) (sym z) ∙ h ∙ up_to-from m.states)
 
   -- ---- the other way
   module _ (v : Over Σ m) (o : OrderedFrom Σ m 0 1) where
@@ -147,7 +147,7 @@ module _ (Σ : Alphabet) (m : Monitor) where
     pub breadth-first : m.start ≡ 0 → BreadthFirst Σ m
     unfolding BreadthFirst
     breadth-first z =
-        let l : 0 < m.states = rw z at v.start-in in
+        let l : 0 < m.states = rw z at v.start_in in
         ap (λ (s : ℕ). walk Σ m m.states (s ∷ []) (s ∷ [])) z
         ∙ walk_from m.states 0 1 1 refl (zero-add m.states) (le_refl 1) l (λ s i a. absurd (not-suc-le-zero a))
-        ∙ sym (upTo-from m.states)
+        ∙ sym (up_to-from m.states)

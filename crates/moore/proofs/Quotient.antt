@@ -9,16 +9,16 @@ use native.Mathlib.Omega.{arith}
 use lib.ListN.{get_or}
 use borrow.Author.Tests.{eqb-true, eqb-false, eq-eqb}
 use Rattle.sequences.specs.Tabulate.{tabulate}
-use Rattle.sequences.proofs.Loops.{getD-tab}
+use Rattle.sequences.proofs.Loops.{get_d-tab}
 use Rattle.meaning.specs.Traces.{Alphabet, Event, Word}
 use Rattle.meaning.specs.Monitors.{Over, follow, shows}
-use Rattle.meaning.specs.TableFiles.{verdictOf}
+use Rattle.meaning.specs.TableFiles.{verdict_of}
 use Rattle.meaning.specs.declared.Verdict.{Verdict}
 use Rattle.meaning.specs.declared.Verdict.TheVariants.{Undecided, Satisfied, Violated, Moot}
 use Rattle.moore.specs.Reduced.{Apart}
-use Rattle.moore.specs.Counting.{countBelow}
+use Rattle.moore.specs.Counting.{count_below}
 use Rattle.moore.specs.Grouping.{entry, machine, Machine, leads, together, Differ, Grouped, Stable}
-use Rattle.moore.specs.Quotient.{leaders, leader, size, number, closed, verdictByte, verdicts, quotientRows, quotient, Later, Says}
+use Rattle.moore.specs.Quotient.{leaders, leader, size, number, closed, verdict_byte, verdicts, quotient_rows, quotient, Later, Says}
 use Rattle.moore.proofs.Words.{follow-in}
 use Rattle.sequences.proofs.Pointwise.{is_true}
 use Rattle.moore.proofs.Tests.{bool_cases, events-true, events-fail}
@@ -52,7 +52,7 @@ module _ {Σ : Alphabet} {n : ℕ} {rows : List (List ℕ)} {classes group : Lis
 
   pub number-leader : (q : ℕ) → q < size n group → number group (leader n group q) ≡ q
   unfolding number
-  number-leader q l = ap (λ (s : ℕ). countBelow s (leads group)) (leader-own q l) ∙ (leader-is q l).count
+  number-leader q l = ap (λ (s : ℕ). count_below s (leads group)) (leader-own q l) ∙ (leader-is q l).count
 
   pub own-leads : (i : ℕ) → i < n → leads group (get_or group i 0) ≡ true
   own-leads i l = eq-eqb (get_or group (get_or group i 0) 0) (get_or group i 0) (G.own i l)
@@ -70,25 +70,25 @@ module _ {Σ : Alphabet} {n : ℕ} {rows : List (List ℕ)} {classes group : Lis
 
   number_same : (i j : ℕ) → get_or group i 0 ≡ get_or group j 0 → number group i ≡ number group j
   unfolding number
-  number_same i j e = ap (λ (s : ℕ). countBelow s (leads group)) e
+  number_same i j e = ap (λ (s : ℕ). count_below s (leads group)) e
 
   pub number-start : number group 0 ≡ 0
   unfolding number
-  number-start = let h : get_or group 0 0 ≤ 0 = G.least 0 M.some in let e : get_or group 0 0 ≡ 0 = omega arith in ap (λ (s : ℕ). countBelow s (leads group)) e
+  number-start = let h : get_or group 0 0 ≤ 0 = G.least 0 M.some in let e : get_or group 0 0 ≡ 0 = omega arith in ap (λ (s : ℕ). count_below s (leads group)) e
 
   -- ---- the rows
-  next-leader : (q e : ℕ) → q < size n group → Event Σ e → entry (quotientRows Σ n rows group) q e ≡ number group (entry rows (leader n group q) e)
-  unfolding quotientRows leader
+  next-leader : (q e : ℕ) → q < size n group → Event Σ e → entry (quotient_rows Σ n rows group) q e ≡ number group (entry rows (leader n group q) e)
+  unfolding quotient_rows leader
   next-leader q e l h =
-      ap (λ (r : List ℕ). get_or r e 0) (getD-tab (size n group) (λ q. tabulate Σ.width (at q)) q [] l)
-      ∙ getD-tab Σ.width (at q) e 0 h.0
+      ap (λ (r : List ℕ). get_or r e 0) (get_d-tab (size n group) (λ q. tabulate Σ.width (at q)) q [] l)
+      ∙ get_d-tab Σ.width (at q) e 0 h.0
       ∙ ap (λ (b : Bool). cond b (get_or (tabulate n (number group)) (entry rows (leader n group q) e) 0) 0) (is_true (Σ.possible e) h.1)
-      ∙ getD-tab n (number group) (entry rows (leader n group q) e) 0 (M.inside (leader n group q) e (leader-in q l) h)
+      ∙ get_d-tab n (number group) (entry rows (leader n group q) e) 0 (M.inside (leader n group q) e (leader-in q l) h)
     where
       at : ℕ → ℕ → ℕ
       at q e = cond (Σ.possible e) (get_or (tabulate n (number group)) (entry rows (get_or (leaders n group) q 0) e) 0) 0
 
-  pub next-number : (i e : ℕ) → i < n → Event Σ e → entry (quotientRows Σ n rows group) (number group i) e ≡ number group (entry rows i e)
+  pub next-number : (i e : ℕ) → i < n → Event Σ e → entry (quotient_rows Σ n rows group) (number group i) e ≡ number group (entry rows i e)
   next-number i e l h =
       next-leader (number group i) e (number_in i l) h
       ∙ number_same (entry rows (leader n group (number group i)) e) (entry rows i e)
@@ -96,8 +96,8 @@ module _ {Σ : Alphabet} {n : ℕ} {rows : List (List ℕ)} {classes group : Lis
 
   pub quotient-over : Over Σ (quotient Σ n rows classes group)
   quotient-over = record {
-    start-in = subst (λ (q : ℕ). q < size n group) number-start (number_in 0 M.some);
-    next-in = λ q e l h. rw (next-leader q e l h) (number_in (entry rows (leader n group q) e) (M.inside (leader n group q) e (leader-in q l) h));
+    start_in = subst (λ (q : ℕ). q < size n group) number-start (number_in 0 M.some);
+    next_in = λ q e l h. rw (next-leader q e l h) (number_in (entry rows (leader n group q) e) (M.inside (leader n group q) e (leader-in q l) h));
   }
 
   pub stands : (w : List ℕ) (i : ℕ) → i < n → Word Σ w → follow (quotient Σ n rows classes group) (number group i) w ≡ number group (follow (machine n rows classes) i w)
@@ -108,15 +108,15 @@ module _ {Σ : Alphabet} {n : ℕ} {rows : List (List ℕ)} {classes group : Lis
   stands-from-start w h = ap (λ (q : ℕ). follow (quotient Σ n rows classes group) q w) (sym number-start) ∙ stands w 0 M.some h
 
   -- ---- the verdicts
-  verdict-number : (i : ℕ) → i < n → (quotient Σ n rows classes group).verdict (number group i) ≡ verdictOf (verdictByte (get_or classes i 0) (closed Σ rows group (get_or group i 0)))
+  verdict-number : (i : ℕ) → i < n → (quotient Σ n rows classes group).verdict (number group i) ≡ verdict_of (verdict_byte (get_or classes i 0) (closed Σ rows group (get_or group i 0)))
   unfolding verdicts leader
   verdict-number i l =
-      ap verdictOf (getD-tab (size n group) at (number group i) 0 (number_in i l)
-      ∙ ap (λ (s : ℕ). verdictByte (get_or classes s 0) (closed Σ rows group s)) (leader-number i l)
-      ∙ ap (λ (c : ℕ). verdictByte c (closed Σ rows group (get_or group i 0))) (G.class (get_or group i 0) i (own_in i l) l (G.own i l)))
+      ap verdict_of (get_d-tab (size n group) at (number group i) 0 (number_in i l)
+      ∙ ap (λ (s : ℕ). verdict_byte (get_or classes s 0) (closed Σ rows group s)) (leader-number i l)
+      ∙ ap (λ (c : ℕ). verdict_byte c (closed Σ rows group (get_or group i 0))) (G.class (get_or group i 0) i (own_in i l) l (G.own i l)))
     where
       at : ℕ → ℕ
-      at q = verdictByte (get_or classes (get_or (leaders n group) q 0) 0) (closed Σ rows group (get_or (leaders n group) q 0))
+      at q = verdict_byte (get_or classes (get_or (leaders n group) q 0) 0) (closed Σ rows group (get_or (leaders n group) q 0))
 
   -- a closed group is never left
   never-left : (i : ℕ) → i < n → closed Σ rows group (get_or group i 0) ≡ true → (w : List ℕ) (j : ℕ) → j < n → Word Σ w → get_or group j 0 ≡ get_or group i 0
@@ -155,35 +155,35 @@ module _ {Σ : Alphabet} {n : ℕ} {rows : List (List ℕ)} {classes group : Lis
   never : (i : ℕ) → i < n → get_or classes i 0 ≡ 0 → closed Σ rows group (get_or group i 0) ≡ true → (w : List ℕ) → Word Σ w → get_or classes (follow (machine n rows classes) i w) 0 ≡ 0
   never i l z c w h = G.class (follow (machine n rows classes) i w) i (follow-in (machine-over M) i w l h) l (never-left i l c w i l h refl) ∙ z
 
-  says : (i : ℕ) → i < n → Says Σ n rows classes i (verdictOf (verdictByte (get_or classes i 0) (closed Σ rows group (get_or group i 0))))
+  says : (i : ℕ) → i < n → Says Σ n rows classes i (verdict_of (verdict_byte (get_or classes i 0) (closed Σ rows group (get_or group i 0))))
   says i l = go (get_or classes i 0) (closed Σ rows group (get_or group i 0)) refl refl (M.class i l)
     where
-      go : (c : ℕ) (b : Bool) → get_or classes i 0 ≡ c → closed Σ rows group (get_or group i 0) ≡ b → c ≤ 2 → Says Σ n rows classes i (verdictOf (verdictByte c b))
+      go : (c : ℕ) (b : Bool) → get_or classes i 0 ≡ c → closed Σ rows group (get_or group i 0) ≡ b → c ≤ 2 → Says Σ n rows classes i (verdict_of (verdict_byte c b))
       go zero true e f h = never i l e f
       go zero false e f h = (e, left i l e f)
       go (suc zero) b e f h = e
       go (suc (suc zero)) b e f h = e
       go (suc (suc (suc c))) b e f h = absurd (omega arith)
 
-  not-both : (i : ℕ) → Later Σ n rows classes i → ((w : List ℕ) → Word Σ w → get_or classes (follow (machine n rows classes) i w) 0 ≡ 0) → ⊥
-  not-both i a h = go a.brings (h a.by a.word)
+  not_both : (i : ℕ) → Later Σ n rows classes i → ((w : List ℕ) → Word Σ w → get_or classes (follow (machine n rows classes) i w) 0 ≡ 0) → ⊥
+  not_both i a h = go a.brings (h a.by a.word)
     where
       go : {c : ℕ} → (c ≡ 1) ⊎ (c ≡ 2) → c ≡ 0 → ⊥
       go (inl e) z = omega arith
       go (inr e) z = omega arith
 
-  says-one : (i : ℕ) → i < n → (v : Verdict) → Says Σ n rows classes i v → verdictOf (verdictByte (get_or classes i 0) (closed Σ rows group (get_or group i 0))) ≡ v
+  says-one : (i : ℕ) → i < n → (v : Verdict) → Says Σ n rows classes i v → verdict_of (verdict_byte (get_or classes i 0) (closed Σ rows group (get_or group i 0))) ≡ v
   says-one i l Satisfied h = rw h
   says-one i l Violated h = rw h
   says-one i l Moot h = rw (h [] tt) (go (bool_cases (closed Σ rows group (get_or group i 0))))
     where
-      go : (closed Σ rows group (get_or group i 0) ≡ true) ⊎ (closed Σ rows group (get_or group i 0) ≡ false) → verdictOf (verdictByte 0 (closed Σ rows group (get_or group i 0))) ≡ Moot
+      go : (closed Σ rows group (get_or group i 0) ≡ true) ⊎ (closed Σ rows group (get_or group i 0) ≡ false) → verdict_of (verdict_byte 0 (closed Σ rows group (get_or group i 0))) ≡ Moot
       go (inl c) = rw c
-      go (inr c) = absurd (not-both i (left i l (h [] tt) c) h)
+      go (inr c) = absurd (not_both i (left i l (h [] tt) c) h)
   says-one i l Undecided h = rw h.0 (go (bool_cases (closed Σ rows group (get_or group i 0))))
     where
-      go : (closed Σ rows group (get_or group i 0) ≡ true) ⊎ (closed Σ rows group (get_or group i 0) ≡ false) → verdictOf (verdictByte 0 (closed Σ rows group (get_or group i 0))) ≡ Undecided
-      go (inl c) = absurd (not-both i h.1 (never i l h.0 c))
+      go : (closed Σ rows group (get_or group i 0) ≡ true) ⊎ (closed Σ rows group (get_or group i 0) ≡ false) → verdict_of (verdict_byte 0 (closed Σ rows group (get_or group i 0))) ≡ Undecided
+      go (inl c) = absurd (not_both i h.1 (never i l h.0 c))
       go (inr c) = rw c
 
   pub verdict-iff : (i : ℕ) → i < n → (v : Verdict) → ((quotient Σ n rows classes group).verdict (number group i) ≡ v) ↔ Says Σ n rows classes i v

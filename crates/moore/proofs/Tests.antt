@@ -6,12 +6,12 @@ use Prim.Native.Nat.{ℕ, zero, suc, ◌≤◌, ◌<◌, suc-le-suc}
 use native.Mathlib.Nat.{le_antisymm}
 use native.Mathlib.Decide.{dec_lt}
 use native.Mathlib.Omega.{arith}
-use Rattle.sequences.specs.Tabulate.{all_below, leastBelow}
+use Rattle.sequences.specs.Tabulate.{all_below, least_below}
 use Rattle.sequences.proofs.Loops.{all-not}
 use Rattle.sequences.proofs.Pointwise.{is_true, all-is}
 use Rattle.sequences.proofs.Pigeonhole.{Least, least-below}
 use Rattle.meaning.specs.Traces.{Alphabet, Event}
-use Rattle.moore.specs.Grouping.{allEvents}
+use Rattle.moore.specs.Grouping.{all_events}
 
 pub bool_cases : (b : Bool) → (b ≡ true) ⊎ (b ≡ false)
 bool_cases true = inl refl
@@ -34,17 +34,17 @@ all-fails (suc n) p h = go (p zero) refl (all-fails n (λ i. p (suc i)))
 
 -- ---- every event that can happen
 module _ (Σ : Alphabet) (p : ℕ → Bool) where
-  pub events-true : allEvents Σ p ≡ true → (e : ℕ) → Event Σ e → p e ≡ true
+  pub events-true : all_events Σ p ≡ true → (e : ℕ) → Event Σ e → p e ≡ true
   events-true h e l = ap (λ (b : Bool). cond b (p e) true) (sym (is_true (Σ.possible e) l.1)) ∙ all_true Σ.width (λ e. cond (Σ.possible e) (p e) true) h e l.0
 
-  pub events-are : ((e : ℕ) → Event Σ e → p e ≡ true) → allEvents Σ p ≡ true
+  pub events-are : ((e : ℕ) → Event Σ e → p e ≡ true) → all_events Σ p ≡ true
   events-are h = all-is Σ.width (λ e. cond (Σ.possible e) (p e) true) (λ e l. go e l (Σ.possible e) refl)
     where
       go : (e : ℕ) → e < Σ.width → (b : Bool) → Σ.possible e ≡ b → cond b (p e) true ≡ true
       go e l true q = h e (l, rw q tt)
       go e l false q = refl
 
-  pub events-fail : allEvents Σ p ≡ false → (e : ℕ) × Event Σ e × (p e ≡ false)
+  pub events-fail : all_events Σ p ≡ false → (e : ℕ) × Event Σ e × (p e ≡ false)
   events-fail h = let x = all-fails Σ.width (λ e. cond (Σ.possible e) (p e) true) h in go x.0 x.1 (Σ.possible x.0) refl x.2
     where
       go : (e : ℕ) → e < Σ.width → (b : Bool) → Σ.possible e ≡ b → cond b (p e) true ≡ false → (e : ℕ) × Event Σ e × (p e ≡ false)
@@ -58,7 +58,7 @@ pub record Equivalence (same : ℕ → ℕ → Bool) : Type 0 where
   pub join : (s t u : ℕ) → same s t ≡ true → same t u ≡ true → same s u ≡ true
 
 abbrev pub name : (ℕ → ℕ → Bool) → ℕ → ℕ
-name same s = leastBelow s (λ t. same t s)
+name same s = least_below s (λ t. same t s)
 
 module _ {same : ℕ → ℕ → Bool} (q : Equivalence same) where
   least : (s : ℕ) → Least s (λ t. same t s) (name same s)

@@ -9,7 +9,7 @@ use lib.Dec.{T}
 use lib.ListN.{length, get_or}
 use Rattle.sequences.specs.Tabulate.{tabulate, up_to}
 use Rattle.meaning.specs.Traces.{Alphabet, Event}
-use Rattle.meaning.specs.Monitors.{Monitor, member, newlyMet, keep, events, walk}
+use Rattle.meaning.specs.Monitors.{Monitor, member, newly_met, keep, events, walk}
 
 -- P holds of every element
 abbrev pub All : (ℕ → Type 0) → List ℕ → Type 0
@@ -38,11 +38,11 @@ module _ (P : ℕ → Type 0) where
       go true q r = ((h.0, rw q tt), r)
       go false q r = r
 
-  all_new : (met l : List ℕ) → All P l → All P (newlyMet met l)
+  all_new : (met l : List ℕ) → All P l → All P (newly_met met l)
   all_new met [] h = tt
   all_new met (t ∷ l) h = go (member t met) (all_new met l h.1) (all_new (met ++ (t ∷ [])) l h.1)
     where
-      go : (b : Bool) → All P (newlyMet met l) → All P (newlyMet (met ++ (t ∷ [])) l) → All P (cond b (newlyMet met l) (t ∷ newlyMet (met ++ (t ∷ [])) l))
+      go : (b : Bool) → All P (newly_met met l) → All P (newly_met (met ++ (t ∷ [])) l) → All P (cond b (newly_met met l) (t ∷ newly_met (met ++ (t ∷ [])) l))
       go true r r' = r
       go false r r' = (h.0, r')
 
@@ -63,13 +63,13 @@ map_same P f g (a ∷ l) q h = ap₂ ◌∷◌ (q a h.0) (map_same P f g l q h.1
 
 module _ (Σ : Alphabet) (m : Monitor) (P : ℕ → Type 0) (step : (s e : ℕ) → P s → Event Σ e → P (m.next s e)) where
   -- the states that a turn meets first
-  pub turn-all : (met : List ℕ) (s : ℕ) → P s → All P (newlyMet met (map (m.next s) (events Σ)))
+  pub turn-all : (met : List ℕ) (s : ℕ) → P s → All P (newly_met met (map (m.next s) (events Σ)))
   turn-all met s h = all_new P met (map (m.next s) (events Σ)) (all_map (Event Σ) P (m.next s) (events Σ) (λ e l. step s e h l) (events-all Σ))
 
   pub walk-all : (k : ℕ) (queue met : List ℕ) → All P queue → All P met → All P (walk Σ m k queue met)
   walk-all zero queue met h l = l
   walk-all (suc k) [] met h l = l
   walk-all (suc k) (s ∷ queue) met h l =
-      let new = newlyMet met (map (m.next s) (events Σ)) in
+      let new = newly_met met (map (m.next s) (events Σ)) in
       let r : All P new = turn-all met s h.0 in
       walk-all k (queue ++ new) (met ++ new) (all_append P queue new h.1 r) (all_append P met new l r)

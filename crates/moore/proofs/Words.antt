@@ -15,4 +15,4 @@ follow-append m s (e ∷ w) z = follow-append m (m.next s e) w z
 
 pub follow-in : {Σ : Alphabet} {m : Monitor} → Over Σ m → (s : ℕ) (w : List ℕ) → s < m.states → Word Σ w → follow m s w < m.states
 follow-in o s [] l h = l
-follow-in {m = m} o s (e ∷ w) l h = follow-in o (m.next s e) w (o.next-in s e l h.0) h.1
+follow-in {m = m} o s (e ∷ w) l h = follow-in o (m.next s e) w (o.next_in s e l h.0) h.1

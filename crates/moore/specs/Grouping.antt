@@ -1,9 +1,9 @@
 -- Moore's partition refinement on lists: states are put together that no word tells apart. A group is named by its least state.
 use Rattle.std.specs.Prelude.{◌≡◌, ◌≢◌, List, [], Bool, true, false, cond, ℕ, zero, suc, ◌≤◌, ◌<◌, get_or, eqb}
-use Rattle.sequences.specs.Tabulate.{tabulate, all_below, leastBelow}
+use Rattle.sequences.specs.Tabulate.{tabulate, all_below, least_below}
 use Rattle.meaning.specs.Traces.{Alphabet, Event, Word}
 use Rattle.meaning.specs.Monitors.{Monitor, follow}
-use Rattle.meaning.specs.TableFiles.{verdictOf}
+use Rattle.meaning.specs.TableFiles.{verdict_of}
 
 -- the successor of state s at event e, where rows has a row of successors for each state
 abbrev pub entry : List (List ℕ) → ℕ → ℕ → ℕ
@@ -14,7 +14,7 @@ abbrev pub machine : ℕ → List (List ℕ) → List ℕ → Monitor
 machine n rows classes = record {
   states = n;
   start = 0;
-  verdict = λ s. verdictOf (get_or classes s 0);
+  verdict = λ s. verdict_of (get_or classes s 0);
   next = λ s e. entry rows s e;
 }
 
@@ -32,37 +32,37 @@ abbrev pub leads : List ℕ → ℕ → Bool
 leads group i = eqb (get_or group i 0) i
 
 -- p holds at every event that can happen
-abbrev pub allEvents : Alphabet → (ℕ → Bool) → Bool
-allEvents Σ p = all_below Σ.width (λ e. let r = p e in cond (Σ.possible e) r true)
+abbrev pub all_events : Alphabet → (ℕ → Bool) → Bool
+all_events Σ p = all_below Σ.width (λ e. let r = p e in cond (Σ.possible e) r true)
 
 -- i and j are in one group, and so are their successors at each event
-abbrev pub sameStep : Alphabet → List (List ℕ) → List ℕ → ℕ → ℕ → Bool
-sameStep Σ rows group i j =
-    let r = allEvents Σ (λ e. together group (entry rows i e) (entry rows j e)) in
+abbrev pub same_step : Alphabet → List (List ℕ) → List ℕ → ℕ → ℕ → Bool
+same_step Σ rows group i j =
+    let r = all_events Σ (λ e. together group (entry rows i e) (entry rows j e)) in
     cond (together group i j) r false
 
 -- each state with the least that has its class
-unfoldable pub firstGroups : ℕ → List ℕ → List ℕ
-firstGroups n classes = tabulate n (λ i. leastBelow i (λ j. together classes j i))
+unfoldable pub first_groups : ℕ → List ℕ → List ℕ
+first_groups n classes = tabulate n (λ i. least_below i (λ j. together classes j i))
 
 -- one round
-unfoldable pub nextGroups : Alphabet → ℕ → List (List ℕ) → List ℕ → List ℕ
-nextGroups Σ n rows group = tabulate n (λ i. leastBelow i (λ j. sameStep Σ rows group j i))
+unfoldable pub next_groups : Alphabet → ℕ → List (List ℕ) → List ℕ → List ℕ
+next_groups Σ n rows group = tabulate n (λ i. least_below i (λ j. same_step Σ rows group j i))
 
-abbrev pub sameBelow : ℕ → List ℕ → List ℕ → Bool
-sameBelow n a b = all_below n (λ i. eqb (get_or a i 0) (get_or b i 0))
+abbrev pub same_below : ℕ → List ℕ → List ℕ → Bool
+same_below n a b = all_below n (λ i. eqb (get_or a i 0) (get_or b i 0))
 
 -- rounds until one changes nothing, k at most
 unfoldable pub rounds : ℕ → Alphabet → ℕ → List (List ℕ) → List ℕ → List ℕ
 rounds zero Σ n rows group = group
 rounds (suc k) Σ n rows group =
-    let next = nextGroups Σ n rows group in
+    let next = next_groups Σ n rows group in
     let r = rounds k Σ n rows next in
-    cond (sameBelow n next group) group r
+    cond (same_below n next group) group r
 
 -- for each state the least of its group; n rounds are enough
 unfoldable pub grouping : Alphabet → ℕ → List (List ℕ) → List ℕ → List ℕ
-grouping Σ n rows classes = rounds n Σ n rows (firstGroups n classes)
+grouping Σ n rows classes = rounds n Σ n rows (first_groups n classes)
 
 -- ---- what is shown of it
 -- a word after which the classes of two states differ

@@ -5,8 +5,8 @@ use Rattle.meaning.specs.Traces.{Alphabet, Word}
 use Rattle.meaning.specs.Monitors.{Monitor, follow, keep}
 use Rattle.meaning.specs.declared.Verdict.{Verdict}
 use Rattle.meaning.specs.declared.Verdict.TheVariants.{Undecided, Satisfied, Violated, Moot}
-use Rattle.moore.specs.Counting.{countBelow}
-use Rattle.moore.specs.Grouping.{entry, machine, leads, together, allEvents, grouping}
+use Rattle.moore.specs.Counting.{count_below}
+use Rattle.moore.specs.Grouping.{entry, machine, leads, together, all_events, grouping}
 
 -- the least states of the groups, ascending
 unfoldable pub leaders : ℕ → List ℕ → List ℕ
@@ -18,34 +18,34 @@ leader n group q = get_or (leaders n group) q 0
 
 -- how many groups there are
 unfoldable pub size : ℕ → List ℕ → ℕ
-size n group = countBelow n (leads group)
+size n group = count_below n (leads group)
 
 -- the number of the group of state i: how many groups have a lower least state
 unfoldable pub number : List ℕ → ℕ → ℕ
-number group i = countBelow (get_or group i 0) (leads group)
+number group i = count_below (get_or group i 0) (leads group)
 
 -- every event leads from s back to its own group
 unfoldable pub closed : Alphabet → List (List ℕ) → List ℕ → ℕ → Bool
-closed Σ rows group s = allEvents Σ (λ e. together group (entry rows s e) s)
+closed Σ rows group s = all_events Σ (λ e. together group (entry rows s e) s)
 
 -- the verdict byte of a group, by its class and by whether it is closed
-abbrev pub verdictByte : ℕ → Bool → ℕ
-verdictByte class shut = cond (eqb class 0) (cond shut 3 0) class
+abbrev pub verdict_byte : ℕ → Bool → ℕ
+verdict_byte class shut = cond (eqb class 0) (cond shut 3 0) class
 
 unfoldable pub verdicts : Alphabet → ℕ → List (List ℕ) → List ℕ → List ℕ → List ℕ
 verdicts Σ n rows classes group =
     let least = leaders n group in
-    tabulate (size n group) (λ q. verdictByte (get_or classes (get_or least q 0) 0) (closed Σ rows group (get_or least q 0)))
+    tabulate (size n group) (λ q. verdict_byte (get_or classes (get_or least q 0) 0) (closed Σ rows group (get_or least q 0)))
 
 -- 0 where an event cannot happen
-unfoldable pub quotientRows : Alphabet → ℕ → List (List ℕ) → List ℕ → List (List ℕ)
-quotientRows Σ n rows group =
+unfoldable pub quotient_rows : Alphabet → ℕ → List (List ℕ) → List ℕ → List (List ℕ)
+quotient_rows Σ n rows group =
     let least = leaders n group in
     let numbers = tabulate n (number group) in
     tabulate (size n group) (λ q. tabulate Σ.width (λ e. cond (Σ.possible e) (get_or numbers (entry rows (get_or least q 0) e) 0) 0))
 
 abbrev pub quotient : Alphabet → ℕ → List (List ℕ) → List ℕ → List ℕ → Monitor
-quotient Σ n rows classes group = machine (size n group) (quotientRows Σ n rows group) (verdicts Σ n rows classes group)
+quotient Σ n rows classes group = machine (size n group) (quotient_rows Σ n rows group) (verdicts Σ n rows classes group)
 
 -- the machine's smallest monitor
 unfoldable pub reduced : Alphabet → ℕ → List (List ℕ) → List ℕ → Monitor

@@ -6,7 +6,7 @@ use native.Mathlib.Nat.{pow-suc}
 use native.Mathlib.Decide.{ℕ_discrete}
 use native.Mathlib.Omega.{arith}
 use lib.Dec.{eqb}
-use Rattle.ltl.specs.Sets.{on, everyBelow}
+use Rattle.ltl.specs.Sets.{on, every_below}
 use Rattle.ltl.proofs.Sets.{on-first, on-suc, on-zero, on_out}
 use Rattle.node_words.specs.Words.{label_of, Flipped, Everywhere, LabelBits}
 
@@ -46,11 +46,11 @@ every-is h c q = record { all = λ l m. h.all l m ∙ q }
 
 -- ---- the bits of the labels
 
-every-at : (n : ℕ) (f : ℕ → Bool) → everyBelow n f ≡ true → (i : ℕ) → i < n → f i ≡ true
+every-at : (n : ℕ) (f : ℕ → Bool) → every_below n f ≡ true → (i : ℕ) → i < n → f i ≡ true
 every-at zero f h i l = absurd (omega arith)
 every-at (suc n) f h i l = go (f n) refl h (ℕ_discrete i n) (λ k. every-at n f k i)
   where
-    go : (b : Bool) → f n ≡ b → elim b [ true ↦ everyBelow n f | false ↦ false ] ≡ true → Dec (i ≡ n) → (everyBelow n f ≡ true → i < n → f i ≡ true) → f i ≡ true
+    go : (b : Bool) → f n ≡ b → elim b [ true ↦ every_below n f | false ↦ false ] ≡ true → Dec (i ≡ n) → (every_below n f ≡ true → i < n → f i ≡ true) → f i ≡ true
     go true e k (yes p) r = rw p e
     go true e k (no p) r = r k (omega arith)
     go false e k d r = absurd (false≢true k)
@@ -62,7 +62,7 @@ same_bit true false h = absurd (false≢true h)
 same_bit false true h = absurd (false≢true h)
 
 abbrev agrees : Bool → ℕ → ℕ → Bool
-agrees high j r = everyBelow 64 (λ l. beq (on r l) (on (label_of high l) j))
+agrees high j r = every_below 64 (λ l. beq (on r l) (on (label_of high l) j))
 
 label-bits : (high : Bool) (j r : ℕ) → agrees high j r ≡ true → LabelBits high j r
 label-bits high j r h = record { bit = λ l m. same_bit (on r l) (on (label_of high l) j) (every-at 64 (λ l. beq (on r l) (on (label_of high l) j)) h l m) }

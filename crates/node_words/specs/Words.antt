@@ -21,11 +21,11 @@ pub record Everywhere (b : Bool) (r : ℕ) : Type 0 where
 pub record LabelBits (high : Bool) (j r : ℕ) : Type 0 where
   pub bit : (l : ℕ) → l < 64 → on r l ≡ on (label_of high l) j
 
-abbrev pub plainWords : ℕ → Words
-plainWords w = record { value = w; label = 0; fair = 0; temporal = false }
+abbrev pub plain_words : ℕ → Words
+plain_words w = record { value = w; label = 0; fair = 0; temporal = false }
 
-abbrev pub promiseWords : ℕ → ℕ → ℕ → Words
-promiseWords w y f = record { value = w; label = y; fair = f; temporal = true }
+abbrev pub promise_words : ℕ → ℕ → ℕ → Words
+promise_words w y f = record { value = w; label = y; fair = f; temporal = true }
 
 -- what the words say of label l
 abbrev pub lane_of : Words → ℕ → Bits

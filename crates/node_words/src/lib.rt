@@ -1,7 +1,7 @@
 // Words with a bit for each of 64 labels, and what one node gives in them: bit l of a word is for label l of the lower or of the upper half.
 ghost use Rattle.std.specs.Prelude.{◌≡◌};
 ghost use Rattle.ltl.specs.Sets.{on};
-ghost use Rattle.node_words.specs.Words.{plainWords, promiseWords, Lanes, Flipped, Everywhere, LabelBits};
+ghost use Rattle.node_words.specs.Words.{plain_words, promise_words, Lanes, Flipped, Everywhere, LabelBits};
 
 use events::{at_least, signal_on};
 use meaning::Node;
@@ -57,7 +57,7 @@ pub fn label_word(high: bool, j: u8) -> u64
 }
 
 fn plain(value: u64) -> Words
-    ensures { result ≡ plainWords value }
+    ensures { result ≡ plain_words value }
 {
     Words {
         value,
@@ -68,7 +68,7 @@ fn plain(value: u64) -> Words
 }
 
 fn promise(value: u64, label: u64, fair: u64) -> Words
-    ensures { result ≡ promiseWords value label fair }
+    ensures { result ≡ promise_words value label fair }
 {
     Words {
         value,

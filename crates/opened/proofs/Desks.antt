@@ -36,7 +36,7 @@ use denote.Triple.Spec.{triple_of}
 use Rattle.meaning.specs.declared.Served.{Served}
 use Rattle.meaning.specs.declared.Watch.{Watch}
 use Rattle.meaning.specs.contracts.Watch as D
-use Rattle.desk_tasks.specs.Surveys.{servedIn}
+use Rattle.desk_tasks.specs.Surveys.{served_in}
 use Rattle.desk_tasks.specs.declared.Request.{Request}
 use Rattle.desk_tasks.specs.contracts.Request as Q
 use Rattle.desk.specs.contracts.serve as serve
@@ -85,7 +85,7 @@ module _ (x : Bor (List Watch)) (d : Opened) (a : Request) where
   serving = (x, (d.bytes, (d.signals, (d.states, (a, tt)))))
 
   abbrev pub Served-as : Served → List Watch → Type 0
-  Served-as r l = (r ≡ (servedIn d.bytes.now d.signals d.states a x.now).answer) × (l ≡ (servedIn d.bytes.now d.signals d.states a x.now).desk)
+  Served-as r l = (r ≡ (served_in d.bytes.now d.signals d.states a x.now).answer) × (l ≡ (served_in d.bytes.now d.signals d.states a x.now).desk)
 
   module _ {M : Type 1} {𝓤 : Ura M} (𝓛 : Logic 𝓤) (mem : Memory → SProp 𝓤) (run : Routine → Fun 𝓤) (κ κ' : Lft) (q q' : Share) (u : Val) where
     abbrev pub to-serve : (Serve 𝓛 mem run).Ghost

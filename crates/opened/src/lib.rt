@@ -1,10 +1,10 @@
 // A table is opened once and stepped many times from the caller's own bytes; every public function takes any input.
 ghost use Rattle.std.specs.Prelude.{◌≡◌, ◌∷◌, []};
-ghost use Rattle.meaning.specs.TableFiles.{checkedOf};
-ghost use Rattle.meaning.specs.Runs.{rowRead};
+ghost use Rattle.meaning.specs.TableFiles.{checked_of};
+ghost use Rattle.meaning.specs.Runs.{row_read};
 ghost use Rattle.meaning.specs.Openings.{opening, run_from};
-ghost use Rattle.meaning.specs.Recordings.{judgedOf};
-ghost use Rattle.opened.specs.OpenedTables.{countsOf, opened_of, outcomeIn, outcomeBy, start_by, steppedBy, ranBy, row_by, steppedAll, judgedBy, freshenedBy, postedBy, turnedBy};
+ghost use Rattle.meaning.specs.Recordings.{judged_of};
+ghost use Rattle.opened.specs.OpenedTables.{counts_of, opened_of, outcome_in, outcome_by, start_by, stepped_by, ran_by, row_by, stepped_all, judged_by, freshened_by, posted_by, turned_by};
 
 use desk::serve;
 use desk_tasks::{post_request, turn_request};
@@ -20,7 +20,7 @@ struct Counts {
 }
 
 fn counted(bytes: &[u8]) -> Counts
-    ensures { result ≡ countsOf (checkedOf bytes.now) }
+    ensures { result ≡ counts_of (checked_of bytes.now) }
 {
     let checked = table_file::check(bytes);
     let Checked::Table { signals, states } = checked else {
@@ -34,7 +34,7 @@ fn counted(bytes: &[u8]) -> Counts
 
 // What counts say of the bytes that they were found in: no table has 0 states.
 fn outcome_in(signals: u8, states: u16) -> Checked
-    ensures { result ≡ outcomeIn signals states }
+    ensures { result ≡ outcome_in signals states }
 {
     if states < 1 {
         return Checked::Refused(Refusal::WrongTable);
@@ -68,7 +68,7 @@ pub fn open<'a>(bytes: &'a [u8], number: u16) -> Opened<'a>
 
 // What opening found: the counts, or refusal 14.
 pub fn outcome<'a>(t: Opened<'a>) -> Checked
-    ensures { result ≡ outcomeBy t.entry }
+    ensures { result ≡ outcome_by t.entry }
 {
     outcome_in(t.signals, t.states)
 }
@@ -82,7 +82,7 @@ pub fn start<'a>(t: Opened<'a>) -> State
 
 // One event: 14 where opening refused, then 24, 13 and 12, and otherwise the successor with its verdict.
 pub fn step<'a>(t: Opened<'a>, state: State, event: u8) -> Arrived
-    ensures { result ≡ steppedBy t.entry state event }
+    ensures { result ≡ stepped_by t.entry state event }
 {
     openings::step_from(t.bytes, t.signals, t.states, t.number, state, event)
 }
@@ -96,21 +96,21 @@ pub fn row<'a>(t: Opened<'a>, state: u16) -> StateRow
 
 // A run over a list of events: 14 where opening refused, then 24, 13 and 12 at the first such event, and otherwise where the run arrives.
 pub fn run<'a, 'e>(t: Opened<'a>, state: State, events: &'e [u8]) -> Arrived
-    ensures { result ≡ ranBy t.entry state events.now }
+    ensures { result ≡ ran_by t.entry state events.now }
 {
     openings::run_from(t.bytes, t.signals, t.states, t.number, state, events)
 }
 
 // Steps through a list of events, one by one; a refused step leaves the state as it is.
 pub fn step_all<'a, 'e>(t: Opened<'a>, state: State, events: &'e [u8]) -> State
-    ensures { result ≡ steppedAll t.entry state events.now }
+    ensures { result ≡ stepped_all t.entry state events.now }
 {
     openings::step_all_from(t.bytes, t.signals, t.states, t.number, state, events)
 }
 
 // Judges two recordings over all completions from state 0: 14 where opening refused, then 22, then event by event 12, 23 and 12.
 pub fn judge_recordings<'a, 'x, 'y>(t: Opened<'a>, first: &'x [u8], second: &'y [u8]) -> Shown
-    ensures { result ≡ judgedBy t.entry first.now second.now }
+    ensures { result ≡ judged_by t.entry first.now second.now }
 {
     recordings::judge_in(t.bytes, t.signals, t.states, first, second)
 }
@@ -119,14 +119,14 @@ pub fn judge_recordings<'a, 'x, 'y>(t: Opened<'a>, first: &'x [u8], second: &'y 
 
 // Makes a fresh desk of the row, whatever stood there: 14 where opening refused, then 18.
 pub fn fresh<'d, 'a>(desk: &'d mut [Watch], t: Opened<'a>) -> Served
-    ensures { (result ≡ (freshenedBy t.entry desk.old).answer) × (desk.new ≡ (freshenedBy t.entry desk.old).desk) }
+    ensures { (result ≡ (freshened_by t.entry desk.old).answer) × (desk.new ≡ (freshened_by t.entry desk.old).desk) }
 {
     desk::fresh(desk, t.bytes, t.signals, t.states, t.number)
 }
 
 // Posts an event to the watch with a number: 14 where opening refused, then 18, 24, 13, 19, 12, 20 and 21.
 pub fn post<'d, 'a>(desk: &'d mut [Watch], t: Opened<'a>, number: usize, event: u8) -> Served
-    ensures { (result ≡ (postedBy t.entry desk.old number event).answer) × (desk.new ≡ (postedBy t.entry desk.old number event).desk) }
+    ensures { (result ≡ (posted_by t.entry desk.old number event).answer) × (desk.new ≡ (posted_by t.entry desk.old number event).desk) }
 {
     serve(
         desk,
@@ -140,7 +140,7 @@ pub fn post<'d, 'a>(desk: &'d mut [Watch], t: Opened<'a>, number: usize, event: 
 // Hears the oldest event of the next watch after the number last heard, going round: 14 where opening refused, then 18, 24
 // and 13.
 pub fn turn<'d, 'a>(desk: &'d mut [Watch], t: Opened<'a>, last: usize) -> Served
-    ensures { (result ≡ (turnedBy t.entry desk.old last).answer) × (desk.new ≡ (turnedBy t.entry desk.old last).desk) }
+    ensures { (result ≡ (turned_by t.entry desk.old last).answer) × (desk.new ≡ (turned_by t.entry desk.old last).desk) }
 {
     serve(
         desk,
@@ -169,21 +169,21 @@ pub fn open_and_step(bytes: &[u8], number: u16, state: State, event: u8) -> Arri
 
 // Opens and reads a row, for callers that hold no opened table; no answer carries the number.
 pub fn open_and_row(bytes: &[u8], state: u16) -> StateRow
-    ensures { result ≡ rowRead bytes.now state }
+    ensures { result ≡ row_read bytes.now state }
 {
     row(open(bytes, 0), state)
 }
 
 // Opens once and steps through a list of events, for callers that hold no opened table.
 pub fn open_and_step_all(bytes: &[u8], number: u16, state: State, events: &[u8]) -> State
-    ensures { result ≡ steppedAll (opened_of bytes.entry number) state events.now }
+    ensures { result ≡ stepped_all (opened_of bytes.entry number) state events.now }
 {
     step_all(open(bytes, number), state, events)
 }
 
 // Opens and judges two recordings, for callers that hold no opened table; no answer carries the number.
 pub fn open_and_judge(bytes: &[u8], first: &[u8], second: &[u8]) -> Shown
-    ensures { result ≡ judgedOf bytes.now first.now second.now }
+    ensures { result ≡ judged_of bytes.now first.now second.now }
 {
     judge_recordings(open(bytes, 0), first, second)
 }

@@ -10,10 +10,10 @@ use native.Mathlib.Omega.{arith}
 use borrow.Author.Tests.{lt-ltb, eq-eqb, ne_eqb, eqb-true, ltb-false}
 use lib.Dec.{eqb, ltb}
 use lib.ListN.{length, get_or}
-use Rattle.meaning.specs.Traces.{Alphabet, isEvent, Word}
+use Rattle.meaning.specs.Traces.{Alphabet, is_event, Word}
 use Rattle.meaning.specs.Monitors.{Monitor, follow}
-use Rattle.meaning.specs.TableFiles.{isTable, alphabetIn, signalsIn, statesIn, successor, monitorOf}
-use Rattle.meaning.specs.Runs.{end_of, firstBad, run_of}
+use Rattle.meaning.specs.TableFiles.{is_table, alphabet_in, signals_in, states_in, successor, monitor_of}
+use Rattle.meaning.specs.Runs.{end_of, first_bad, run_of}
 use Rattle.meaning.specs.Refusals.{code_of}
 use Rattle.meaning.specs.Openings.{Opening, state_of, carried, run_from}
 use Rattle.meaning.specs.declared.Refusal.{Refusal}
@@ -29,7 +29,7 @@ use Rattle.event_lists.proofs.Laws.{all-events}
 use Rattle.building.proofs.Running.{word-run, own-run}
 
 -- a list of events that all can happen, by the test
-word_of : (Σ : Alphabet) (es : List ℕ) → ((i : ℕ) → i < length es → isEvent Σ (get_or es i 0) ≡ true) → Word Σ es
+word_of : (Σ : Alphabet) (es : List ℕ) → ((i : ℕ) → i < length es → is_event Σ (get_or es i 0) ≡ true) → Word Σ es
 word_of Σ [] h = tt
 word_of Σ (e ∷ es) h = (test-event Σ e (h zero (omega arith)), word_of Σ es (λ i l. h (suc i) (omega arith)))
 
@@ -38,31 +38,31 @@ abbrev number_of : Arrived → ℕ
 number_of (Arrived.At r v d) = 0
 number_of (Arrived.Refused x) = (code_of x).0
 
-module _ (o : Opening) (form : isTable o.table ≡ true) where
+module _ (o : Opening) (form : is_table o.table ≡ true) where
   abbrev pub Σ : Alphabet
-  Σ = alphabetIn o.table (signalsIn o.table)
+  Σ = alphabet_in o.table (signals_in o.table)
 
   abbrev pub m : Monitor
-  m = monitorOf o.table
+  m = monitor_of o.table
 
   -- the way from a state of the table stays in it
-  pub inside : (s : ℕ) (es : List ℕ) → s < statesIn o.table → Word Σ es → follow m s es < statesIn o.table
+  pub inside : (s : ℕ) (es : List ℕ) → s < states_in o.table → Word Σ es → follow m s es < states_in o.table
   inside s [] l a = l
-  inside s (e ∷ es) l a = inside (successor o.table (signalsIn o.table) s e) es (table-inside o.table form s e l a.0) a.1
+  inside s (e ∷ es) l a = inside (successor o.table (signals_in o.table) s e) es (table-inside o.table form s e l a.0) a.1
 
   module _ (s : State) (es : List ℕ) where
     -- 24, 13, 12, and where it ends
-    answer : (a b c : Bool) → eqb s.opening o.number ≡ a → ltb s.number (statesIn o.table) ≡ b → ltb (firstBad Σ es) (length es) ≡ c
+    answer : (a b c : Bool) → eqb s.opening o.number ≡ a → ltb s.number (states_in o.table) ≡ b → ltb (first_bad Σ es) (length es) ≡ c
         → run_from o s es
         ≡ cond a
-        (carried o.number (cond b (cond c (Ran.Refused (WrongEvent (firstBad Σ es))) (end_of m s.number es)) (Ran.Refused WrongState)))
+        (carried o.number (cond b (cond c (Ran.Refused (WrongEvent (first_bad Σ es))) (end_of m s.number es)) (Ran.Refused WrongState)))
         (Arrived.Refused (WrongOpening 0))
     answer a b c p x y = rw (form, p, x, y)
 
     -- by the cases of the three tests
     by_tests : {A : Type 0}
-        → ((a b c : Bool) → eqb s.opening o.number ≡ a → ltb s.number (statesIn o.table) ≡ b → ltb (firstBad Σ es) (length es) ≡ c → A) → A
-    by_tests f = f (eqb s.opening o.number) (ltb s.number (statesIn o.table)) (ltb (firstBad Σ es) (length es)) refl refl refl
+        → ((a b c : Bool) → eqb s.opening o.number ≡ a → ltb s.number (states_in o.table) ≡ b → ltb (first_bad Σ es) (length es) ≡ c → A) → A
+    by_tests f = f (eqb s.opening o.number) (ltb s.number (states_in o.table)) (ltb (first_bad Σ es) (length es)) refl refl refl
 
     -- ---- not refused
 
@@ -75,7 +75,7 @@ module _ (o : Opening) (form : isTable o.table ≡ true) where
     pub ends : (r : State) (v : Verdict) (d : Decided) → run_from o s es ≡ Arrived.At r v d → Ends r v
     ends r v d q = by_tests go
       where
-        go : (a b c : Bool) → eqb s.opening o.number ≡ a → ltb s.number (statesIn o.table) ≡ b → ltb (firstBad Σ es) (length es) ≡ c → Ends r v
+        go : (a b c : Bool) → eqb s.opening o.number ≡ a → ltb s.number (states_in o.table) ≡ b → ltb (first_bad Σ es) (length es) ≡ c → Ends r v
         go false b c p x y = let e = sym (answer false b c p x y) ∙ q in let z : ◌≡◌ {A = ℕ} 0 1 = cc in absurd (omega arith)
         go true false c p x y = let e = sym (answer true false c p x y) ∙ q in let z : ◌≡◌ {A = ℕ} 0 1 = cc in absurd (omega arith)
         go true true true p x y = let e = sym (answer true true true p x y) ∙ q in let z : ◌≡◌ {A = ℕ} 0 1 = cc in absurd (omega arith)
@@ -85,7 +85,7 @@ module _ (o : Opening) (form : isTable o.table ≡ true) where
             let shown : m.verdict (follow m s.number es) ≡ v = cc in
             record {
               own = eqb-true s.opening o.number p;
-              word = word_of Σ es (all-events Σ es (ltb-false (firstBad Σ es) (length es) y));
+              word = word_of Σ es (all-events Σ es (ltb-false (first_bad Σ es) (length es) y));
               state = sym state;
               shown = sym shown;
             }
@@ -99,19 +99,19 @@ module _ (o : Opening) (form : isTable o.table ≡ true) where
       pub foreign-not : ¬ (run_from o s es ≡ Arrived.Refused (WrongOpening 0))
       foreign-not q = by_tests go
         where
-          go : (a b c : Bool) → eqb s.opening o.number ≡ a → ltb s.number (statesIn o.table) ≡ b → ltb (firstBad Σ es) (length es) ≡ c → ⊥
+          go : (a b c : Bool) → eqb s.opening o.number ≡ a → ltb s.number (states_in o.table) ≡ b → ltb (first_bad Σ es) (length es) ≡ c → ⊥
           go a false c p x y = let e = sym (answer true false c (eq-eqb s.opening o.number own) x y) ∙ q in let z : ◌≡◌ {A = ℕ} 13 24 = ap (λ (r : Arrived). number_of r) e in omega arith
           go a true true p x y = let e = sym (answer true true true (eq-eqb s.opening o.number own) x y) ∙ q in let z : ◌≡◌ {A = ℕ} 12 24 = ap (λ (r : Arrived). number_of r) e in omega arith
           go a true false p x y = let e = sym (answer true true false (eq-eqb s.opening o.number own) x y) ∙ q in let z : ◌≡◌ {A = ℕ} 0 24 = ap (λ (r : Arrived). number_of r) e in omega arith
 
-      module _ (in_table : s.number < statesIn o.table) where
+      module _ (in_table : s.number < states_in o.table) where
         pub own-refused : (x : Refusal) → run_from o s es ≡ Arrived.Refused x → (code_of x).0 ≡ 12
         own-refused x q = by_tests go
           where
-            go : (a b c : Bool) → eqb s.opening o.number ≡ a → ltb s.number (statesIn o.table) ≡ b → ltb (firstBad Σ es) (length es) ≡ c → (code_of x).0 ≡ 12
-            go a b true p k y = sym (ap (λ (r : Arrived). number_of r) (sym (answer true true true (eq-eqb s.opening o.number own) (lt-ltb s.number (statesIn o.table) in_table) y) ∙ q))
+            go : (a b c : Bool) → eqb s.opening o.number ≡ a → ltb s.number (states_in o.table) ≡ b → ltb (first_bad Σ es) (length es) ≡ c → (code_of x).0 ≡ 12
+            go a b true p k y = sym (ap (λ (r : Arrived). number_of r) (sym (answer true true true (eq-eqb s.opening o.number own) (lt-ltb s.number (states_in o.table) in_table) y) ∙ q))
             go a b false p k y =
-                let e = sym (answer true true false (eq-eqb s.opening o.number own) (lt-ltb s.number (statesIn o.table) in_table) y) ∙ q in
+                let e = sym (answer true true false (eq-eqb s.opening o.number own) (lt-ltb s.number (states_in o.table) in_table) y) ∙ q in
                 let z : ◌≡◌ {A = ℕ} 0 1 = cc in absurd (omega arith)
 
         pub own-taken : Word Σ es → (x : Refusal) → ¬ (run_from o s es ≡ Arrived.Refused x)

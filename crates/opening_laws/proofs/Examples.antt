@@ -6,8 +6,8 @@ use mathlib.Core.Bool.{Bool, true, false, true≢false}
 use Prim.Native.Nat.{ℕ}
 use native.Mathlib.Omega.{arith}
 use Rattle.meaning.specs.Traces.{Word}
-use Rattle.meaning.specs.Runs.{decidedFrom, onTable}
-use Rattle.meaning.specs.TableFiles.{isTable}
+use Rattle.meaning.specs.Runs.{decided_from, on_table}
+use Rattle.meaning.specs.TableFiles.{is_table}
 use Rattle.meaning.specs.Openings.{opening, state_of, start_of, run_from}
 use Rattle.meaning.specs.declared.Refusal.{Refusal}
 use Rattle.meaning.specs.declared.Refusal.TheVariants.{WrongOpening}
@@ -16,11 +16,11 @@ use Rattle.meaning.specs.declared.Decided.TheVariants.{After}
 use Rattle.meaning.specs.declared.Arrived.TheVariants as Arrived
 use Rattle.building.specs.Build.{BuiltRight}
 use Rattle.building.proofs.Right.{our-demands}
-use Rattle.known_rules.specs.Files.{tableFile}
-use Rattle.known_rules.specs.Rules.{KnownRule, P4, P5, knownRules}
+use Rattle.known_rules.specs.Files.{table_file}
+use Rattle.known_rules.specs.Rules.{KnownRule, P4, P5, known_rules}
 use Rattle.known_rules.specs.Lines.{bytes}
 use Rattle.known_rules.proofs.Known.{known}
-use Rattle.opening_laws.specs.Laws.{Family, alphabetAt, Held, start, run}
+use Rattle.opening_laws.specs.Laws.{Family, alphabet_at, Held, start, run}
 use Rattle.opening_laws.proofs.States.{state-right}
 
 -- the first opening is that of P4, "always p"; the other that of P5, "eventually p"
@@ -33,7 +33,7 @@ number true = 1
 number false = 2
 
 -- both are in the table of known rules
-listed : (i : Bool) → Memᴰ (rule i) knownRules
+listed : (i : Bool) → Memᴰ (rule i) known_rules
 listed true = Memᴰ.tail (Memᴰ.tail (Memᴰ.tail (Memᴰ.head refl)))
 listed false = Memᴰ.tail (Memᴰ.tail (Memᴰ.tail (Memᴰ.tail (Memᴰ.head refl))))
 
@@ -44,8 +44,8 @@ built i =
       rule = l.rule;
       reads = l.reads;
       built = l.built;
-      demand-2 = our-demands.demand-2 (rule i).file l.rule l.reads;
-      demand-3 = l.demand-3;
+      demand_2 = our-demands.demand_2 (rule i).file l.rule l.reads;
+      demand_3 = l.demand_3;
     }
 
 pub apart : (i j : Bool) → number i ≡ number j → i ≡ j
@@ -68,13 +68,13 @@ pub start-foreign : (i j : Bool) (es : List ℕ) → ¬ (i ≡ j)
 start-foreign i j es = ((state-right two i (start_of (two.opening i)) [] (start i)).foreign j es).1
 
 -- and taken by its own
-pub start-own : (i : Bool) (es : List ℕ) → Word (alphabetAt two i) es → (x : Refusal)
+pub start-own : (i : Bool) (es : List ℕ) → Word (alphabet_at two i) es → (x : Refusal)
     → ¬ (run_from (two.opening i) (start_of (two.opening i)) es ≡ Arrived.Refused x)
 start-own i es = (state-right two i (start_of (two.opening i)) [] (start i)).taken es
 
 -- "always p" arrives at its state 1 by the event 0, violated
 arrived : run_from (two.opening true) (start_of (two.opening true)) (0 ∷ []) ≡ Arrived.At (state_of 1 1) Violated (After 1)
-unfolding two isTable decidedFrom onTable tableFile
+unfolding two is_table decided_from on_table table_file
 arrived = refl
 
 pub held : Held two true (state_of 1 1) (0 ∷ [])

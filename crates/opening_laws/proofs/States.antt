@@ -7,18 +7,18 @@ use Prim.Native.Nat.{ℕ, ◌<◌}
 use Rattle.meaning.specs.Traces.{Word}
 use Rattle.meaning.specs.Verdicts.{Judged}
 use Rattle.meaning.specs.Monitors.{follow}
-use Rattle.meaning.specs.TableFiles.{isTable, statesIn}
+use Rattle.meaning.specs.TableFiles.{is_table, states_in}
 use Rattle.meaning.specs.declared.Verdict.{Verdict}
 use Rattle.meaning.specs.declared.State.{State}
 use Rattle.table_layout.proofs.Form.{states-some, table-header}
 use Rattle.moore.proofs.Words.{word-append, follow-append}
 use Rattle.building.proofs.Running.{word_same}
-use Rattle.opening_laws.specs.Laws.{Family, Held, start, run, alphabetAt, propertyAt, StateRight}
+use Rattle.opening_laws.specs.Laws.{Family, Held, start, run, alphabet_at, property_at, StateRight}
 use Rattle.opening_laws.proofs.Answers.{Σ, m, inside, Ends, ends, foreign-if, foreign-not, own-taken, own-refused}
 
 module _ {I : Type 0} (F : Family I) where
-  pub form-at : (i : I) → isTable (F.opening i).table ≡ true
-  form-at i = (F.built i).demand-3.form
+  pub form-at : (i : I) → is_table (F.opening i).table ≡ true
+  form-at i = (F.built i).demand_3.form
 
   -- s is the state to which the events w lead from the start of opening i
   pub record Stands (i : I) (s : State) (w : List ℕ) : Type 0 where
@@ -48,25 +48,25 @@ module _ {I : Type 0} (F : Family I) where
 
   -- ---- the verdict
 
-  to-rule : (i : I) (w : List ℕ) → Word (Σ (F.opening i) (form-at i)) w → Word (alphabetAt F i) w
-  to-rule i w a = word_same (Σ (F.opening i) (form-at i)) (alphabetAt F i) (λ e. sym ((F.built i).demand-3.events e)) w a
+  to-rule : (i : I) (w : List ℕ) → Word (Σ (F.opening i) (form-at i)) w → Word (alphabet_at F i) w
+  to-rule i w a = word_same (Σ (F.opening i) (form-at i)) (alphabet_at F i) (λ e. sym ((F.built i).demand_3.events e)) w a
 
-  judged : (i : I) (s : State) (w : List ℕ) → Stands i s w → Judged (alphabetAt F i) (propertyAt F i) w ((m (F.opening i) (form-at i)).verdict s.number)
+  judged : (i : I) (s : State) (w : List ℕ) → Stands i s w → Judged (alphabet_at F i) (property_at F i) w ((m (F.opening i) (form-at i)).verdict s.number)
   judged i s w p =
-      ((F.built i).demand-2.verdicts (F.opening i).table (F.built i).built w (to-rule i w p.word) ((m (F.opening i) (form-at i)).verdict s.number)).0
+      ((F.built i).demand_2.verdicts (F.opening i).table (F.built i).built w (to-rule i w p.word) ((m (F.opening i) (form-at i)).verdict s.number)).0
       (ap (m (F.opening i) (form-at i)).verdict (sym p.state))
 
   -- ---- the theorem
 
   module _ (i : I) (s : State) (w : List ℕ) (h : Held F i s w) where
-    in-table : s.number < statesIn (F.opening i).table
+    in-table : s.number < states_in (F.opening i).table
     in-table =
-        subst (λ (k : ℕ). k < statesIn (F.opening i).table) (sym (stands h).state)
+        subst (λ (k : ℕ). k < states_in (F.opening i).table) (sym (stands h).state)
         (inside (F.opening i) (form-at i) 0 w (states-some (F.opening i).table (table-header (F.opening i).table (form-at i))) (stands h).word)
 
-    verdict-at : (j : I) (es : List ℕ) (r : State) (v : Verdict) → Ends (F.opening j) (form-at j) s es r v → Judged (alphabetAt F j) (propertyAt F j) (w ++ es) v
+    verdict-at : (j : I) (es : List ℕ) (r : State) (v : Verdict) → Ends (F.opening j) (form-at j) s es r v → Judged (alphabet_at F j) (property_at F j) (w ++ es) v
     verdict-at j es r v e =
-        subst (Judged (alphabetAt F j) (propertyAt F j) (w ++ es)) (sym (e.shown ∙ ap (λ (q : State). (m (F.opening j) (form-at j)).verdict q.number) (sym e.state)))
+        subst (Judged (alphabet_at F j) (property_at F j) (w ++ es)) (sym (e.shown ∙ ap (λ (q : State). (m (F.opening j) (form-at j)).verdict q.number) (sym e.state)))
         (judged j r (w ++ es) (went j s w es (same-opening i j s w es (stands h) r v e) r v e))
 
     pub state-right : StateRight F i s w
@@ -77,6 +77,6 @@ module _ {I : Type 0} (F : Family I) where
       );
       verdict = λ j es r v d q. verdict-at j es r v (ends (F.opening j) (form-at j) s es r v d q);
       taken = λ es a x. own-taken (F.opening i) (form-at i) s es (stands h).own in-table
-          (word_same (alphabetAt F i) (Σ (F.opening i) (form-at i)) (F.built i).demand-3.events es a) x;
+          (word_same (alphabet_at F i) (Σ (F.opening i) (form-at i)) (F.built i).demand_3.events es a) x;
       refused = λ es x. own-refused (F.opening i) (form-at i) s es (stands h).own in-table x;
     }

@@ -4,7 +4,7 @@ use Rattle.std.specs.Prelude.{◌≡◌, ◌↔◌, List, [], ◌∷◌, ◌++�
 use Rattle.meaning.specs.Traces.{Alphabet, Word}
 use Rattle.meaning.specs.Verdicts.{Property, Judged}
 use Rattle.meaning.specs.Refusals.{code_of}
-use Rattle.meaning.specs.RuleFiles.{alphabetOf, propertyOf}
+use Rattle.meaning.specs.RuleFiles.{alphabet_of, property_of}
 use Rattle.meaning.specs.Openings.{Opening, start_of, run_from}
 use Rattle.meaning.specs.Histories.{Action, Turn, Standing, begun, asked, onward, hears}
 use Rattle.meaning.specs.declared.Refusal.{Refusal}
@@ -25,11 +25,11 @@ pub record Family (I : Type 0) : Type 0 where
   pub distinct : (i j : I) → (opening i).number ≡ (opening j).number → i ≡ j
 
 -- the events that can happen, and the property, of an opening's rule
-abbrev pub alphabetAt : {I : Type 0} → Family I → I → Alphabet
-alphabetAt F i = alphabetOf (F.built i).rule
+abbrev pub alphabet_at : {I : Type 0} → Family I → I → Alphabet
+alphabet_at F i = alphabet_of (F.built i).rule
 
-abbrev pub propertyAt : {I : Type 0} → Family I → I → Property
-propertyAt F i = propertyOf (F.built i).rule
+abbrev pub property_at : {I : Type 0} → Family I → I → Property
+property_at F i = property_of (F.built i).rule
 
 -- ---- states
 
@@ -46,9 +46,9 @@ pub record StateRight {I : Type 0} (F : Family I) (i : I) (s : State) (w : List 
   pub foreign : (j : I) (es : List ℕ) → (run_from (F.opening j) s es ≡ Arrived.Refused (WrongOpening 0)) ↔ (¬ (i ≡ j))
   -- "without a refusal it returns demand 2's verdict for all events since that start"
   pub verdict : (j : I) (es : List ℕ) (r : State) (v : Verdict) (d : Decided) → run_from (F.opening j) s es ≡ Arrived.At r v d
-      → Judged (alphabetAt F j) (propertyAt F j) (w ++ es) v
+      → Judged (alphabet_at F j) (property_at F j) (w ++ es) v
   -- with the state's own opening a run over events that can happen is not refused, and any other by 12
-  pub taken : (es : List ℕ) → Word (alphabetAt F i) es → (x : Refusal) → ¬ (run_from (F.opening i) s es ≡ Arrived.Refused x)
+  pub taken : (es : List ℕ) → Word (alphabet_at F i) es → (x : Refusal) → ¬ (run_from (F.opening i) s es ≡ Arrived.Refused x)
   pub refused : (es : List ℕ) (x : Refusal) → run_from (F.opening i) s es ≡ Arrived.Refused x → (code_of x).0 ≡ 12
 
 -- ---- a desk: what is asked of it, and with which opening
@@ -60,19 +60,19 @@ module _ {I : Type 0} (F : Family I) where
   served c (x ∷ rest) = served (onward (F.opening x.0) c x.1) rest
 
   -- the events of tunnel k that were heard
-  abbrev pub heardBy : Standing → ℕ → List (I × Action) → List ℕ
-  heardBy c k [] = []
-  heardBy c k (x ∷ rest) = hears k (asked (F.opening x.0) c x.1).answer ++ heardBy (onward (F.opening x.0) c x.1) k rest
+  abbrev pub heard_by : Standing → ℕ → List (I × Action) → List ℕ
+  heard_by c k [] = []
+  heard_by c k (x ∷ rest) = hears k (asked (F.opening x.0) c x.1).answer ++ heard_by (onward (F.opening x.0) c x.1) k rest
 
   -- a desk of n watches made fresh with opening i, whose first turn takes l, after the actions h
-  abbrev pub deskAfter : I → ℕ → ℕ → List (I × Action) → Standing
-  deskAfter i n l h = served (begun (F.opening i) n l) h
+  abbrev pub desk_after : I → ℕ → ℕ → List (I × Action) → Standing
+  desk_after i n l h = served (begun (F.opening i) n l) h
 
   pub record DeskRight (i : I) (n l : ℕ) (h : List (I × Action)) : Type 0 where
     -- a post or turn is refused by 24, at the first watch, exactly if it comes with another opening than the one that made the desk fresh
-    pub foreign : (j : I) (a : Action) → ((asked (F.opening j) (deskAfter i n l h) a).answer ≡ Served.Refused (WrongOpening 0)) ↔ (¬ (i ≡ j))
+    pub foreign : (j : I) (a : Action) → ((asked (F.opening j) (desk_after i n l h) a).answer ≡ Served.Refused (WrongOpening 0)) ↔ (¬ (i ≡ j))
     -- and then changes nothing
-    pub kept : (j : I) (a : Action) → ¬ (i ≡ j) → onward (F.opening j) (deskAfter i n l h) a ≡ deskAfter i n l h
+    pub kept : (j : I) (a : Action) → ¬ (i ≡ j) → onward (F.opening j) (desk_after i n l h) a ≡ desk_after i n l h
     -- a turn that hears an event of tunnel k returns demand 2's verdict for all events of that tunnel heard since the desk was fresh
-    pub verdict : (j : I) (k e : ℕ) (s : State) (v : Verdict) → (asked (F.opening j) (deskAfter i n l h) Turn).answer ≡ Served.Heard k e s v
-        → Judged (alphabetAt F j) (propertyAt F j) (heardBy (begun (F.opening i) n l) k h ++ (e ∷ [])) v
+    pub verdict : (j : I) (k e : ℕ) (s : State) (v : Verdict) → (asked (F.opening j) (desk_after i n l h) Turn).answer ≡ Served.Heard k e s v
+        → Judged (alphabet_at F j) (property_at F j) (heard_by (begun (F.opening i) n l) k h ++ (e ∷ [])) v

@@ -7,9 +7,9 @@ use mathlib.Core.List.{List}
 use mathlib.Core.Bool.{Bool, true, false, cond}
 use Prim.Native.Nat.{ℕ}
 use native.Mathlib.Omega.{arith}
-use Rattle.meaning.specs.TableFiles.{isTable, signalsIn, statesIn, checkedOf}
-use Rattle.meaning.specs.Runs.{run_of, countsFit}
-use Rattle.meaning.specs.Openings.{opening, ownRun, run_from, runFromIn}
+use Rattle.meaning.specs.TableFiles.{is_table, signals_in, states_in, checked_of}
+use Rattle.meaning.specs.Runs.{run_of, counts_fit}
+use Rattle.meaning.specs.Openings.{opening, own_run, run_from, run_from_in}
 use Rattle.meaning.specs.declared.Refusal.{Refusal}
 use Rattle.meaning.specs.declared.Refusal.TheVariants.{WrongTable}
 use Rattle.meaning.specs.declared.Checked.TheVariants as Checked
@@ -23,21 +23,21 @@ use Rattle.table_run.proofs.Answers.{found, run-table}
 module _ (n : ℕ) (t : List ℕ) (s : State) (es : List ℕ) where
   -- an answer that stands where the test holds, by what the run of the table is
   abbrev answer : Bool → Ran → Arrived
-  answer b r = cond b (ownRun n s r) (Arrived.Refused WrongTable)
+  answer b r = cond b (own_run n s r) (Arrived.Refused WrongTable)
 
-  pub run-from-table : (P S : ℕ) → checkedOf t ≡ Checked.Table P S → runFromIn n t P S s es ≡ run_from (opening t n) s es
+  pub run-from-table : (P S : ℕ) → checked_of t ≡ Checked.Table P S → run_from_in n t P S s es ≡ run_from (opening t n) s es
   run-from-table P S h =
       let f = found t P S h in
-      let fit : countsFit t P S ≡ true = rw (f.signals, f.states) (table-counts t f.table) in
-      ap (λ (r : Ran). answer (countsFit t P S) r) (run-table t s.number es P S h) ∙ ap (λ (b : Bool). answer b (run_of t s.number es)) (fit ∙ sym f.table)
+      let fit : counts_fit t P S ≡ true = rw (f.signals, f.states) (table-counts t f.table) in
+      ap (λ (r : Ran). answer (counts_fit t P S) r) (run-table t s.number es P S h) ∙ ap (λ (b : Bool). answer b (run_of t s.number es)) (fit ∙ sym f.table)
 
-  pub run-from-none : (P S : ℕ) → countsFit t P S ≡ false → runFromIn n t P S s es ≡ Arrived.Refused WrongTable
+  pub run-from-none : (P S : ℕ) → counts_fit t P S ≡ false → run_from_in n t P S s es ≡ Arrived.Refused WrongTable
   run-from-none P S h = rw h
 
-  pub run-from-refused : (x : Refusal) → checkedOf t ≡ Checked.Refused x → run_from (opening t n) s es ≡ Arrived.Refused WrongTable
-  run-from-refused x h = go (isTable t) refl h
+  pub run-from-refused : (x : Refusal) → checked_of t ≡ Checked.Refused x → run_from (opening t n) s es ≡ Arrived.Refused WrongTable
+  run-from-refused x h = go (is_table t) refl h
     where
-      go : (b : Bool) → isTable t ≡ b → cond b (Checked.Table (signalsIn t) (statesIn t)) (Checked.Refused WrongTable) ≡ Checked.Refused x
+      go : (b : Bool) → is_table t ≡ b → cond b (Checked.Table (signals_in t) (states_in t)) (Checked.Refused WrongTable) ≡ Checked.Refused x
           → run_from (opening t n) s es ≡ Arrived.Refused WrongTable
       go true p q = let z : ◌≡◌ {A = ℕ} 0 1 = cc in absurd (omega arith)
       go false p q = rw p

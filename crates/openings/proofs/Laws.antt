@@ -7,37 +7,37 @@ use native.Mathlib.Numerals.{add-one}
 use lib.ListN.{length, get_or, drop, drop_of_length-le}
 use lib.Seq.{drop-cons}
 use borrow.Author.Tests.{eq-eqb, ne_eqb}
-use Rattle.meaning.specs.Runs.{ranIn, countsFit}
-use Rattle.meaning.specs.Openings.{carried, runFromIn}
+use Rattle.meaning.specs.Runs.{ran_in, counts_fit}
+use Rattle.meaning.specs.Openings.{carried, run_from_in}
 use Rattle.meaning.specs.declared.Ran.{Ran}
 use Rattle.meaning.specs.declared.State.{State}
 use Rattle.meaning.specs.declared.Arrived.{Arrived}
-use Rattle.openings.specs.Steps.{foreignIn, stateAfter, steppedIn}
+use Rattle.openings.specs.Steps.{foreign_in, state_after, stepped_in}
 
 module _ (n : ℕ) (t : List ℕ) (P S : ℕ) (s : State) where
   -- a state of this opening: the run of the table, with the number carried along
-  pub own : (es : List ℕ) → s.opening ≡ n → (r : Ran) → r ≡ ranIn t P S s.number es → carried n r ≡ runFromIn n t P S s es
-  own es q r rr = ap (λ (x : Ran). carried n x) rr ∙ go (countsFit t P S) refl
+  pub own : (es : List ℕ) → s.opening ≡ n → (r : Ran) → r ≡ ran_in t P S s.number es → carried n r ≡ run_from_in n t P S s es
+  own es q r rr = ap (λ (x : Ran). carried n x) rr ∙ go (counts_fit t P S) refl
     where
-      go : (b : Bool) → countsFit t P S ≡ b → carried n (ranIn t P S s.number es) ≡ runFromIn n t P S s es
+      go : (b : Bool) → counts_fit t P S ≡ b → carried n (ran_in t P S s.number es) ≡ run_from_in n t P S s es
       go true e = rw (e, eq-eqb s.opening n q)
       go false e = rw e
 
   -- a state of another: 14 or 24
-  pub foreign : (es : List ℕ) → (s.opening ≡ n → ⊥) → foreignIn t P S ≡ runFromIn n t P S s es
+  pub foreign : (es : List ℕ) → (s.opening ≡ n → ⊥) → foreign_in t P S ≡ run_from_in n t P S s es
   foreign es q = rw (ne_eqb s.opening n q)
 
   -- a step passes from the events at i on to those at i + 1, and at the end nothing is left
   module _ (es : List ℕ) (i : ℕ) where
-    pub step-on : i < length es → (e : ℕ) → e ≡ get_or es i 0 → (r : Arrived) → r ≡ runFromIn n t P S s (e ∷ []) → (k : State) → k ≡ stateAfter r s
-        → steppedIn n t P S k (drop (i + 1) es) ≡ steppedIn n t P S s (drop i es)
-    unfolding steppedIn
+    pub step-on : i < length es → (e : ℕ) → e ≡ get_or es i 0 → (r : Arrived) → r ≡ run_from_in n t P S s (e ∷ []) → (k : State) → k ≡ state_after r s
+        → stepped_in n t P S k (drop (i + 1) es) ≡ stepped_in n t P S s (drop i es)
+    unfolding stepped_in
     step-on l e ee r re k ke =
         let at : drop i es ≡ get_or es i 0 ∷ drop (i + 1) es = drop-cons es i 0 l ∙ ap (λ (j : ℕ). get_or es i 0 ∷ drop j es) (sym (add-one i)) in
-        let to : k ≡ stateAfter (runFromIn n t P S s (get_or es i 0 ∷ [])) s =
-        ke ∙ ap (λ (x : Arrived). stateAfter x s) re ∙ ap (λ (x : ℕ). stateAfter (runFromIn n t P S s (x ∷ [])) s) ee in
-        ap (λ (x : State). steppedIn n t P S x (drop (i + 1) es)) to ∙ ap (λ (x : List ℕ). steppedIn n t P S s x) (sym at)
+        let to : k ≡ state_after (run_from_in n t P S s (get_or es i 0 ∷ [])) s =
+        ke ∙ ap (λ (x : Arrived). state_after x s) re ∙ ap (λ (x : ℕ). state_after (run_from_in n t P S s (x ∷ [])) s) ee in
+        ap (λ (x : State). stepped_in n t P S x (drop (i + 1) es)) to ∙ ap (λ (x : List ℕ). stepped_in n t P S s x) (sym at)
 
-    pub step_end : length es ≤ i → s ≡ steppedIn n t P S s (drop i es)
-    unfolding steppedIn
-    step_end l = ap (λ (x : List ℕ). steppedIn n t P S s x) (sym (drop_of_length-le es {i = i} l))
+    pub step_end : length es ≤ i → s ≡ stepped_in n t P S s (drop i es)
+    unfolding stepped_in
+    step_end l = ap (λ (x : List ℕ). stepped_in n t P S s x) (sym (drop_of_length-le es {i = i} l))

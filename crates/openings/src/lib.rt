@@ -1,7 +1,7 @@
 // Runs and steps of an opening: over its number, and bytes and counts in hand, whatever they are. A state of another opening is refused.
 ghost use Rattle.std.specs.Prelude.{◌≡◌, [], ◌∷◌};
-ghost use Rattle.meaning.specs.Openings.{state_of, carried, runFromIn};
-ghost use Rattle.openings.specs.Steps.{foreignIn, stateAfter, steppedIn};
+ghost use Rattle.meaning.specs.Openings.{state_of, carried, run_from_in};
+ghost use Rattle.openings.specs.Steps.{foreign_in, state_after, stepped_in};
 
 use meaning::{Arrived, Ran, Refusal, State};
 use table_layout::counts_fit;
@@ -37,7 +37,7 @@ fn carry(opening: u16, ran: Ran) -> Arrived
 
 // A state of another opening: 14 for counts that no table of so many bytes has, and otherwise 24.
 fn refuse_foreign(t: &[u8], signals: u8, states: u16) -> Arrived
-    ensures { result ≡ foreignIn t.now signals states }
+    ensures { result ≡ foreign_in t.now signals states }
 {
     if counts_fit(t, signals, states) {
         return Arrived::Refused(Refusal::WrongOpening(0));
@@ -54,7 +54,7 @@ pub fn run_from(
     state: State,
     events: &[u8],
 ) -> Arrived
-    ensures { result ≡ runFromIn opening t.now signals states state events.now }
+    ensures { result ≡ run_from_in opening t.now signals states state events.now }
 {
     let of = state.opening;
     if of == opening {
@@ -72,7 +72,7 @@ pub fn step_from(
     state: State,
     event: u8,
 ) -> Arrived
-    ensures { result ≡ runFromIn opening t.now signals states state (event ∷ []) }
+    ensures { result ≡ run_from_in opening t.now signals states state (event ∷ []) }
 {
     let from = state.opening;
     if from == opening {
@@ -83,7 +83,7 @@ pub fn step_from(
 
 // The state after an answer: where it arrived, or the state before it where it was refused.
 fn state_after(arrived: Arrived, state: State) -> State
-    ensures { result ≡ stateAfter arrived state }
+    ensures { result ≡ state_after arrived state }
 {
     match arrived {
         Arrived::At {
@@ -104,7 +104,7 @@ pub fn step_all_from(
     state: State,
     events: &[u8],
 ) -> State
-    ensures { result ≡ steppedIn opening t.now signals states state events.now }
+    ensures { result ≡ stepped_in opening t.now signals states state events.now }
 {
     let mut s = state;
     let mut i: usize = 0;

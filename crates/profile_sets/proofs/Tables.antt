@@ -11,12 +11,12 @@ use lib.Seq.{get_or-set_same, get_or-set_other}
 use lib.Dec.{leb}
 use lib.Pow.{pow_pos, pow_mono}
 use borrow.Author.Tests.{lt-leb, le-leb}
-use Rattle.ltl.specs.Sets.{on, setBelow}
-use Rattle.ltl.specs.Residuals.{preimage, ruleTrue, startFrom, stepFrom}
-use Rattle.ltl.specs.Keys.{Tables, look, startKey, stepKey}
+use Rattle.ltl.specs.Sets.{on, set_below}
+use Rattle.ltl.specs.Residuals.{preimage, rule_true, start_from, step_from}
+use Rattle.ltl.specs.Keys.{Tables, look, start_key, step_key}
 use Rattle.ltl.proofs.Sets.{on_out, on-set, same-members, set-lt, set_same}
 use Rattle.ltl.specs.Arrays.{TablesIn}
-use Rattle.profile_sets.specs.Arrays.{setIn, Marked, tablesBy, tablesIn, Tabled, Labels, Steppable}
+use Rattle.profile_sets.specs.Arrays.{set_in, Marked, tables_by, tables_in, Tabled, Labels, Steppable}
 use Rattle.profile_sets.proofs.Words.{set_past}
 
 -- ---- a set that an array holds, profile by profile
@@ -37,27 +37,27 @@ marked-to m h l = record { long = h.long; at = λ q k. h.at q (omega arith) }
 pub marked_all : {p : ℕ} {f : ℕ → Bool} {bits : List Bool} → Marked p f bits → 256 ≤ p → Marked 256 f bits
 marked_all h l = record { long = h.long; at = λ q m. h.at q (omega arith) }
 
-set-marked : (n : ℕ) (f : ℕ → Bool) (bits : List Bool) → Marked 256 f bits → n ≤ 256 → ((p : ℕ) → n ≤ p → p < 256 → f p ≡ false) → setIn bits ≡ setBelow n f
-unfolding setIn
+set-marked : (n : ℕ) (f : ℕ → Bool) (bits : List Bool) → Marked 256 f bits → n ≤ 256 → ((p : ℕ) → n ≤ p → p < 256 → f p ≡ false) → set_in bits ≡ set_below n f
+unfolding set_in
 set-marked n f bits m l h = set_same 256 (λ p. get_or bits p false) f m.at ∙ set_past n 256 f l h
 
-pub on-set-in : (whole : List Bool) (p : ℕ) → p < 256 → on (setIn whole) p ≡ get_or whole p false
-unfolding setIn
+pub on-set-in : (whole : List Bool) (p : ℕ) → p < 256 → on (set_in whole) p ≡ get_or whole p false
+unfolding set_in
 on-set-in whole p l = on-set 256 (λ p. get_or whole p false) p l
 
 -- ---- before any event
 
-pub starts-below : (n : ℕ) (whole : List Bool) (p : ℕ) → p < n → false ≡ ruleTrue n (setIn whole) p
-starts-below n whole p l = sym (ap (λ (b : Bool). elim b [ true ↦ on (setIn whole) p | false ↦ false ]) (lt-leb n p l))
+pub starts-below : (n : ℕ) (whole : List Bool) (p : ℕ) → p < n → false ≡ rule_true n (set_in whole) p
+starts-below n whole p l = sym (ap (λ (b : Bool). elim b [ true ↦ on (set_in whole) p | false ↦ false ]) (lt-leb n p l))
 
-pub starts_from : (n : ℕ) (whole : List Bool) (p : ℕ) → p < 256 → n ≤ p → get_or whole p false ≡ ruleTrue n (setIn whole) p
-starts_from n whole p m l = sym (ap (λ (b : Bool). elim b [ true ↦ on (setIn whole) p | false ↦ false ]) (le-leb n p l) ∙ on-set-in whole p m)
+pub starts_from : (n : ℕ) (whole : List Bool) (p : ℕ) → p < 256 → n ≤ p → get_or whole p false ≡ rule_true n (set_in whole) p
+starts_from n whole p m l = sym (ap (λ (b : Bool). elim b [ true ↦ on (set_in whole) p | false ↦ false ]) (le-leb n p l) ∙ on-set-in whole p m)
 
 module _ {w n : ℕ} {profiles : List (List ℕ)} {whole : List Bool} (h : Tabled w n profiles whole) where
-  pub start_is : (bits : List Bool) → Marked 256 (ruleTrue n (setIn whole)) bits → setIn bits ≡ startKey (tablesIn n profiles whole)
-  start_is bits k = set-marked (n + n) (ruleTrue n (setIn whole)) bits k (omega (arith, h.few)) (λ p l m. out p (leb n p) (h.past p l))
+  pub start_is : (bits : List Bool) → Marked 256 (rule_true n (set_in whole)) bits → set_in bits ≡ start_key (tables_in n profiles whole)
+  start_is bits k = set-marked (n + n) (rule_true n (set_in whole)) bits k (omega (arith, h.few)) (λ p l m. out p (leb n p) (h.past p l))
     where
-      out : (p : ℕ) (b : Bool) → on (setIn whole) p ≡ false → elim b [ true ↦ on (setIn whole) p | false ↦ false ] ≡ false
+      out : (p : ℕ) (b : Bool) → on (set_in whole) p ≡ false → elim b [ true ↦ on (set_in whole) p | false ↦ false ] ≡ false
       out p true e = e
       out p false e = refl
 
@@ -88,10 +88,10 @@ module _ {w n : ℕ} {profiles : List (List ℕ)} {W : ℕ} (h : Steppable w n p
   profile-small e p l = h.small e (p % n) l (mod-lt p (labels-some h.labels))
 
   -- the step looks at no more of a set than its array of bools has
-  pub step-held : (A e : ℕ) {held : List Bool} → Marked (n + n) (on A) held → e < w → stepKey (tablesBy n profiles W) (setIn held) e ≡ stepKey (tablesBy n profiles W) A e
-  step-held A e {held} marked l = set_same (n + n) (preimage n (look profiles) W (setIn held) e) (preimage n (look profiles) W A e) each
+  pub step-held : (A e : ℕ) {held : List Bool} → Marked (n + n) (on A) held → e < w → step_key (tables_by n profiles W) (set_in held) e ≡ step_key (tables_by n profiles W) A e
+  step-held A e {held} marked l = set_same (n + n) (preimage n (look profiles) W (set_in held) e) (preimage n (look profiles) W A e) each
     where
-      each : (p : ℕ) → p < n + n → preimage n (look profiles) W (setIn held) e p ≡ preimage n (look profiles) W A e p
+      each : (p : ℕ) → p < n + n → preimage n (look profiles) W (set_in held) e p ≡ preimage n (look profiles) W A e p
       each p m =
           let q : ℕ = look profiles e (p % n) in
           let s : q < n + n = profile-small e p l in
@@ -100,16 +100,16 @@ module _ {w n : ℕ} {profiles : List (List ℕ)} {W : ℕ} (h : Steppable w n p
 -- ---- tables that the arrays hold
 
 module _ {w n : ℕ} {t : Tables} {profiles : List (List ℕ)} {whole : List Bool} (h : TablesIn w n t profiles whole) where
-  pub whole_is : setIn whole ≡ t.whole
-  unfolding setIn
-  whole_is = same-members (setIn whole) t.whole (λ p. go p (dec_lt p 256))
+  pub whole_is : set_in whole ≡ t.whole
+  unfolding set_in
+  whole_is = same-members (set_in whole) t.whole (λ p. go p (dec_lt p 256))
     where
-      go : (p : ℕ) → Dec (p < 256) → on (setIn whole) p ≡ on t.whole p
+      go : (p : ℕ) → Dec (p < 256) → on (set_in whole) p ≡ on t.whole p
       go p (yes l) = on-set-in whole p l ∙ h.member p l
-      go p (no l) = on_out (setIn whole) 256 p (set-lt 256 (λ p. get_or whole p false)) (omega arith) ∙ sym (h.past p (omega (arith, h.few)))
+      go p (no l) = on_out (set_in whole) 256 p (set-lt 256 (λ p. get_or whole p false)) (omega arith) ∙ sym (h.past p (omega (arith, h.few)))
 
   pub tabled : Tabled w n profiles whole
-  unfolding setIn
+  unfolding set_in
   tabled = record {
     labels = refl;
     some = h.some;
@@ -120,15 +120,15 @@ module _ {w n : ℕ} {t : Tables} {profiles : List (List ℕ)} {whole : List Boo
     past = λ p l. ap (λ (A : ℕ). on A p) whole_is ∙ h.past p l;
   }
 
-  pub start-same : startKey (tablesIn n profiles whole) ≡ startKey t
-  start-same = ap₂ startFrom (sym h.labels) whole_is
+  pub start-same : start_key (tables_in n profiles whole) ≡ start_key t
+  start-same = ap₂ start_from (sym h.labels) whole_is
 
-  pub step_same : (A e : ℕ) → e < w → stepKey (tablesIn n profiles whole) A e ≡ stepKey t A e
+  pub step_same : (A e : ℕ) → e < w → step_key (tables_in n profiles whole) A e ≡ step_key t A e
   step_same A e l =
-      ap (λ (W : ℕ). stepFrom n (look profiles) W A e) whole_is
+      ap (λ (W : ℕ). step_from n (look profiles) W A e) whole_is
       ∙ set_same (n + n) (preimage n (look profiles) t.whole A e) (preimage n (look t.profiles) t.whole A e)
       (λ p m. ap (λ (q : ℕ). elim (on t.whole p) [ true ↦ on A q | false ↦ false ]) (h.profile e (p % n) l (mod-lt p h.some)))
-      ∙ ap (λ (k : ℕ). stepFrom k (look t.profiles) t.whole A e) (sym h.labels)
+      ∙ ap (λ (k : ℕ). step_from k (look t.profiles) t.whole A e) (sym h.labels)
 
-  pub steppable : Labels n → {W : ℕ} → W ≡ setIn whole → Steppable w n profiles W
+  pub steppable : Labels n → {W : ℕ} → W ≡ set_in whole → Steppable w n profiles W
   steppable k {W} e = record { labels = k; small = h.small; past = λ p l. ap (λ (A : ℕ). on A p) (e ∙ whole_is) ∙ h.past p l }

@@ -10,9 +10,9 @@ use lib.ListN.{get_or, replicate, get_or-replicate}
 use lib.Pow.{pow_mono}
 use lib.Dec.{eqb}
 use borrow.Author.Tests.{eq-eqb, ne_eqb}
-use Rattle.ltl.specs.Sets.{on, put, setBelow}
+use Rattle.ltl.specs.Sets.{on, put, set_below}
 use Rattle.ltl.proofs.Sets.{on-zero, on_out, on-set, same_set, same-members, set-lt, set_same}
-use Rattle.profile_sets.specs.Arrays.{setIn, word_in, key_of, WordsFit}
+use Rattle.profile_sets.specs.Arrays.{set_in, word_in, key_of, WordsFit}
 
 -- ---- sets by a test
 
@@ -25,37 +25,37 @@ first-digit : (b : Bool) → put 0 b 0 ≡ cond b 1 0 + 2 * 0
 first-digit true = refl
 first-digit false = refl
 
-pub set-lowest : (k : ℕ) (f : ℕ → Bool) → setBelow (suc k) f ≡ cond (f 0) 1 0 + 2 * setBelow k (λ i. f (suc i))
+pub set-lowest : (k : ℕ) (f : ℕ → Bool) → set_below (suc k) f ≡ cond (f 0) 1 0 + 2 * set_below k (λ i. f (suc i))
 set-lowest zero f = first-digit (f 0)
-set-lowest (suc k) f = ap (put (suc k) (f (suc k))) (set-lowest k f) ∙ put_lowest k (f (suc k)) (cond (f 0) 1 0) (setBelow k (λ i. f (suc i)))
+set-lowest (suc k) f = ap (put (suc k) (f (suc k))) (set-lowest k f) ∙ put_lowest k (f (suc k)) (cond (f 0) 1 0) (set_below k (λ i. f (suc i)))
 
 -- numbers that do not pass add nothing
-pub set_past : (n m : ℕ) (f : ℕ → Bool) → n ≤ m → ((i : ℕ) → n ≤ i → i < m → f i ≡ false) → setBelow m f ≡ setBelow n f
-set_past n m f l h = same-members (setBelow m f) (setBelow n f) (λ i. go i (dec_lt i n) (dec_lt i m))
+pub set_past : (n m : ℕ) (f : ℕ → Bool) → n ≤ m → ((i : ℕ) → n ≤ i → i < m → f i ≡ false) → set_below m f ≡ set_below n f
+set_past n m f l h = same-members (set_below m f) (set_below n f) (λ i. go i (dec_lt i n) (dec_lt i m))
   where
-    go : (i : ℕ) → Dec (i < n) → Dec (i < m) → on (setBelow m f) i ≡ on (setBelow n f) i
+    go : (i : ℕ) → Dec (i < n) → Dec (i < m) → on (set_below m f) i ≡ on (set_below n f) i
     go i (yes p) q = on-set m f i (omega arith) ∙ sym (on-set n f i p)
-    go i (no p) (yes q) = on-set m f i q ∙ h i (omega arith) q ∙ sym (on_out (setBelow n f) n i (set-lt n f) (omega arith))
-    go i (no p) (no q) = on_out (setBelow m f) m i (set-lt m f) (omega arith) ∙ sym (on_out (setBelow n f) n i (set-lt n f) (omega arith))
+    go i (no p) (yes q) = on-set m f i q ∙ h i (omega arith) q ∙ sym (on_out (set_below n f) n i (set-lt n f) (omega arith))
+    go i (no p) (no q) = on_out (set_below m f) m i (set-lt m f) (omega arith) ∙ sym (on_out (set_below n f) n i (set-lt n f) (omega arith))
 
 -- ---- a word, made from its highest bit down
 
 -- of `top` bits those from i on
 pub record Begun (top : ℕ) (f : ℕ → Bool) (i word : ℕ) : Type 0 where
-  pub is : word ≡ setBelow (top - i) (λ k. f (i + k))
+  pub is : word ≡ set_below (top - i) (λ k. f (i + k))
 
 pub begun-none : (top : ℕ) {f : ℕ → Bool} → Begun top f top 0
-begun-none top {f} = record { is = sym (ap (λ (n : ℕ). setBelow n (λ k. f (top + k))) (let e : top - top ≡ 0 = omega arith in e)) }
+begun-none top {f} = record { is = sym (ap (λ (n : ℕ). set_below n (λ k. f (top + k))) (let e : top - top ≡ 0 = omega arith in e)) }
 
 pub begun_more : {top : ℕ} {f : ℕ → Bool} {i word : ℕ} (d : ℕ) → Begun top f i word → 0 < i → i ≤ top → d ≡ cond (f (i - 1)) 1 0 → Begun top f (i - 1) (word * 2 + d)
 begun_more {top} {f} {i} {word} d h l m e =
     let j : ℕ = i - 1 in
     let n : ℕ = top - i in
-    let s : ℕ = setBelow n (λ k. f (j + suc k)) in
+    let s : ℕ = set_below n (λ k. f (j + suc k)) in
     let p : word ≡ s = h.is ∙ set_same n (λ k. f (i + k)) (λ k. f (j + suc k)) (λ k _. ap f (omega arith)) in
     let q : d ≡ cond (f (j + 0)) 1 0 = e ∙ ap (λ (k : ℕ). cond (f k) 1 0) (omega arith) in
     let r : suc n ≡ top - j = omega arith in
-    record { is = (omega arith) ∙ sym (set-lowest n (λ k. f (j + k))) ∙ ap (λ (a : ℕ). setBelow a (λ k. f (j + k))) r }
+    record { is = (omega arith) ∙ sym (set-lowest n (λ k. f (j + k))) ∙ ap (λ (a : ℕ). set_below a (λ k. f (j + k))) r }
 
 -- two at once, the higher one first
 pub begun-two : {top : ℕ} {f : ℕ → Bool} {i word : ℕ} (a b : ℕ) → Begun top f i word → 1 < i → i ≤ top → a ≡ cond (f (i - 1)) 1 0 → b ≡ cond (f (i - 2)) 1 0 → Begun top f (i - 2) (word * 4 + (a * 2 + b))
@@ -69,9 +69,9 @@ begun-two {top} {f} {i} {word} a b h l m p q =
 pub begun-small : (k : ℕ) {top : ℕ} {f : ℕ → Bool} {i word : ℕ} → Begun top f i word → k ≤ i → top ≤ 64 → word < 2 ^ (64 - k)
 begun-small k {top} {f} {i} h l t = let m : 2 ^ (top - i) ≤ 2 ^ (64 - k) = pow_mono {i = top - i} {j = 64 - k} (omega arith) in rw h.is (omega (arith, m, set-lt (top - i) (λ k. f (i + k))))
 
-pub begun_all : {top : ℕ} {f : ℕ → Bool} {i word : ℕ} → Begun top f i word → i ≡ 0 → word ≡ setBelow top f
+pub begun_all : {top : ℕ} {f : ℕ → Bool} {i word : ℕ} → Begun top f i word → i ≡ 0 → word ≡ set_below top f
 begun_all {top} {f} {i} h e =
-    h.is ∙ ap (λ (j : ℕ). setBelow (top - j) (λ k. f (j + k))) e ∙ ap (λ (n : ℕ). setBelow n (λ k. f (0 + k))) (let r : top - 0 ≡ top = omega arith in r) ∙ set_same top (λ k. f (0 + k)) f (λ k _. ap f (omega arith))
+    h.is ∙ ap (λ (j : ℕ). set_below (top - j) (λ k. f (j + k))) e ∙ ap (λ (n : ℕ). set_below n (λ k. f (0 + k))) (let r : top - 0 ≡ top = omega arith in r) ∙ set_same top (λ k. f (0 + k)) f (λ k _. ap f (omega arith))
 
 pub begun-word : (bits : List Bool) (j : ℕ) {i word : ℕ} → Begun 64 (λ k. get_or bits (64 * j + k) false) i word → i ≡ 0 → word ≡ word_in bits j
 unfolding word_in
@@ -94,8 +94,8 @@ module _ (words : List ℕ) (bits : List Bool) (each : (j : ℕ) → j < 4 → g
   unfolding word_in
   packed-small = record { small = λ j l. rw (each j l) (set-lt 64 (λ i. get_or bits (64 * j + i) false)) }
 
-  pub packed-key : key_of words ≡ setIn bits
-  unfolding key_of word_in setIn
+  pub packed-key : key_of words ≡ set_in bits
+  unfolding key_of word_in set_in
   packed-key =
       set_same 256 (λ q. on (get_or words (q / 64) 0) (q % 64)) (λ q. get_or bits q false)
       (λ q l. let r : 64 * (q / 64) + q % 64 ≡ q = omega arith in

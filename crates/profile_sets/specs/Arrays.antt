@@ -1,16 +1,16 @@
 -- How sets of profiles and the tables of the residual system stand in arrays.
 use Rattle.std.specs.Prelude.{◌≡◌, Bool, false, ◌&&◌, List, [], ◌∷◌, ℕ, ◌+◌, ◌*◌, ◌/◌, ◌%◌, ◌^◌, ◌≤◌, ◌<◌, length, get_or}
-use Rattle.ltl.specs.Sets.{on, setBelow}
+use Rattle.ltl.specs.Sets.{on, set_below}
 use Rattle.ltl.specs.Keys.{Tables, look}
 use Rattle.ltl.specs.Arrays.{TablesIn}
 
 -- the set of the profiles at which the array is true
-unfoldable pub setIn : List Bool → ℕ
-setIn bits = setBelow 256 (λ p. get_or bits p false)
+unfoldable pub set_in : List Bool → ℕ
+set_in bits = set_below 256 (λ p. get_or bits p false)
 
 -- 64 of them as a set of numbers below 64: the word number j
 unfoldable pub word_in : List Bool → ℕ → ℕ
-word_in bits j = setBelow 64 (λ i. get_or bits (64 * j + i) false)
+word_in bits j = set_below 64 (λ i. get_or bits (64 * j + i) false)
 
 -- of the profiles below p, the array is true at those that pass the test f
 pub record Marked (p : ℕ) (f : ℕ → Bool) (bits : List Bool) : Type 0 where
@@ -24,16 +24,16 @@ pub record SpreadFrom (n word from : ℕ) (old new : List Bool) : Type 0 where
   pub bits : (i : ℕ) → i < n → get_or new (from + i) false ≡ on word i
 
 -- the tables with n labels, these profiles and the set W of all profiles
-abbrev pub tablesBy : ℕ → List (List ℕ) → ℕ → Tables
-tablesBy n profiles W = record { labels = n; profiles = profiles; whole = W }
+abbrev pub tables_by : ℕ → List (List ℕ) → ℕ → Tables
+tables_by n profiles W = record { labels = n; profiles = profiles; whole = W }
 
 -- those that the arrays hold
-abbrev pub tablesIn : ℕ → List (List ℕ) → List Bool → Tables
-tablesIn n profiles whole = tablesBy n profiles (setIn whole)
+abbrev pub tables_in : ℕ → List (List ℕ) → List Bool → Tables
+tables_in n profiles whole = tables_by n profiles (set_in whole)
 
 -- the arrays are in order for n labels and the events below `width`
 abbrev pub Tabled : ℕ → ℕ → List (List ℕ) → List Bool → Type 0
-Tabled width n profiles whole = TablesIn width n (tablesIn n profiles whole) profiles whole
+Tabled width n profiles whole = TablesIn width n (tables_in n profiles whole) profiles whole
 
 -- how many labels there are: 2 to the number of temporal nodes, which are at most seven
 pub record Labels (n : ℕ) : Type 0 where
@@ -49,15 +49,15 @@ pub record Steppable (width n : ℕ) (profiles : List (List ℕ)) (W : ℕ) : Ty
 
 -- the set of at most 256 numbers in four words: q is in it if bit q % 64 of word q / 64 is 1
 unfoldable pub key_of : List ℕ → ℕ
-key_of words = setBelow 256 (λ q. on (get_or words (q / 64) 0) (q % 64))
+key_of words = set_below 256 (λ q. on (get_or words (q / 64) 0) (q % 64))
 
 -- each is a word of 64 bits
 pub record WordsFit (words : List ℕ) : Type 0 where
   pub small : (j : ℕ) → j < 4 → get_or words j 0 < 2 ^ 64
 
 -- of the labels from `from` on, `count` of them, those that the event e takes to a profile at which the array is true
-unfoldable pub hitsFrom : List (List ℕ) → List Bool → ℕ → ℕ → ℕ → ℕ
-hitsFrom profiles held e from count = setBelow count (λ i. get_or held (look profiles e (from + i)) false)
+unfoldable pub hits_from : List (List ℕ) → List Bool → ℕ → ℕ → ℕ → ℕ
+hits_from profiles held e from count = set_below count (λ i. get_or held (look profiles e (from + i)) false)
 
 -- the numbers of the set in the words `full` that are in the words a, b, a, b
 pub record Cut (a b : ℕ) (full words : List ℕ) : Type 0 where

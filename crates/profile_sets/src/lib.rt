@@ -1,9 +1,9 @@
 // Sets of profiles in four words, the keys of remaining properties: packing, comparing, and the step at an event.
 ghost use Rattle.std.specs.Prelude.{◌≡◌, false, cond, ◌+◌, ◌≤◌, ◌<◌, length, get_or, eqb};
 ghost use Rattle.ltl.specs.Sets.{on};
-ghost use Rattle.ltl.specs.Residuals.{ruleTrue};
-ghost use Rattle.ltl.specs.Keys.{look, stepKey};
-ghost use Rattle.profile_sets.specs.Arrays.{setIn, word_in, Marked, SpreadFrom, hitsFrom, Cut, tablesBy, Steppable, key_of, WordsFit};
+ghost use Rattle.ltl.specs.Residuals.{rule_true};
+ghost use Rattle.ltl.specs.Keys.{look, step_key};
+ghost use Rattle.profile_sets.specs.Arrays.{set_in, word_in, Marked, SpreadFrom, hits_from, Cut, tables_by, Steppable, key_of, WordsFit};
 
 use wire::wide;
 
@@ -27,7 +27,7 @@ fn word_of(bits: &[bool; 256], j: usize) -> u64
 }
 
 pub fn pack(bits: &[bool; 256]) -> [u64; 4]
-    ensures { WordsFit result × (key_of result ≡ setIn bits.now) }
+    ensures { WordsFit result × (key_of result ≡ set_in bits.now) }
 {
     [
         word_of(bits, 0),
@@ -56,7 +56,7 @@ pub fn same_key(a: [u64; 4], b: [u64; 4]) -> bool
 // Whether a profile is in the key before any event.
 fn starts(whole: &[bool; 256], n: usize, p: usize) -> bool
     requires { p < 256 }
-    ensures { result ≡ ruleTrue n (setIn whole.now) p }
+    ensures { result ≡ rule_true n (set_in whole.now) p }
 {
     if p < n {
         return false;
@@ -65,7 +65,7 @@ fn starts(whole: &[bool; 256], n: usize, p: usize) -> bool
 }
 
 pub fn start_profiles(whole: &[bool; 256], n: usize) -> [bool; 256]
-    ensures { Marked 256 (ruleTrue n (setIn whole.now)) result }
+    ensures { Marked 256 (rule_true n (set_in whole.now)) result }
 {
     let mut out = [false; 256];
     let mut p: usize = 0;
@@ -121,7 +121,7 @@ fn hit(profiles: &[[u8; 128]; 16], held: &[bool; 256], e: usize, label: usize) -
 // that the word waits for itself half as often.
 fn hits(profiles: &[[u8; 128]; 16], held: &[bool; 256], e: usize, from: usize, count: usize) -> u64
     requires { (e < 16) × (count ≤ 64) × (from + count ≤ 128) }
-    ensures { result ≡ hitsFrom profiles.now held.now e from count }
+    ensures { result ≡ hits_from profiles.now held.now e from count }
 {
     let mut word: u64 = 0;
     let mut i: usize = count;
@@ -155,7 +155,7 @@ pub fn step_key(
 ) -> [u64; 4]
     requires steppable { Steppable (e + 1) n profiles.now (key_of full.now) }
     requires e_bound { e < 16 }
-    ensures { WordsFit result × (key_of result ≡ stepKey (tablesBy n profiles.now (key_of full.now)) (setIn held.now) e) }
+    ensures { WordsFit result × (key_of result ≡ step_key (tables_by n profiles.now (key_of full.now)) (set_in held.now) e) }
 {
     if n <= 32 {
         let low = hits(profiles, held, e, 0, n);

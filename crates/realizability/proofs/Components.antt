@@ -13,14 +13,14 @@ use borrow.Author.Tests.{eq-eqb}
 use Rattle.sequences.proofs.Pointwise.{is_true}
 use Rattle.sequences.proofs.Pigeonhole.{Least, least-below}
 use Rattle.meaning.specs.Traces.{Alphabet}
-use Rattle.ltl.specs.Sets.{unionBelow, unionEvents}
+use Rattle.ltl.specs.Sets.{union_below, union_events}
 use Rattle.ltl.specs.Realizable.{all_of}
 use Rattle.ltl.specs.Keys.{look}
 use Rattle.ltl.proofs.Truth.{t-equal}
 use Rattle.ltl.proofs.Searches.{both, both-cases}
 use Rattle.valuation.specs.Entries.{Entries}
-use Rattle.relations.specs.Relations.{label_at, onlyIf, Reaches}
-use Rattle.realizability.specs.Core.{leadsBy, viaBy, coreBy, bothWays, componentBy, Within, withinComponent, AllGathered, coreIn}
+use Rattle.relations.specs.Relations.{label_at, only_if, Reaches}
+use Rattle.realizability.specs.Core.{leads_by, via_by, core_by, both_ways, component_by, Within, within_component, AllGathered, core_in}
 use Rattle.relations.proofs.Searches.{union-same, union-events-same}
 use Rattle.realizability.proofs.Core.{leads-there, leads-else}
 
@@ -35,12 +35,12 @@ pick a b v = elim a [ true ↦ elim b [ true ↦ v | false ↦ 0 ] | false ↦ 0
 abbrev and : Bool → Bool → Bool
 and a b = elim a [ true ↦ b | false ↦ false ]
 
-pick-and : (a b : Bool) (v : ℕ) → pick a b v ≡ onlyIf (and a b) v
+pick-and : (a b : Bool) (v : ℕ) → pick a b v ≡ only_if (and a b) v
 pick-and true b v = refl
 pick-and false b v = refl
 
 pick_same : (a b c d : Bool) (v : ℕ) → (T a → T b → T c × T d) → (T c → T d → T a × T b) → pick a b v ≡ pick c d v
-pick_same a b c d v f g = pick-and a b v ∙ ap (λ (t : Bool). onlyIf t v) (t-equal (and a b) (and c d) into out) ∙ sym (pick-and c d v)
+pick_same a b c d v f g = pick-and a b v ∙ ap (λ (t : Bool). only_if t v) (t-equal (and a b) (and c d) into out) ∙ sym (pick-and c d v)
   where
     into : T (and a b) → T (and c d)
     into t = let p = both-cases a b t in let q = f p.0 p.1 in both c d q.0 q.1
@@ -67,51 +67,51 @@ module _ (n : ℕ) (r : ℕ → ℕ → Bool) (via : (x v y : ℕ) → x < n →
 
   -- ---- the first of a component
 
-  least : (c : ℕ) → Least c (λ x. bothWays r x c) (componentBy r c)
-  least c = least-below c (λ x. bothWays r x c)
+  least : (c : ℕ) → Least c (λ x. both_ways r x c) (component_by r c)
+  least c = least-below c (λ x. both_ways r x c)
 
-  component-together : (c : ℕ) → Together (componentBy r c) c
-  component-together c = go (dec_lt (componentBy r c) c)
+  component-together : (c : ℕ) → Together (component_by r c) c
+  component-together c = go (dec_lt (component_by r c) c)
     where
-      go : Dec (componentBy r c < c) → Together (componentBy r c) c
-      go (yes l) = inr (both_true (r (componentBy r c) c) (r c (componentBy r c)) ((least c).here l))
+      go : Dec (component_by r c < c) → Together (component_by r c) c
+      go (yes l) = inr (both_true (r (component_by r c) c) (r c (component_by r c)) ((least c).here l))
       go (no l) = inl (omega (arith, (least c).bound))
 
-  component-first : (x c : ℕ) → Together x c → componentBy r c ≤ x
-  component-first x c t = go (dec_lt x (componentBy r c)) t
+  component-first : (x c : ℕ) → Together x c → component_by r c ≤ x
+  component-first x c t = go (dec_lt x (component_by r c)) t
     where
-      go : Dec (x < componentBy r c) → Together x c → componentBy r c ≤ x
+      go : Dec (x < component_by r c) → Together x c → component_by r c ≤ x
       go (no l) t = omega arith
       go (yes l) (inl e) = omega (arith, (least c).bound)
       go (yes l) (inr p) = absurd (subst T ((least c).before x l) (subst T (sym (ap₂ ◌&&◌ p.0 p.1)) tt))
 
-  component-lt : (c : ℕ) → c < n → componentBy r c < n
+  component-lt : (c : ℕ) → c < n → component_by r c < n
   component-lt c l = omega (arith, (least c).bound)
 
-  component-same : (x c : ℕ) → x < n → c < n → Together x c → componentBy r x ≡ componentBy r c
+  component-same : (x c : ℕ) → x < n → c < n → Together x c → component_by r x ≡ component_by r c
   component-same x c a b t =
-      let p : componentBy r c ≤ componentBy r x = component-first (componentBy r x) c (chained (componentBy r x) x c (component-lt x a) a b (component-together x) t) in
-      let q : componentBy r x ≤ componentBy r c = component-first (componentBy r c) x (chained (componentBy r c) c x (component-lt c b) b a (component-together c) (turned t)) in
+      let p : component_by r c ≤ component_by r x = component-first (component_by r x) c (chained (component_by r x) x c (component-lt x a) a b (component-together x) t) in
+      let q : component_by r x ≤ component_by r c = component-first (component_by r c) x (chained (component_by r c) c x (component-lt c b) b a (component-together c) (turned t)) in
       omega arith
 
-  same-component : (x c : ℕ) → x < n → c < n → componentBy r x ≡ componentBy r c → Together x c
+  same-component : (x c : ℕ) → x < n → c < n → component_by r x ≡ component_by r c → Together x c
   same-component x c a b e =
-      chained x (componentBy r x) c a (component-lt x a) b (turned (component-together x)) (subst (λ (z : ℕ). Together z c) (sym e) (component-together c))
+      chained x (component_by r x) c a (component-lt x a) b (turned (component-together x)) (subst (λ (z : ℕ). Together z c) (sym e) (component-together c))
 
   -- ---- the edges
 
-  leads-cases : (x y : ℕ) → T (leadsBy r x y) → (x ≡ y) ⊎ (r x y ≡ true)
+  leads-cases : (x y : ℕ) → T (leads_by r x y) → (x ≡ y) ⊎ (r x y ≡ true)
   leads-cases x y t = go (ℕ_discrete x y)
     where
       go : Dec (x ≡ y) → (x ≡ y) ⊎ (r x y ≡ true)
       go (yes e) = inl e
-      go (no e) = inr (leads-else r x y e ∙ is_true (leadsBy r x y) t)
+      go (no e) = inr (leads-else r x y e ∙ is_true (leads_by r x y) t)
 
-  together-leads : (x y : ℕ) → Together x y → T (leadsBy r x y)
+  together-leads : (x y : ℕ) → Together x y → T (leads_by r x y)
   together-leads x y (inl e) = subst T (leads-there r x y e) tt
   together-leads x y (inr p) = go (ℕ_discrete x y)
     where
-      go : Dec (x ≡ y) → T (leadsBy r x y)
+      go : Dec (x ≡ y) → T (leads_by r x y)
       go (yes e) = subst T (leads-there r x y e) tt
       go (no e) = subst T (sym p.0 ∙ leads-else r x y e) tt
 
@@ -127,7 +127,7 @@ module _ (n : ℕ) (r : ℕ → ℕ → Bool) (via : (x v y : ℕ) → x < n →
     start-together (inr p) (inl e) = inr (subst (λ (z : ℕ). r x z ≡ true) e edge, p)
     start-together (inr p) (inr q) = inr (via x y c b d a edge q, p)
 
-  module _ (components : List ℕ) (h : Entries n (componentBy r) 0 components) where
+  module _ (components : List ℕ) (h : Entries n (component_by r) 0 components) where
     pub components-within : Within n components
     components-within = record { is = λ y l. subst (λ (p : ℕ). p < n) (sym (h.entry y l)) (component-lt y l) }
 
@@ -138,9 +138,9 @@ module _ (n : ℕ) (r : ℕ → ℕ → Bool) (via : (x v y : ℕ) → x < n →
     same-components x c a b e = same-component x c a b (sym (h.entry x a) ∙ e ∙ h.entry c b)
 
     module _ (before fair : ℕ → ℕ → ℕ) (c e y : ℕ) (a : c < n) (b : before e y < n) (d : y < n) (edge : r (before e y) y ≡ true) where
-      via-within : withinComponent components before fair e (get_or components c 0) y ≡ viaBy r before fair c e y
+      via-within : within_component components before fair e (get_or components c 0) y ≡ via_by r before fair c e y
       via-within =
-          pick_same (eqb (get_or components y 0) (get_or components c 0)) (eqb (get_or components (before e y) 0) (get_or components c 0)) (leadsBy r c (before e y)) (leadsBy r y c) (fair e y)
+          pick_same (eqb (get_or components y 0) (get_or components c 0)) (eqb (get_or components (before e y) 0) (get_or components c 0)) (leads_by r c (before e y)) (leads_by r y c) (fair e y)
           (λ s t. (
             together-leads c (before e y) (turned (same-components (before e y) c b a (eqb→eq (get_or components (before e y) 0) (get_or components c 0) t))),
             together-leads y c (same-components y c d a (eqb→eq (get_or components y 0) (get_or components c 0) s)),
@@ -155,16 +155,16 @@ module _ (n : ℕ) (r : ℕ → ℕ → Bool) (via : (x v y : ℕ) → x < n →
 -- ---- the core
 
 module _ (m : ℕ) (Σ : Alphabet) (n : ℕ) (profiles fairs : List (List ℕ)) (r : ℕ → ℕ → Bool) (some : 1 ≤ n) (reach : Reaches Σ n profiles r) where
-  pub within-components : (components : List ℕ) → Entries n (componentBy r) 0 components → Within n components
+  pub within-components : (components : List ℕ) → Entries n (component_by r) 0 components → Within n components
   within-components components h = components-within n r reach.via components h
 
-  pub core-components : (components sets : List ℕ) (core : List Bool) → Entries n (componentBy r) 0 components → AllGathered Σ n (withinComponent components (label_at n profiles) (look fairs)) sets
-      → Entries n (coreIn m r components sets) false core → Entries n (coreBy m Σ n r (label_at n profiles) (look fairs)) false core
+  pub core-components : (components sets : List ℕ) (core : List Bool) → Entries n (component_by r) 0 components → AllGathered Σ n (within_component components (label_at n profiles) (look fairs)) sets
+      → Entries n (core_in m r components sets) false core → Entries n (core_by m Σ n r (label_at n profiles) (look fairs)) false core
   core-components components sets core h g k = record { entry = λ c l. k.entry c l ∙ ap (λ (A : ℕ). elim (r c c) [ true ↦ all_of m A | false ↦ false ]) (around c l) }
     where
-      around : (c : ℕ) → c < n → get_or sets (get_or components c 0) 0 ≡ unionEvents Σ (λ e. unionBelow n (viaBy r (label_at n profiles) (look fairs) c e))
+      around : (c : ℕ) → c < n → get_or sets (get_or components c 0) 0 ≡ union_events Σ (λ e. union_below n (via_by r (label_at n profiles) (look fairs) c e))
       around c l =
           g.is (get_or components c 0) ((within-components components h).is c l)
-          ∙ union-events-same Σ (λ e. unionBelow n (withinComponent components (label_at n profiles) (look fairs) e (get_or components c 0))) (λ e. unionBelow n (viaBy r (label_at n profiles) (look fairs) c e))
-          (λ e u. union-same n (withinComponent components (label_at n profiles) (look fairs) e (get_or components c 0)) (viaBy r (label_at n profiles) (look fairs) c e)
+          ∙ union-events-same Σ (λ e. union_below n (within_component components (label_at n profiles) (look fairs) e (get_or components c 0))) (λ e. union_below n (via_by r (label_at n profiles) (look fairs) c e))
+          (λ e u. union-same n (within_component components (label_at n profiles) (look fairs) e (get_or components c 0)) (via_by r (label_at n profiles) (look fairs) c e)
           (λ y v. via-within n r reach.via components h (label_at n profiles) (look fairs) c e y l (mod-lt (look profiles e y) some) v (reach.edges e y u v)))

@@ -6,8 +6,8 @@ ghost use Rattle.ltl.specs.Realizable.{all_of, realizable};
 ghost use Rattle.ltl.specs.Residuals.{before};
 ghost use Rattle.ltl.specs.Keys.{look};
 ghost use Rattle.valuation.specs.Entries.{Entries};
-ghost use Rattle.relations.specs.Relations.{entry, onlyIf, label_at, Reaches};
-ghost use Rattle.realizability.specs.Core.{leadsBy, bothWays, componentBy, Within, withinComponent, Gathered, AllGathered, coreIn, coreBy, toCoreBy, realizableBy, Sizes};
+ghost use Rattle.relations.specs.Relations.{entry, only_if, label_at, Reaches};
+ghost use Rattle.realizability.specs.Core.{leads_by, both_ways, component_by, Within, within_component, Gathered, AllGathered, core_in, core_by, to_core_by, realizable_by, Sizes};
 
 use events::mask_has;
 use node_words::holds;
@@ -16,7 +16,7 @@ use relations::{close, edge_rows, has, is_empty, label_in};
 // Whether the rows lead from x to y, or we are there.
 fn leads(rows: &[u64; 256], x: usize, y: usize) -> bool
     requires { (x < 128) × (y < 128) × (length rows.now ≡ 256) }
-    ensures { result ≡ leadsBy (entry rows.now) x y }
+    ensures { result ≡ leads_by (entry rows.now) x y }
 {
     if x == y {
         return true;
@@ -27,7 +27,7 @@ fn leads(rows: &[u64; 256], x: usize, y: usize) -> bool
 // Whether x leads to c and back.
 fn both_ways(rows: &[u64; 256], x: usize, c: usize) -> bool
     requires { (x < 128) × (c < 128) × (length rows.now ≡ 256) }
-    ensures { result ≡ bothWays (entry rows.now) x c }
+    ensures { result ≡ both_ways (entry rows.now) x c }
 {
     let there = has(rows, x, c);
     let back = has(rows, c, x);
@@ -37,7 +37,7 @@ fn both_ways(rows: &[u64; 256], x: usize, c: usize) -> bool
 // The first label up to c that leads to c and back.
 fn first_both(rows: &[u64; 256], c: usize) -> usize
     requires { (c < 128) × (length rows.now ≡ 256) }
-    ensures { result ≡ componentBy (entry rows.now) c }
+    ensures { result ≡ component_by (entry rows.now) c }
 {
     let mut x: usize = 0;
     while x < c {
@@ -52,7 +52,7 @@ fn first_both(rows: &[u64; 256], c: usize) -> usize
 // The component of c, labels that all lead to each other, by its first label.
 fn component(rows: &[u64; 256], c: usize) -> usize
     requires { (c < 128) × (length rows.now ≡ 256) }
-    ensures { result ≡ componentBy (entry rows.now) c }
+    ensures { result ≡ component_by (entry rows.now) c }
 {
     if is_empty(rows, c) {
         return c;
@@ -62,7 +62,7 @@ fn component(rows: &[u64; 256], c: usize) -> usize
 
 fn component_row(rows: &[u64; 256], labels: usize) -> [usize; 128]
     requires { (labels ≤ 128) × (length rows.now ≡ 256) }
-    ensures { Entries labels (componentBy (entry rows.now)) 0 result }
+    ensures { Entries labels (component_by (entry rows.now)) 0 result }
 {
     let mut components = [0usize; 128];
     let mut c: usize = 0;
@@ -74,7 +74,7 @@ fn component_row(rows: &[u64; 256], labels: usize) -> [usize; 128]
 }
 
 fn fair_if(test: bool, set: u8) -> u8
-    ensures { result ≡ onlyIf test set }
+    ensures { result ≡ only_if test set }
 {
     if test { set } else { 0 }
 }
@@ -90,7 +90,7 @@ fn gather_event(
 )
     requires sizes { Sizes (e + 1) labels profiles.now fairs.now }
     requires components_len { (length components.now ≡ 128) × (length sets.old ≡ 128) × Within labels components.now }
-    ensures { Gathered labels labels (withinComponent components.now (label_at labels profiles.now) (look fairs.now) e) sets.old sets.new }
+    ensures { Gathered labels labels (within_component components.now (label_at labels profiles.now) (look fairs.now) e) sets.old sets.new }
 {
     let mut y: usize = 0;
     while y < labels {
@@ -114,7 +114,7 @@ fn gather(
 )
     requires sizes { Sizes events labels profiles.now fairs.now }
     requires components_len { (length components.now ≡ 128) × Within labels components.now }
-    ensures { AllGathered (masked events mask) labels (withinComponent components.now (label_at labels profiles.now) (look fairs.now)) sets.new }
+    ensures { AllGathered (masked events mask) labels (within_component components.now (label_at labels profiles.now) (look fairs.now)) sets.new }
 {
     *sets = [0; 128];
     let mut e: usize = 0;
@@ -144,7 +144,7 @@ fn all_of(m: u8, set: u8) -> bool
 fn is_core(rows: &[u64; 256], components: &[usize; 128], sets: &[u8; 128], m: u8, c: usize) -> bool
     requires c_bound { (c < 128) × (length rows.now ≡ 256) × (length components.now ≡ 128) × (length sets.now ≡ 128) }
     requires c_bound_2 { get_or components.now c 0 < 128 }
-    ensures { result ≡ coreIn m (entry rows.now) components.now sets.now c }
+    ensures { result ≡ core_in m (entry rows.now) components.now sets.now c }
 {
     if has(rows, c, c) {
         return all_of(m, sets[components[c]]);
@@ -161,7 +161,7 @@ fn core_in(
 ) -> [bool; 128]
     requires labels_bound { (labels ≤ 128) × (length rows.now ≡ 256) × (length components.now ≡ 128) × (length sets.now ≡ 128) }
     requires within { Within labels components.now }
-    ensures { Entries labels (coreIn m (entry rows.now) components.now sets.now) false result }
+    ensures { Entries labels (core_in m (entry rows.now) components.now sets.now) false result }
 {
     let mut core = [false; 128];
     let mut c: usize = 0;
@@ -184,7 +184,7 @@ fn core_row(
 ) -> [bool; 128]
     requires sizes { Sizes events labels profiles.now fairs.now }
     requires rows_len { (length rows.now ≡ 256) × Reaches (masked events mask) labels profiles.now (entry rows.now) }
-    ensures { Entries labels (coreBy m (masked events mask) labels (entry rows.now) (label_at labels profiles.now) (look fairs.now)) false result }
+    ensures { Entries labels (core_by m (masked events mask) labels (entry rows.now) (label_at labels profiles.now) (look fairs.now)) false result }
 {
     let components = component_row(rows, labels);
     let mut sets = [0u8; 128];
@@ -204,7 +204,7 @@ fn core_row(
 fn leads_to(rows: &[u64; 256], core: &[bool; 128], x: usize, c: usize) -> bool
     requires x_bound { (x < 128) × (c < 128) }
     requires rows_len { (length rows.now ≡ 256) × (length core.now ≡ 128) }
-    ensures { result ≡ toCoreBy (entry rows.now) (λ i. get_or core.now i false) x c }
+    ensures { result ≡ to_core_by (entry rows.now) (λ i. get_or core.now i false) x c }
 {
     if core[c] {
         return leads(rows, x, c);
@@ -215,7 +215,7 @@ fn leads_to(rows: &[u64; 256], core: &[bool; 128], x: usize, c: usize) -> bool
 fn any_in_core(rows: &[u64; 256], core: &[bool; 128], labels: usize, x: usize) -> bool
     requires labels_bound { (labels ≤ 128) × (x < labels) }
     requires rows_len { (length rows.now ≡ 256) × (length core.now ≡ 128) }
-    ensures { result ≡ realizableBy labels (entry rows.now) (λ i. get_or core.now i false) x }
+    ensures { result ≡ realizable_by labels (entry rows.now) (λ i. get_or core.now i false) x }
 {
     let mut c: usize = 0;
     while c < labels {
@@ -231,7 +231,7 @@ fn any_in_core(rows: &[u64; 256], core: &[bool; 128], labels: usize, x: usize) -
 fn leads_to_core(rows: &[u64; 256], core: &[bool; 128], labels: usize, x: usize) -> bool
     requires labels_bound { (labels ≤ 128) × (x < labels) }
     requires rows_len { (length rows.now ≡ 256) × (length core.now ≡ 128) }
-    ensures { result ≡ realizableBy labels (entry rows.now) (λ i. get_or core.now i false) x }
+    ensures { result ≡ realizable_by labels (entry rows.now) (λ i. get_or core.now i false) x }
 {
     if is_empty(rows, x) {
         return core[x];
@@ -242,7 +242,7 @@ fn leads_to_core(rows: &[u64; 256], core: &[bool; 128], labels: usize, x: usize)
 fn leading_row(rows: &[u64; 256], core: &[bool; 128], labels: usize) -> [bool; 128]
     requires labels_bound { labels ≤ 128 }
     requires rows_len { (length rows.now ≡ 256) × (length core.now ≡ 128) }
-    ensures { Entries labels (realizableBy labels (entry rows.now) (λ i. get_or core.now i false)) false result }
+    ensures { Entries labels (realizable_by labels (entry rows.now) (λ i. get_or core.now i false)) false result }
 {
     let mut leading = [false; 128];
     let mut x: usize = 0;

@@ -22,7 +22,7 @@ use Rattle.sequences.proofs.Pointwise.{all_same}
 use Rattle.meaning.specs.Bytes.{bit}
 use Rattle.meaning.specs.Traces.{masked}
 use Rattle.meaning.specs.Monitors.{keep}
-use Rattle.meaning.specs.Recordings.{knows, seenFits, agrees, choices, contradict}
+use Rattle.meaning.specs.Recordings.{knows, seen_fits, agrees, choices, contradict}
 use Rattle.meaning.specs.declared.Seen.{Seen}
 
 -- ---- numbers by their bits
@@ -107,17 +107,17 @@ module _ (P : ℕ) (r : Seen) where
   tests = ltb r.known (2 ^ P) ∷ ltb r.values (2 ^ P) ∷ all_below P (λ s. cond (knows r s) true (eqb (bit s r.values) 0)) ∷ []
 
   -- a bit at or above P
-  pub wrong-known : 2 ^ P ≤ r.known → false ≡ seenFits P r
+  pub wrong-known : 2 ^ P ≤ r.known → false ≡ seen_fits P r
   wrong-known l = sym (fails tests 0 (le-ltb r.known (2 ^ P) l))
 
-  pub wrong-values : 2 ^ P ≤ r.values → false ≡ seenFits P r
+  pub wrong-values : 2 ^ P ≤ r.values → false ≡ seen_fits P r
   wrong-values l = sym (fails tests 1 (le-ltb r.values (2 ^ P) l))
 
   -- no such bit
-  pub low_fits : r.known < 2 ^ P → r.values < 2 ^ P → eqb (bit_and r.known r.values) r.values ≡ seenFits P r
+  pub low_fits : r.known < 2 ^ P → r.values < 2 ^ P → eqb (bit_and r.known r.values) r.values ≡ seen_fits P r
   low_fits l m = sym (rw (lt-ltb r.known (2 ^ P) l, lt-ltb r.values (2 ^ P) m, fits_bits P r.known l r.values m) (sym (last _)))
 
-  pub fits_low : seenFits P r ≡ true → r.known < 2 ^ P
+  pub fits_low : seen_fits P r ≡ true → r.known < 2 ^ P
   fits_low e = ltb-true r.known (2 ^ P) (holds tests e 0)
 
 pub contradict-bits : (P : ℕ) (r q : Seen) → r.known < 2 ^ P

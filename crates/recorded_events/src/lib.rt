@@ -1,7 +1,7 @@
 // One recorded event: whether its bytes fit, whether two contradict each other, the two joined, and the possible events that agree with it.
 ghost use Rattle.std.specs.Prelude.{◌≡◌, true, cond, ◌+◌, ◌*◌, ◌^◌, ◌≤◌, ◌<◌, length, take};
 ghost use Rattle.meaning.specs.Traces.{masked};
-ghost use Rattle.meaning.specs.Recordings.{seen_at, seenFits, contradict, join, choices};
+ghost use Rattle.meaning.specs.Recordings.{seen_at, seen_fits, contradict, join, choices};
 
 use events::{mask_has, width};
 use meaning::Seen;
@@ -21,7 +21,7 @@ pub fn seen_at(a: &[u8], i: usize) -> Seen
 // Whether it has no bit at or above the number of signals, and no value of a signal that is unknown.
 pub fn seen_fits(signals: u8, r: Seen) -> bool
     requires { signals ≤ 4 }
-    ensures { result ≡ seenFits signals r }
+    ensures { result ≡ seen_fits signals r }
 {
     let known = r.known;
     let values = r.values;
@@ -36,7 +36,7 @@ pub fn seen_fits(signals: u8, r: Seen) -> bool
 
 // Whether both know a signal, with different values.
 pub fn contradicts(signals: u8, r: Seen, q: Seen) -> bool
-    requires { seenFits signals r ≡ true }
+    requires { seen_fits signals r ≡ true }
     ensures { result ≡ contradict signals r q }
 {
     let known = r.known;

@@ -2,8 +2,8 @@
 use mathlib.Core.Path.{◌≡◌, refl}
 use mathlib.Core.List.{List, [], ◌∷◌, ◌++◌, map}
 use Prim.Native.Nat.{ℕ}
-use Rattle.meaning.specs.Recordings.{completions, allEnd, judgedOf}
-use Rattle.meaning.specs.TableFiles.{isTable}
+use Rattle.meaning.specs.Recordings.{completions, all_end, judged_of}
+use Rattle.meaning.specs.TableFiles.{is_table}
 use Rattle.meaning.specs.declared.Verdict.TheVariants.{Undecided, Violated}
 use Rattle.meaning.specs.declared.Refusal.TheVariants.{WrongEvent, WrongRecordings, Contradiction}
 use Rattle.meaning.specs.declared.Shown.{Shown}
@@ -13,8 +13,8 @@ abbrev row : ℕ → ℕ → ℕ → ℕ → ℕ → List ℕ
 row v a b c d = 11 ∷ 0 ∷ 1 ∷ 2 ∷ v ∷ a ∷ 0 ∷ b ∷ 0 ∷ c ∷ 0 ∷ d ∷ 0 ∷ []
 
 -- "3 states; rows 0 1 0 1, then 1 2 0 1, then violated"
-abbrev pub secondDose : List ℕ
-secondDose = (5 ∷ 0 ∷ 0 ∷ 2 ∷ 2 ∷ 3 ∷ 0 ∷ []) ++ row 0 0 1 0 1 ++ row 0 1 2 0 1 ++ row 2 2 2 2 2
+abbrev pub second_dose : List ℕ
+second_dose = (5 ∷ 0 ∷ 0 ∷ 2 ∷ 2 ∷ 3 ∷ 0 ∷ []) ++ row 0 0 1 0 1 ++ row 0 1 2 0 1 ++ row 2 2 2 2 2
 
 -- what the controller recorded, what the valve block recorded, and what is answered
 pub record Case : Type 0 where
@@ -40,6 +40,6 @@ cases =
     ∷ record { controller = 1 ∷ []; valves = 2 ∷ []; answer = Shown.Refused WrongRecordings }
     ∷ []
 
-pub worked : map (λ (c : Case). judgedOf secondDose c.controller c.valves) cases ≡ map (λ (c : Case). c.answer) cases
-unfolding judgedOf isTable completions allEnd
+pub worked : map (λ (c : Case). judged_of second_dose c.controller c.valves) cases ≡ map (λ (c : Case). c.answer) cases
+unfolding judged_of is_table completions all_end
 worked = refl

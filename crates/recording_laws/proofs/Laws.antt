@@ -21,9 +21,9 @@ use Rattle.meaning.specs.Bytes.{bit}
 use Rattle.meaning.specs.Traces.{Alphabet, Event}
 use Rattle.meaning.specs.Monitors.{Monitor, follow}
 use Rattle.meaning.specs.RuleFiles.{first_of}
-use Rattle.meaning.specs.TableFiles.{isTable, alphabetIn, signalsIn, monitorOf}
+use Rattle.meaning.specs.TableFiles.{is_table, alphabet_in, signals_in, monitor_of}
 use Rattle.meaning.specs.Runs.{decides, run_of}
-use Rattle.meaning.specs.Recordings.{seen_at, knows, join, joinedAt, joinedList, agrees, Completion, completions, allEnd, verdictOver, lengthsFit, seenFits, contradict, eventChecks, judgedOf}
+use Rattle.meaning.specs.Recordings.{seen_at, knows, join, joined_at, joined_list, agrees, Completion, completions, all_end, verdict_over, lengths_fit, seen_fits, contradict, event_checks, judged_of}
 use Rattle.meaning.specs.declared.Verdict.{Verdict}
 use Rattle.meaning.specs.declared.Verdict.TheVariants.{Undecided, Satisfied, Violated, Moot}
 use Rattle.meaning.specs.declared.Refusal.{Refusal}
@@ -32,9 +32,9 @@ use Rattle.meaning.specs.declared.Seen.{Seen}
 use Rattle.meaning.specs.declared.Shown.{Shown}
 use Rattle.meaning.specs.declared.Shown.TheVariants as Shown
 use Rattle.recorded_events.proofs.Laws.{digit, same_bits}
-use Rattle.recording_laws.specs.Laws.{EndsWith, NothingUnknown, recordedEvents, KnowsMore, Richer}
+use Rattle.recording_laws.specs.Laws.{EndsWith, NothingUnknown, recorded_events, KnowsMore, Richer}
 use Rattle.recording_laws.proofs.Unrefused.{Unrefused, unrefused}
-use Rattle.recording_laws.proofs.Answers.{completion, ends_with, answer-is, answer-ends}
+use Rattle.recording_laws.proofs.Answers.{completion, ends_with, answer_is, answer-ends}
 
 and_comm : (x y : Bool) → (x && y) ≡ (y && x)
 and_comm true true = refl
@@ -63,29 +63,29 @@ joined_same : (n : ℕ) (f g : ℕ → List (Bool × Refusal)) → ((i : ℕ) �
 joined_same zero f g h = refl
 joined_same (suc n) f g h = ap₂ (λ (x y : List (Bool × Refusal)). x ++ y) (joined_same n f g h) (h n)
 
-checks-comm : (Σ : Alphabet) (P : ℕ) (a b : List ℕ) (i : ℕ) → eventChecks Σ P a b i ≡ eventChecks Σ P b a i
+checks-comm : (Σ : Alphabet) (P : ℕ) (a b : List ℕ) (i : ℕ) → event_checks Σ P a b i ≡ event_checks Σ P b a i
 checks-comm Σ P a b i =
-    rw (and_comm (seenFits P (seen_at a i)) (seenFits P (seen_at b i)), contradict-comm P (seen_at a i) (seen_at b i), join-comm (seen_at a i) (seen_at b i))
+    rw (and_comm (seen_fits P (seen_at a i)) (seen_fits P (seen_at b i)), contradict-comm P (seen_at a i) (seen_at b i), join-comm (seen_at a i) (seen_at b i))
 
-lengths-comm : (a b : List ℕ) → lengthsFit a b ≡ lengthsFit b a
+lengths-comm : (a b : List ℕ) → lengths_fit a b ≡ lengths_fit b a
 lengths-comm a b = go (eqb (length a) (length b)) refl
   where
-    go : (c : Bool) → eqb (length a) (length b) ≡ c → lengthsFit a b ≡ lengthsFit b a
+    go : (c : Bool) → eqb (length a) (length b) ≡ c → lengths_fit a b ≡ lengths_fit b a
     go true e = let q = eqb-true (length a) (length b) e in ap₂ (λ (x y : Bool). x && y) (eqb_comm (length a) (length b)) (ap (λ (n : ℕ). eqb (n % 2) 0) q)
     go false e = rw (e, eqb_comm (length b) (length a), e)
 
 module _ (t : List ℕ) where
   abbrev Σ : Alphabet
-  Σ = alphabetIn t (signalsIn t)
+  Σ = alphabet_in t (signals_in t)
 
   abbrev answered : Bool → List (Bool × Refusal) → List Seen → Shown
   answered fit cs rs =
-      cond (isTable t)
-      (first_of Shown.Refused ((not fit, WrongRecordings) ∷ cs) (Shown.Verdict (verdictOver (monitorOf t) (completions Σ (signalsIn t) rs))))
+      cond (is_table t)
+      (first_of Shown.Refused ((not fit, WrongRecordings) ∷ cs) (Shown.Verdict (verdict_over (monitor_of t) (completions Σ (signals_in t) rs))))
       (Shown.Refused WrongTable)
 
-  answered-so : (a b : List ℕ) → judgedOf t a b ≡ answered (lengthsFit a b) (joined (length a / 2) (eventChecks Σ (signalsIn t) a b)) (joinedList a b)
-  unfolding judgedOf
+  answered-so : (a b : List ℕ) → judged_of t a b ≡ answered (lengths_fit a b) (joined (length a / 2) (event_checks Σ (signals_in t) a b)) (joined_list a b)
+  unfolding judged_of
   answered-so a b = refl
 
   -- recordings of different lengths are refused before their events
@@ -93,26 +93,26 @@ module _ (t : List ℕ) where
   answered-none cs ds rs qs = refl
 
   -- whatever the bytes and the recordings, refusals included
-  pub symmetric : (a b : List ℕ) → judgedOf t a b ≡ judgedOf t b a
+  pub symmetric : (a b : List ℕ) → judged_of t a b ≡ judged_of t b a
   symmetric a b = answered-so a b ∙ go (eqb (length a) (length b)) refl ∙ sym (answered-so b a)
     where
-      go : (c : Bool) → eqb (length a) (length b) ≡ c → answered (lengthsFit a b) (joined (length a / 2) (eventChecks Σ (signalsIn t) a b)) (joinedList a b)
-          ≡ answered (lengthsFit b a) (joined (length b / 2) (eventChecks Σ (signalsIn t) b a)) (joinedList b a)
+      go : (c : Bool) → eqb (length a) (length b) ≡ c → answered (lengths_fit a b) (joined (length a / 2) (event_checks Σ (signals_in t) a b)) (joined_list a b)
+          ≡ answered (lengths_fit b a) (joined (length b / 2) (event_checks Σ (signals_in t) b a)) (joined_list b a)
       go true e =
           let q = eqb-true (length a) (length b) e in
-          let same : joined (length a / 2) (eventChecks Σ (signalsIn t) a b) ≡ joined (length b / 2) (eventChecks Σ (signalsIn t) b a) =
-          joined_same (length a / 2) (eventChecks Σ (signalsIn t) a b) (eventChecks Σ (signalsIn t) b a) (λ i. checks-comm Σ (signalsIn t) a b i)
-          ∙ ap (λ (n : ℕ). joined (n / 2) (eventChecks Σ (signalsIn t) b a)) q in
-          let all : joinedList a b ≡ joinedList b a =
-          tabulate-same (length a / 2) (joinedAt a b) (joinedAt b a) (λ i l. join-comm (seen_at a i) (seen_at b i)) ∙ ap (λ (n : ℕ). tabulate (n / 2) (joinedAt b a)) q in
-          ap (λ (f : Bool). answered f (joined (length a / 2) (eventChecks Σ (signalsIn t) a b)) (joinedList a b)) (lengths-comm a b)
-          ∙ ap₂ (λ (cs : List (Bool × Refusal)) (rs : List Seen). answered (lengthsFit b a) cs rs) same all
+          let same : joined (length a / 2) (event_checks Σ (signals_in t) a b) ≡ joined (length b / 2) (event_checks Σ (signals_in t) b a) =
+          joined_same (length a / 2) (event_checks Σ (signals_in t) a b) (event_checks Σ (signals_in t) b a) (λ i. checks-comm Σ (signals_in t) a b i)
+          ∙ ap (λ (n : ℕ). joined (n / 2) (event_checks Σ (signals_in t) b a)) q in
+          let all : joined_list a b ≡ joined_list b a =
+          tabulate-same (length a / 2) (joined_at a b) (joined_at b a) (λ i l. join-comm (seen_at a i) (seen_at b i)) ∙ ap (λ (n : ℕ). tabulate (n / 2) (joined_at b a)) q in
+          ap (λ (f : Bool). answered f (joined (length a / 2) (event_checks Σ (signals_in t) a b)) (joined_list a b)) (lengths-comm a b)
+          ∙ ap₂ (λ (cs : List (Bool × Refusal)) (rs : List Seen). answered (lengths_fit b a) cs rs) same all
       go false e =
-          let no : lengthsFit a b ≡ false = rw e in
-          let no' : lengthsFit b a ≡ false = sym (lengths-comm a b) ∙ no in
-          ap (λ (f : Bool). answered f (joined (length a / 2) (eventChecks Σ (signalsIn t) a b)) (joinedList a b)) no
-          ∙ answered-none (joined (length a / 2) (eventChecks Σ (signalsIn t) a b)) (joined (length b / 2) (eventChecks Σ (signalsIn t) b a)) (joinedList a b) (joinedList b a)
-          ∙ sym (ap (λ (f : Bool). answered f (joined (length b / 2) (eventChecks Σ (signalsIn t) b a)) (joinedList b a)) no')
+          let no : lengths_fit a b ≡ false = rw e in
+          let no' : lengths_fit b a ≡ false = sym (lengths-comm a b) ∙ no in
+          ap (λ (f : Bool). answered f (joined (length a / 2) (event_checks Σ (signals_in t) a b)) (joined_list a b)) no
+          ∙ answered-none (joined (length a / 2) (event_checks Σ (signals_in t) a b)) (joined (length b / 2) (event_checks Σ (signals_in t) b a)) (joined_list a b) (joined_list b a)
+          ∙ sym (ap (λ (f : Bool). answered f (joined (length b / 2) (event_checks Σ (signals_in t) b a)) (joined_list b a)) no')
 
 -- ---- the join, signal by signal
 
@@ -161,14 +161,14 @@ module _ (P : ℕ) (r : Seen) where
   abbrev tests : List Bool
   tests = ltb r.known (2 ^ P) ∷ ltb r.values (2 ^ P) ∷ all_below P (λ s. cond (knows r s) true (eqb (bit s r.values) 0)) ∷ []
 
-  fits-values : seenFits P r ≡ true → r.values < 2 ^ P
+  fits-values : seen_fits P r ≡ true → r.values < 2 ^ P
   fits-values h = ltb-true r.values (2 ^ P) (holds tests h 1)
 
-  fits-at : seenFits P r ≡ true → (s : ℕ) → s < P → cond (knows r s) true (eqb (bit s r.values) 0) ≡ true
+  fits-at : seen_fits P r ≡ true → (s : ℕ) → s < P → cond (knows r s) true (eqb (bit s r.values) 0) ≡ true
   fits-at h s l = all-at P (λ k. cond (knows r k) true (eqb (bit k r.values) 0)) (holds tests h 2) s l
 
 -- "each filling the other's gaps"
-pub join-agrees : (P : ℕ) (r q : Seen) (e : ℕ) → seenFits P r ≡ true → seenFits P q ≡ true → contradict P r q ≡ false → agrees P (join r q) e ≡ (agrees P r e && agrees P q e)
+pub join-agrees : (P : ℕ) (r q : Seen) (e : ℕ) → seen_fits P r ≡ true → seen_fits P q ≡ true → contradict P r q ≡ false → agrees P (join r q) e ≡ (agrees P r e && agrees P q e)
 join-agrees P r q e h k n =
     all_both P _ (λ s. cond (knows r s) (eqb (bit s e) (bit s r.values)) true) (λ s. cond (knows q s) (eqb (bit s e) (bit s q.values)) true)
     (λ s l.
@@ -211,47 +211,47 @@ no-decision Satisfied p u q = never p
 no-decision Violated p u q = never p
 no-decision Moot p u q = never p
 
-module _ (t a b : List ℕ) (v : Verdict) (h : judgedOf t a b ≡ Shown.Verdict v) where
+module _ (t a b : List ℕ) (v : Verdict) (h : judged_of t a b ≡ Shown.Verdict v) where
   abbrev P : ℕ
-  P = signalsIn t
+  P = signals_in t
 
   right : Unrefused t a b v
   right = unrefused t a b v h
 
-  each_fits : (i : ℕ) → i < length a / 2 → (seenFits P (seen_at a i) ≡ true) × (seenFits P (seen_at b i) ≡ true)
-  each_fits i l = both (seenFits P (seen_at a i)) (seenFits P (seen_at b i)) (right.fits i l)
+  each_fits : (i : ℕ) → i < length a / 2 → (seen_fits P (seen_at a i) ≡ true) × (seen_fits P (seen_at b i) ≡ true)
+  each_fits i l = both (seen_fits P (seen_at a i)) (seen_fits P (seen_at b i)) (right.fits i l)
 
   -- an event agrees with the joined one exactly if it agrees with both
-  pub agrees-both : (i : ℕ) → i < length a / 2 → (e : ℕ) → agrees P (joinedAt a b i) e ≡ (agrees P (seen_at a i) e && agrees P (seen_at b i) e)
+  pub agrees-both : (i : ℕ) → i < length a / 2 → (e : ℕ) → agrees P (joined_at a b i) e ≡ (agrees P (seen_at a i) e && agrees P (seen_at b i) e)
   agrees-both i l e = let f = each_fits i l in join-agrees P (seen_at a i) (seen_at b i) e f.0 f.1 (right.agree i l)
 
   module _ (k : NothingUnknown P a b) where
-    the-event : (i : ℕ) → i < length a / 2 → (e : ℕ) → Event (Σ t) e → agrees P (joinedAt a b i) e ≡ true → e ≡ (joinedAt a b i).values
+    the-event : (i : ℕ) → i < length a / 2 → (e : ℕ) → Event (Σ t) e → agrees P (joined_at a b i) e ≡ true → e ≡ (joined_at a b i).values
     the-event i l e c g =
         let f = each_fits i l in
         let low = or_lt P (seen_at a i).values (seen_at b i).values (fits-values P (seen_at a i) f.0) (fits-values P (seen_at b i) f.1) in
-        let x = (joinedAt a b i).values in
+        let x = (joined_at a b i).values in
         let same : all_below P (λ s. eqb (bit s e) (bit s x)) ≡ true =
         all-is P (λ s. eqb (bit s e) (bit s x))
-        (λ s m. sym (ap (λ (z : Bool). cond z (eqb (bit s e) (bit s x)) true) (k i l s m)) ∙ all-at P (λ j. cond (knows (joinedAt a b i) j) (eqb (bit j e) (bit j x)) true) g s m) in
+        (λ s m. sym (ap (λ (z : Bool). cond z (eqb (bit s e) (bit s x)) true) (k i l s m)) ∙ all-at P (λ j. cond (knows (joined_at a b i) j) (eqb (bit j e) (bit j x)) true) g s m) in
         eqb-true e x (sym (same_bits P e x c.0 low) ∙ same)
 
-    all_one : (w : List ℕ) → Completion (Σ t) P (joinedList a b) w → w ≡ recordedEvents a b
-    all_one w c = completion-one (Σ t) P (length a / 2) (joinedAt a b) (λ i. (joinedAt a b i).values) the-event w c
+    all_one : (w : List ℕ) → Completion (Σ t) P (joined_list a b) w → w ≡ recorded_events a b
+    all_one w c = completion-one (Σ t) P (length a / 2) (joined_at a b) (λ i. (joined_at a b i).values) the-event w c
 
-    recorded : Completion (Σ t) P (joinedList a b) (recordedEvents a b)
-    recorded = let w = completion t a b v right in subst (λ (x : List ℕ). Completion (Σ t) P (joinedList a b) x) (all_one w.0 w.1) w.1
+    recorded : Completion (Σ t) P (joined_list a b) (recorded_events a b)
+    recorded = let w = completion t a b v right in subst (λ (x : List ℕ). Completion (Σ t) P (joined_list a b) x) (all_one w.0 w.1) w.1
 
     abbrev shown : Verdict
-    shown = (monitorOf t).verdict (follow (monitorOf t) 0 (recordedEvents a b))
+    shown = (monitor_of t).verdict (follow (monitor_of t) 0 (recorded_events a b))
 
     shown-is : (c : Bool) → decides shown ≡ c → (d : Bool) → decides v ≡ d → shown ≡ v
-    shown-is true p d q = sym (answer-is t a b v right shown p (λ w c. ap (λ (x : List ℕ). (monitorOf t).verdict (follow (monitorOf t) 0 x)) (all_one w c)))
-    shown-is false p true q = answer-ends t a b v right q (recordedEvents a b) recorded
+    shown-is true p d q = sym (answer_is t a b v right shown p (λ w c. ap (λ (x : List ℕ). (monitor_of t).verdict (follow (monitor_of t) 0 x)) (all_one w c)))
+    shown-is false p true q = answer-ends t a b v right q (recorded_events a b) recorded
     shown-is false p false q = no-decision shown p v q
 
-    pub complete-run : EndsWith (run_of t 0 (recordedEvents a b)) v
-    complete-run = ends_with t a b v right v (recordedEvents a b) recorded (shown-is (decides shown) refl (decides v) refl)
+    pub complete-run : EndsWith (run_of t 0 (recorded_events a b)) v
+    complete-run = ends_with t a b v right v (recorded_events a b) recorded (shown-is (decides shown) refl (decides v) refl)
 
 -- ---- more knowledge
 
@@ -265,37 +265,37 @@ agree_less P r q k e h = all-is P (λ s. cond (knows r s) (eqb (bit s e) (bit s 
         let y : eqb (bit s e) (bit s q.values) ≡ true = sym (ap (λ (z : Bool). cond z (eqb (bit s e) (bit s q.values)) true) m.0) ∙ all-at P (λ i. cond (knows q i) (eqb (bit i e) (bit i q.values)) true) h s l in
         ap (λ (x : ℕ). eqb (bit s e) x) m.1 ∙ y
 
-module _ (t a b a' b' : List ℕ) (v u : Verdict) (h : judgedOf t a b ≡ Shown.Verdict v) (h' : judgedOf t a' b' ≡ Shown.Verdict u) (m : Richer (signalsIn t) a a') (m' : Richer (signalsIn t) b b') where
+module _ (t a b a' b' : List ℕ) (v u : Verdict) (h : judged_of t a b ≡ Shown.Verdict v) (h' : judged_of t a' b' ≡ Shown.Verdict u) (m : Richer (signals_in t) a a') (m' : Richer (signals_in t) b b') where
   same_length : length b ≡ length a
   same_length = sym (eqb-true (length a) (length b) (both (eqb (length a) (length b)) (eqb (length a % 2) 0) (unrefused t a b v h).lengths).0)
 
-  poorer : (i : ℕ) → i < length a' / 2 → (e : ℕ) → agrees (signalsIn t) (joinedAt a' b' i) e ≡ true → agrees (signalsIn t) (joinedAt a b i) e ≡ true
+  poorer : (i : ℕ) → i < length a' / 2 → (e : ℕ) → agrees (signals_in t) (joined_at a' b' i) e ≡ true → agrees (signals_in t) (joined_at a b i) e ≡ true
   poorer i l e g =
       let k : i < length a / 2 = subst (λ (n : ℕ). i < n / 2) (sym m.long) l in
       let k' : i < length b / 2 = subst (λ (n : ℕ). i < n / 2) (sym same_length) k in
-      let x = both (agrees (signalsIn t) (seen_at a' i) e) (agrees (signalsIn t) (seen_at b' i) e) (sym (agrees-both t a' b' u h' i l e) ∙ g) in
-      let y = agree_less (signalsIn t) (seen_at a i) (seen_at a' i) (m.more i k) e x.0 in
-      let z = agree_less (signalsIn t) (seen_at b i) (seen_at b' i) (m'.more i k') e x.1 in
+      let x = both (agrees (signals_in t) (seen_at a' i) e) (agrees (signals_in t) (seen_at b' i) e) (sym (agrees-both t a' b' u h' i l e) ∙ g) in
+      let y = agree_less (signals_in t) (seen_at a i) (seen_at a' i) (m.more i k) e x.0 in
+      let z = agree_less (signals_in t) (seen_at b i) (seen_at b' i) (m'.more i k') e x.1 in
       agrees-both t a b v h i k e ∙ rw (y, z)
 
   -- "more knowledge never takes a verdict other than undecided back"
   pub more-knowledge : decides v ≡ true → u ≡ v
   more-knowledge d =
-      answer-is t a' b' u (unrefused t a' b' u h') v d
+      answer_is t a' b' u (unrefused t a' b' u h') v d
       (λ w c. answer-ends t a b v (unrefused t a b v h) d w
-      (subst (λ (n : ℕ). Completion (Σ t) (signalsIn t) (tabulate (n / 2) (joinedAt a b)) w) (sym m.long)
-      (completion-mono (Σ t) (signalsIn t) (length a' / 2) (joinedAt a' b') (joinedAt a b) poorer w c)))
+      (subst (λ (n : ℕ). Completion (Σ t) (signals_in t) (tabulate (n / 2) (joined_at a b)) w) (sym m.long)
+      (completion-mono (Σ t) (signals_in t) (length a' / 2) (joined_at a' b') (joined_at a b) poorer w c)))
 
 -- ---- nothing recorded
 
-over-one : (m : Monitor) (v : Verdict) → m.verdict 0 ≡ v → verdictOver m ([] ∷ []) ≡ v
-unfolding allEnd
+over-one : (m : Monitor) (v : Verdict) → m.verdict 0 ≡ v → verdict_over m ([] ∷ []) ≡ v
+unfolding all_end
 over-one m Undecided e = rw e
 over-one m Satisfied e = rw e
 over-one m Violated e = rw e
 over-one m Moot e = rw e
 
 -- whose one completion is the empty list
-pub empty-start : (t : List ℕ) → isTable t ≡ true → judgedOf t [] [] ≡ Shown.Verdict ((monitorOf t).verdict 0)
-unfolding judgedOf completions
-empty-start t h = rw h (ap Shown.Verdict (over-one (monitorOf t) ((monitorOf t).verdict 0) refl))
+pub empty-start : (t : List ℕ) → is_table t ≡ true → judged_of t [] [] ≡ Shown.Verdict ((monitor_of t).verdict 0)
+unfolding judged_of completions
+empty-start t h = rw h (ap Shown.Verdict (over-one (monitor_of t) ((monitor_of t).verdict 0) refl))

@@ -13,8 +13,8 @@ use lib.ListN.{length}
 use Rattle.sequences.specs.Tabulate.{tabulate, joined}
 use Rattle.meaning.specs.Traces.{Alphabet}
 use Rattle.meaning.specs.RuleFiles.{first_of}
-use Rattle.meaning.specs.TableFiles.{isTable, alphabetIn, signalsIn, monitorOf}
-use Rattle.meaning.specs.Recordings.{seen_at, joinedAt, joinedList, choices, Completion, completions, verdictOver, lengthsFit, seenFits, contradict, eventChecks, recordingChecks, judgedOf}
+use Rattle.meaning.specs.TableFiles.{is_table, alphabet_in, signals_in, monitor_of}
+use Rattle.meaning.specs.Recordings.{seen_at, joined_at, joined_list, choices, Completion, completions, verdict_over, lengths_fit, seen_fits, contradict, event_checks, recording_checks, judged_of}
 use Rattle.meaning.specs.declared.Verdict.{Verdict}
 use Rattle.meaning.specs.declared.Refusal.{Refusal}
 use Rattle.meaning.specs.declared.Refusal.TheVariants.{WrongTable}
@@ -56,33 +56,33 @@ clear_at (suc n) f h i l = let k = clear-append (joined n f) (f n) h in go (dec_
 -- ---- what that says
 
 pub record Unrefused (t a b : List ℕ) (v : Verdict) : Type 0 where
-  pub table : isTable t ≡ true
-  pub lengths : lengthsFit a b ≡ true
-  pub fits : (i : ℕ) → i < length a / 2 → (seenFits (signalsIn t) (seen_at a i) && seenFits (signalsIn t) (seen_at b i)) ≡ true
-  pub agree : (i : ℕ) → i < length a / 2 → contradict (signalsIn t) (seen_at a i) (seen_at b i) ≡ false
-  pub some : (i : ℕ) → i < length a / 2 → 1 ≤ length (choices (alphabetIn t (signalsIn t)) (signalsIn t) (joinedAt a b i))
-  pub answer : verdictOver (monitorOf t) (completions (alphabetIn t (signalsIn t)) (signalsIn t) (joinedList a b)) ≡ v
+  pub table : is_table t ≡ true
+  pub lengths : lengths_fit a b ≡ true
+  pub fits : (i : ℕ) → i < length a / 2 → (seen_fits (signals_in t) (seen_at a i) && seen_fits (signals_in t) (seen_at b i)) ≡ true
+  pub agree : (i : ℕ) → i < length a / 2 → contradict (signals_in t) (seen_at a i) (seen_at b i) ≡ false
+  pub some : (i : ℕ) → i < length a / 2 → 1 ≤ length (choices (alphabet_in t (signals_in t)) (signals_in t) (joined_at a b i))
+  pub answer : verdict_over (monitor_of t) (completions (alphabet_in t (signals_in t)) (signals_in t) (joined_list a b)) ≡ v
 
-pub unrefused : (t a b : List ℕ) (v : Verdict) → judgedOf t a b ≡ Shown.Verdict v → Unrefused t a b v
-unfolding judgedOf
-unrefused t a b v h = go (isTable t) refl h
+pub unrefused : (t a b : List ℕ) (v : Verdict) → judged_of t a b ≡ Shown.Verdict v → Unrefused t a b v
+unfolding judged_of
+unrefused t a b v h = go (is_table t) refl h
   where
     Σ : Alphabet
-    Σ = alphabetIn t (signalsIn t)
+    Σ = alphabet_in t (signals_in t)
 
-    go : (c : Bool) → isTable t ≡ c
-        → cond c (first_of Shown.Refused (recordingChecks Σ (signalsIn t) a b) (Shown.Verdict (verdictOver (monitorOf t) (completions Σ (signalsIn t) (joinedList a b))))) (Shown.Refused WrongTable) ≡ Shown.Verdict v
+    go : (c : Bool) → is_table t ≡ c
+        → cond c (first_of Shown.Refused (recording_checks Σ (signals_in t) a b) (Shown.Verdict (verdict_over (monitor_of t) (completions Σ (signals_in t) (joined_list a b))))) (Shown.Refused WrongTable) ≡ Shown.Verdict v
         → Unrefused t a b v
     go false e k = refusal-shown WrongTable v k
     go true e k =
-        let all = clear_first (recordingChecks Σ (signalsIn t) a b) _ v k in
-        let each = clear_at (length a / 2) (eventChecks Σ (signalsIn t) a b) all.0.1 in
+        let all = clear_first (recording_checks Σ (signals_in t) a b) _ v k in
+        let each = clear_at (length a / 2) (event_checks Σ (signals_in t) a b) all.0.1 in
         record {
           table = e;
-          lengths = not-false (lengthsFit a b) all.0.0;
+          lengths = not-false (lengths_fit a b) all.0.0;
           fits = λ i l. not-false _ (each i l).0;
           agree = λ i l. (each i l).1.0;
-          some = λ i l. (let z = eqb-false (length (choices Σ (signalsIn t) (joinedAt a b i))) 0 (each i l).1.1.0 in omega (arith, z));
+          some = λ i l. (let z = eqb-false (length (choices Σ (signals_in t) (joined_at a b i))) 0 (each i l).1.1.0 in omega (arith, z));
           answer = cc;
         }
 

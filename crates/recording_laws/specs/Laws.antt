@@ -3,10 +3,10 @@ use Rattle.std.specs.Prelude.{◌≡◌, List, true, ℕ, ◌/◌, ◌<◌, leng
 use Rattle.sequences.specs.Tabulate.{tabulate}
 use Rattle.meaning.specs.Bytes.{bit}
 use Rattle.meaning.specs.Verdicts.{Judged}
-use Rattle.meaning.specs.RuleFiles.{Rule, alphabetOf, propertyOf}
-use Rattle.meaning.specs.TableFiles.{alphabetIn, signalsIn}
+use Rattle.meaning.specs.RuleFiles.{Rule, alphabet_of, property_of}
+use Rattle.meaning.specs.TableFiles.{alphabet_in, signals_in}
 use Rattle.meaning.specs.Runs.{decides, run_of}
-use Rattle.meaning.specs.Recordings.{seen_at, knows, joinedAt, joinedList, Completion}
+use Rattle.meaning.specs.Recordings.{seen_at, knows, joined_at, joined_list, Completion}
 use Rattle.meaning.specs.declared.Verdict.{Verdict}
 use Rattle.meaning.specs.declared.Seen.{Seen}
 use Rattle.meaning.specs.declared.Ran.{Ran}
@@ -20,23 +20,23 @@ EndsWith (Ran.Refused x) v = ⊥
 -- "Satisfied, violated or moot is answered exactly if every completion's run ends with it; else undecided": v is answered
 pub record AnswerRight (t a b : List ℕ) (v : Verdict) : Type 0 where
   -- there is a completion
-  pub some : (w : List ℕ) × Completion (alphabetIn t (signalsIn t)) (signalsIn t) (joinedList a b) w
-  pub ends : decides v ≡ true → (w : List ℕ) → Completion (alphabetIn t (signalsIn t)) (signalsIn t) (joinedList a b) w → EndsWith (run_of t 0 w) v
-  pub only : (u : Verdict) → decides u ≡ true → ((w : List ℕ) → Completion (alphabetIn t (signalsIn t)) (signalsIn t) (joinedList a b) w → EndsWith (run_of t 0 w) u) → v ≡ u
+  pub some : (w : List ℕ) × Completion (alphabet_in t (signals_in t)) (signals_in t) (joined_list a b) w
+  pub ends : decides v ≡ true → (w : List ℕ) → Completion (alphabet_in t (signals_in t)) (signals_in t) (joined_list a b) w → EndsWith (run_of t 0 w) v
+  pub only : (u : Verdict) → decides u ≡ true → ((w : List ℕ) → Completion (alphabet_in t (signals_in t)) (signals_in t) (joined_list a b) w → EndsWith (run_of t 0 w) u) → v ≡ u
 
 -- with a built table violated is answered exactly if every completion's list is judged violated by demand 2, and so for the others
 pub record BuiltAnswer (r : Rule) (a b : List ℕ) (v : Verdict) : Type 0 where
-  pub some : (w : List ℕ) × Completion (alphabetOf r) r.signals (joinedList a b) w
-  pub judged : decides v ≡ true → (w : List ℕ) → Completion (alphabetOf r) r.signals (joinedList a b) w → Judged (alphabetOf r) (propertyOf r) w v
-  pub only : (u : Verdict) → decides u ≡ true → ((w : List ℕ) → Completion (alphabetOf r) r.signals (joinedList a b) w → Judged (alphabetOf r) (propertyOf r) w u) → v ≡ u
+  pub some : (w : List ℕ) × Completion (alphabet_of r) r.signals (joined_list a b) w
+  pub judged : decides v ≡ true → (w : List ℕ) → Completion (alphabet_of r) r.signals (joined_list a b) w → Judged (alphabet_of r) (property_of r) w v
+  pub only : (u : Verdict) → decides u ≡ true → ((w : List ℕ) → Completion (alphabet_of r) r.signals (joined_list a b) w → Judged (alphabet_of r) (property_of r) w u) → v ≡ u
 
 -- nothing is unknown: one of the two knows each of the P signals, at each event
 abbrev pub NothingUnknown : ℕ → List ℕ → List ℕ → Type 0
-NothingUnknown P a b = (i : ℕ) → i < length a / 2 → (s : ℕ) → s < P → knows (joinedAt a b i) s ≡ true
+NothingUnknown P a b = (i : ℕ) → i < length a / 2 → (s : ℕ) → s < P → knows (joined_at a b i) s ≡ true
 
 -- the events that were recorded then
-abbrev pub recordedEvents : List ℕ → List ℕ → List ℕ
-recordedEvents a b = tabulate (length a / 2) (λ i. (joinedAt a b i).values)
+abbrev pub recorded_events : List ℕ → List ℕ → List ℕ
+recorded_events a b = tabulate (length a / 2) (λ i. (joined_at a b i).values)
 
 -- what one recorded event knows of the P signals, another knows too, with the same values
 abbrev pub KnowsMore : ℕ → Seen → Seen → Type 0

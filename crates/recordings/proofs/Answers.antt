@@ -6,10 +6,10 @@ use Prim.Native.Nat.{ℕ, zero, suc, ◌<◌}
 use native.Mathlib.Omega.{arith}
 use lib.ListN.{length, get_or}
 use Rattle.sequences.specs.Tabulate.{every}
-use Rattle.meaning.specs.Traces.{Alphabet, isEvent, Word}
-use Rattle.meaning.specs.TableFiles.{isTable, alphabetIn, signalsIn, statesIn, checkedOf}
-use Rattle.meaning.specs.Runs.{countsFit, onTable}
-use Rattle.meaning.specs.Recordings.{joinedList, completions, judgedIn, judgedOf}
+use Rattle.meaning.specs.Traces.{Alphabet, is_event, Word}
+use Rattle.meaning.specs.TableFiles.{is_table, alphabet_in, signals_in, states_in, checked_of}
+use Rattle.meaning.specs.Runs.{counts_fit, on_table}
+use Rattle.meaning.specs.Recordings.{joined_list, completions, judged_in, judged_of}
 use Rattle.meaning.specs.declared.Refusal.{Refusal}
 use Rattle.meaning.specs.declared.Refusal.TheVariants.{WrongTable}
 use Rattle.meaning.specs.declared.Checked.TheVariants as Checked
@@ -19,33 +19,33 @@ use Rattle.table_layout.proofs.Form.{event-test, table-counts, table-header, sta
 use Rattle.table_run.proofs.Answers.{found, on-way}
 use Rattle.completions.proofs.Members.{complete-all, completion-word}
 
-word-events : (Σ : Alphabet) (w : List ℕ) → Word Σ w → (i : ℕ) → i < length w → isEvent Σ (get_or w i 0) ≡ true
+word-events : (Σ : Alphabet) (w : List ℕ) → Word Σ w → (i : ℕ) → i < length w → is_event Σ (get_or w i 0) ≡ true
 word-events Σ [] h i l = absurd (omega arith)
 word-events Σ (e ∷ w) h zero l = event-test Σ e h.0
 word-events Σ (e ∷ w) h (suc i) l = word-events Σ w h.1 i (omega arith)
 
 module _ (t a b : List ℕ) where
   -- no completion of a table leaves it
-  stays : (h : isTable t ≡ true)
-      → every (map (onTable t (signalsIn t) (statesIn t) 0) (completions (alphabetIn t (signalsIn t)) (signalsIn t) (joinedList a b))) ≡ true
+  stays : (h : is_table t ≡ true)
+      → every (map (on_table t (signals_in t) (states_in t) 0) (completions (alphabet_in t (signals_in t)) (signals_in t) (joined_list a b))) ≡ true
   stays h =
-      complete-all (alphabetIn t (signalsIn t)) (signalsIn t) (onTable t (signalsIn t) (statesIn t) 0) (joinedList a b)
+      complete-all (alphabet_in t (signals_in t)) (signals_in t) (on_table t (signals_in t) (states_in t) 0) (joined_list a b)
       (λ w c. on-way t h 0 w (states-some t (table-header t h))
-      (word-events (alphabetIn t (signalsIn t)) w (completion-word (alphabetIn t (signalsIn t)) (signalsIn t) (joinedList a b) w c)))
+      (word-events (alphabet_in t (signals_in t)) w (completion-word (alphabet_in t (signals_in t)) (signals_in t) (joined_list a b) w c)))
 
-  pub judged-table : (Q R : ℕ) → checkedOf t ≡ Checked.Table Q R → judgedIn t Q R a b ≡ judgedOf t a b
-  unfolding judgedIn judgedOf
+  pub judged-table : (Q R : ℕ) → checked_of t ≡ Checked.Table Q R → judged_in t Q R a b ≡ judged_of t a b
+  unfolding judged_in judged_of
   judged-table Q R e = let f = found t Q R e in rw (f.signals, f.states, f.table, table-counts t f.table, stays f.table)
 
   -- counts that fit no table
-  pub judged-none : (Q R : ℕ) → countsFit t Q R ≡ false → judgedIn t Q R a b ≡ Shown.Refused WrongTable
-  unfolding judgedIn
+  pub judged-none : (Q R : ℕ) → counts_fit t Q R ≡ false → judged_in t Q R a b ≡ Shown.Refused WrongTable
+  unfolding judged_in
   judged-none Q R e = rw e
 
-  pub judged-refused : (x : Refusal) → checkedOf t ≡ Checked.Refused x → judgedOf t a b ≡ Shown.Refused WrongTable
-  unfolding judgedOf
-  judged-refused x e = go (isTable t) refl e
+  pub judged-refused : (x : Refusal) → checked_of t ≡ Checked.Refused x → judged_of t a b ≡ Shown.Refused WrongTable
+  unfolding judged_of
+  judged-refused x e = go (is_table t) refl e
     where
-      go : (c : Bool) → isTable t ≡ c → cond c (Checked.Table (signalsIn t) (statesIn t)) (Checked.Refused WrongTable) ≡ Checked.Refused x → judgedOf t a b ≡ Shown.Refused WrongTable
+      go : (c : Bool) → is_table t ≡ c → cond c (Checked.Table (signals_in t) (states_in t)) (Checked.Refused WrongTable) ≡ Checked.Refused x → judged_of t a b ≡ Shown.Refused WrongTable
       go true p q = let z : ◌≡◌ {A = ℕ} 0 1 = cc in absurd (omega arith)
       go false p q = rw p

@@ -1,7 +1,7 @@
 -- What hearing one event of two recordings says. The table is t, over P signals and with S states.
 use Rattle.std.specs.Prelude.{◌≡◌, List, Bool, ℕ, ◌≤◌, length}
-use Rattle.meaning.specs.TableFiles.{alphabetIn}
-use Rattle.meaning.specs.Recordings.{choices, joinedAt, eventChecks}
+use Rattle.meaning.specs.TableFiles.{alphabet_in}
+use Rattle.meaning.specs.Recordings.{choices, joined_at, event_checks}
 use Rattle.meaning.specs.declared.Refusal.TheVariants.{WrongTable, WrongEvent}
 use Rattle.meaning.specs.declared.Seen.{Seen}
 use Rattle.meaning.specs.declared.Shown.{Shown}
@@ -12,15 +12,15 @@ use Rattle.recordings.specs.declared.Hearing.TheVariants as Hearing
 
 -- what hearing a joined event with index i says
 abbrev pub HearsJoined : List ℕ → ℕ → ℕ → Seen → ℕ → List Bool → List Bool → Hearing → Type 0
-HearsJoined t P S r i old new (Hearing.Heard ok) = (1 ≤ length (choices (alphabetIn t P) P r)) × Steps t P S r old new ok
-HearsJoined t P S r i old new (Hearing.Refused x) = (length (choices (alphabetIn t P) P r) ≡ 0) × (x ≡ WrongEvent i)
+HearsJoined t P S r i old new (Hearing.Heard ok) = (1 ≤ length (choices (alphabet_in t P) P r)) × Steps t P S r old new ok
+HearsJoined t P S r i old new (Hearing.Refused x) = (length (choices (alphabet_in t P) P r) ≡ 0) × (x ≡ WrongEvent i)
 
 -- and what hearing the events of two recordings with index i says
 abbrev pub Hears : List ℕ → ℕ → ℕ → List ℕ → List ℕ → ℕ → List Bool → List Bool → Hearing → Type 0
-Hears t P S a b i old new (Hearing.Heard ok) = Cleared (eventChecks (alphabetIn t P) P a b i) × Steps t P S (joinedAt a b i) old new ok
-Hears t P S a b i old new (Hearing.Refused x) = Fault (eventChecks (alphabetIn t P) P a b i) x
+Hears t P S a b i old new (Hearing.Heard ok) = Cleared (event_checks (alphabet_in t P) P a b i) × Steps t P S (joined_at a b i) old new ok
+Hears t P S a b i old new (Hearing.Refused x) = Fault (event_checks (alphabet_in t P) P a b i) x
 
 -- the refusal of an event, handed on
-abbrev pub handedOn : Hearing → Shown
-handedOn (Hearing.Heard ok) = Shown.Refused WrongTable
-handedOn (Hearing.Refused x) = Shown.Refused x
+abbrev pub handed_on : Hearing → Shown
+handed_on (Hearing.Heard ok) = Shown.Refused WrongTable
+handed_on (Hearing.Refused x) = Shown.Refused x

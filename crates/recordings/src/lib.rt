@@ -1,10 +1,10 @@
 // Two recordings with gaps, joined and judged over all completions: one pass with the set of the states that completions reach.
 ghost use Rattle.std.specs.Prelude.{◌≡◌, true, ◌+◌, ◌*◌, ◌^◌, ◌≤◌, ◌<◌, length};
 ghost use Rattle.table_layout.specs.Masks.{MaskIn};
-ghost use Rattle.meaning.specs.Runs.{countsFit};
-ghost use Rattle.meaning.specs.Recordings.{lengthsFit, judgedIn};
-ghost use Rattle.completions.specs.Passing.{concluded, eventsJudged};
-ghost use Rattle.recordings.specs.Hearings.{HearsJoined, Hears, handedOn};
+ghost use Rattle.meaning.specs.Runs.{counts_fit};
+ghost use Rattle.meaning.specs.Recordings.{lengths_fit, judged_in};
+ghost use Rattle.completions.specs.Passing.{concluded, events_judged};
+ghost use Rattle.recordings.specs.Hearings.{HearsJoined, Hears, handed_on};
 
 use meaning::{Refusal, Seen, Shown, Verdict};
 use recorded_events::{choices_of, contradicts, joined, seen_at, seen_fits};
@@ -71,7 +71,7 @@ fn hear(
 
 // The refusal of an event, handed on.
 fn handed_on(heard: Hearing) -> Shown
-    ensures { result ≡ handedOn heard }
+    ensures { result ≡ handed_on heard }
 {
     match heard {
         Hearing::Heard(_) => Shown::Refused(Refusal::WrongTable),
@@ -101,8 +101,8 @@ fn conclude(t: &[u8], signals: u8, states: u16, members: &[bool; 256], inside: b
 
 // The pass over the events, of two recordings of one even length.
 fn judge_events(t: &[u8], signals: u8, states: u16, a: &[u8], b: &[u8]) -> Shown
-    requires { (countsFit t.now signals states ≡ true) × (lengthsFit a.now b.now ≡ true) }
-    ensures { result ≡ eventsJudged t.now signals states a.now b.now }
+    requires { (counts_fit t.now signals states ≡ true) × (lengths_fit a.now b.now ≡ true) }
+    ensures { result ≡ events_judged t.now signals states a.now b.now }
 {
     let mask = possible_mask(t, signals);
     let count = a.len() / 2;
@@ -122,14 +122,14 @@ fn judge_events(t: &[u8], signals: u8, states: u16, a: &[u8], b: &[u8]) -> Shown
 
 // Whether two recordings have one even length.
 fn lengths_fit(a: &[u8], b: &[u8]) -> bool
-    ensures { result ≡ lengthsFit a.now b.now }
+    ensures { result ≡ lengths_fit a.now b.now }
 {
     (a.len() == b.len()) & (a.len() % 2 == 0)
 }
 
 // Judges two recordings over bytes and counts: 14 for counts and length; 22; event by event 12, 23 and 12; and 14 where the way of a completion leaves the table.
 pub fn judge_in(t: &[u8], signals: u8, states: u16, a: &[u8], b: &[u8]) -> Shown
-    ensures { result ≡ judgedIn t.now signals states a.now b.now }
+    ensures { result ≡ judged_in t.now signals states a.now b.now }
 {
     if counts_fit(t, signals, states) {
         if lengths_fit(a, b) {

@@ -8,11 +8,11 @@ use native.Mathlib.Omega.{arith}
 use lib.ListN.{get_or, set}
 use lib.Seq.{get_or-set_other}
 use borrow.Author.Tests.{eq-eqb}
-use Rattle.sequences.specs.Tabulate.{leastBelow}
+use Rattle.sequences.specs.Tabulate.{least_below}
 use Rattle.sequences.proofs.Loops.{Filled, filled-length}
 use Rattle.sequences.proofs.Pointwise.{tabulate-same, all_same, least-same}
 use Rattle.meaning.specs.Traces.{Alphabet}
-use Rattle.moore.specs.Grouping.{entry, together, sameStep, firstGroups, nextGroups, sameBelow, rounds, grouping}
+use Rattle.moore.specs.Grouping.{entry, together, same_step, first_groups, next_groups, same_below, rounds, grouping}
 use Rattle.group_slots.specs.Groups.{unmasked, RowsBelow}
 use Rattle.refinement.specs.Rows.{Column, Cleared}
 use Rattle.refinement.proofs.Laws.{filled-take, taken_at}
@@ -71,24 +71,24 @@ module _ {Σ : Alphabet} {n : ℕ} {rows rows' : List (List ℕ)} (h : Cleared �
         go true = refl
         go false = eq-eqb (get_or group 0 0) (get_or group 0 0) refl
 
-    step-cleared : (j i : ℕ) → j < n → i < n → sameStep (unmasked Σ.width) rows' group j i ≡ sameStep Σ rows group j i
+    step-cleared : (j i : ℕ) → j < n → i < n → same_step (unmasked Σ.width) rows' group j i ≡ same_step Σ rows group j i
     step-cleared j i l m =
         ap (λ (b : Bool). cond (together group j i) b false)
         (all_same Σ.width (λ e. together group (entry rows' j e) (entry rows' i e)) (λ e. cond (Σ.possible e) (together group (entry rows j e) (entry rows i e)) true) (λ e. joined-cleared j i e l m))
 
-    next-cleared : nextGroups (unmasked Σ.width) n rows' group ≡ nextGroups Σ n rows group
-    unfolding nextGroups
-    next-cleared = tabulate-same n (λ i. leastBelow i (λ j. sameStep (unmasked Σ.width) rows' group j i)) (λ i. leastBelow i (λ j. sameStep Σ rows group j i))
-        (λ i l. least-same i (λ j. sameStep (unmasked Σ.width) rows' group j i) (λ j. sameStep Σ rows group j i) (λ j m. step-cleared j i (omega arith) l))
+    next-cleared : next_groups (unmasked Σ.width) n rows' group ≡ next_groups Σ n rows group
+    unfolding next_groups
+    next-cleared = tabulate-same n (λ i. least_below i (λ j. same_step (unmasked Σ.width) rows' group j i)) (λ i. least_below i (λ j. same_step Σ rows group j i))
+        (λ i l. least-same i (λ j. same_step (unmasked Σ.width) rows' group j i) (λ j. same_step Σ rows group j i) (λ j m. step-cleared j i (omega arith) l))
 
   rounds-cleared : (k : ℕ) (group : List ℕ) → rounds k (unmasked Σ.width) n rows' group ≡ rounds k Σ n rows group
   unfolding rounds
   rounds-cleared zero group = refl
   rounds-cleared (suc k) group =
-      let next = nextGroups Σ n rows group in
-      ap (λ (x : List ℕ). cond (sameBelow n x group) group (rounds k (unmasked Σ.width) n rows' x)) (next-cleared group)
-      ∙ ap (λ (x : List ℕ). cond (sameBelow n next group) group x) (rounds-cleared k next)
+      let next = next_groups Σ n rows group in
+      ap (λ (x : List ℕ). cond (same_below n x group) group (rounds k (unmasked Σ.width) n rows' x)) (next-cleared group)
+      ∙ ap (λ (x : List ℕ). cond (same_below n next group) group x) (rounds-cleared k next)
 
   pub grouping-cleared : (classes : List ℕ) → grouping (unmasked Σ.width) n rows' classes ≡ grouping Σ n rows classes
   unfolding grouping
-  grouping-cleared classes = rounds-cleared n (firstGroups n classes)
+  grouping-cleared classes = rounds-cleared n (first_groups n classes)

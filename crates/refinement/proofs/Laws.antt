@@ -6,11 +6,11 @@ use Prim.Native.Nat.{ℕ, ◌≤◌, ◌<◌}
 use native.Mathlib.Omega.{arith}
 use lib.ListN.{get_or, take, drop}
 use lib.Seq.{take_at, get_or-take, get_or-append-add, get_or-drop}
-use Rattle.sequences.specs.Tabulate.{tabulate, leastBelow}
-use Rattle.sequences.proofs.Loops.{Filled, filled-to, length-tab, getD-tab}
+use Rattle.sequences.specs.Tabulate.{tabulate, least_below}
+use Rattle.sequences.proofs.Loops.{Filled, filled-to, length-tab, get_d-tab}
 use Rattle.sequences.proofs.Pigeonhole.{least-below}
 use Rattle.meaning.specs.Traces.{Alphabet}
-use Rattle.moore.specs.Grouping.{together, sameStep, firstGroups, nextGroups}
+use Rattle.moore.specs.Grouping.{together, same_step, first_groups, next_groups}
 use Rattle.group_slots.specs.Groups.{Least}
 
 -- ---- a list that a loop filled
@@ -19,7 +19,7 @@ module _ {A : Type 0} where
   filled-take n {f = f} {d} h e = ap (take n) (filled-to n h e) ∙ take_at (tabulate n f) (drop n d) n (length-tab n f)
 
   pub taken_at : (n : ℕ) (s : List A) (f : ℕ → A) → take n s ≡ tabulate n f → (i : ℕ) (z : A) → i < n → get_or s i z ≡ f i
-  taken_at n s f h i z l = sym (get_or-take n s i z l) ∙ ap (λ (t : List A). get_or t i z) h ∙ getD-tab n f i z l
+  taken_at n s f h i z l = sym (get_or-take n s i z l) ∙ ap (λ (t : List A). get_or t i z) h ∙ get_d-tab n f i z l
 
   -- element n is not reached yet
   pub filled_next : {n : ℕ} {f : ℕ → A} {d s : List A} (z : A) → Filled n f d s → get_or s n z ≡ get_or d n z
@@ -31,13 +31,13 @@ module _ {A : Type 0} where
       ∙ ap (λ (k : ℕ). get_or d k z) (omega arith)
 
 -- ---- the names of groups
-least-le : (n : ℕ) (p : ℕ → Bool) → leastBelow n p ≤ n
+least-le : (n : ℕ) (p : ℕ → Bool) → least_below n p ≤ n
 least-le n p = (least-below n p).bound
 
-pub next-least : (Σ : Alphabet) (n : ℕ) (rows : List (List ℕ)) (group next : List ℕ) → take n next ≡ nextGroups Σ n rows group → Least n next
-unfolding nextGroups
-next-least Σ n rows group next h = record { least = λ i l. subst (λ (x : ℕ). x ≤ i) (sym (taken_at n next (λ i. leastBelow i (λ j. sameStep Σ rows group j i)) h i 0 l)) (least-le i (λ j. sameStep Σ rows group j i)) }
+pub next-least : (Σ : Alphabet) (n : ℕ) (rows : List (List ℕ)) (group next : List ℕ) → take n next ≡ next_groups Σ n rows group → Least n next
+unfolding next_groups
+next-least Σ n rows group next h = record { least = λ i l. subst (λ (x : ℕ). x ≤ i) (sym (taken_at n next (λ i. least_below i (λ j. same_step Σ rows group j i)) h i 0 l)) (least-le i (λ j. same_step Σ rows group j i)) }
 
-pub first-least : (n : ℕ) (classes first : List ℕ) → take n first ≡ firstGroups n classes → Least n first
-unfolding firstGroups
-first-least n classes first h = record { least = λ i l. subst (λ (x : ℕ). x ≤ i) (sym (taken_at n first (λ i. leastBelow i (λ j. together classes j i)) h i 0 l)) (least-le i (λ j. together classes j i)) }
+pub first-least : (n : ℕ) (classes first : List ℕ) → take n first ≡ first_groups n classes → Least n first
+unfolding first_groups
+first-least n classes first h = record { least = λ i l. subst (λ (x : ℕ). x ≤ i) (sym (taken_at n first (λ i. least_below i (λ j. together classes j i)) h i 0 l)) (least-le i (λ j. together classes j i)) }

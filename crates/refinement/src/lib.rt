@@ -1,10 +1,10 @@
 // Rounds that split the groups of a machine's states until none splits: those left together are those that no word tells apart. A group is named by
 // its least state. The rounds take every event as one that can happen; those that cannot are led to one state first.
 ghost use Rattle.std.specs.Prelude.{◌≡◌, List, ℕ, ◌≤◌, ◌<◌, length, replicate, take, eqb};
-ghost use Rattle.sequences.specs.Tabulate.{leastBelow};
+ghost use Rattle.sequences.specs.Tabulate.{least_below};
 ghost use Rattle.meaning.specs.Bytes.{bit};
 ghost use Rattle.meaning.specs.Traces.{masked};
-ghost use Rattle.moore.specs.Grouping.{together, firstGroups, nextGroups, sameBelow, rounds, grouping};
+ghost use Rattle.moore.specs.Grouping.{together, first_groups, next_groups, same_below, rounds, grouping};
 ghost use Rattle.group_slots.specs.Groups.{unmasked, RowsBelow, Least};
 ghost use Rattle.refinement.specs.Rows.{Column, Cleared};
 
@@ -23,7 +23,7 @@ fn no_slots() -> [u8; 1024]
 fn round(rows: &[[u8; 16]; 256], group: &[u8; 256], states: usize, events: usize) -> [u8; 256]
     requires events_bound { (events ≤ 16) × (states ≤ 256) }
     requires least { Least states group.now }
-    ensures { take states result ≡ nextGroups (unmasked events) states rows.now group.now }
+    ensures { take states result ≡ next_groups (unmasked events) states rows.now group.now }
 {
     let mut next = [0u8; 256];
     let mut slots = no_slots();
@@ -42,7 +42,7 @@ fn round(rows: &[[u8; 16]; 256], group: &[u8; 256], states: usize, events: usize
 // Whether a round changed nothing.
 fn same_groups(a: &[u8; 256], b: &[u8; 256], states: usize) -> bool
     requires { states ≤ 256 }
-    ensures { result ≡ sameBelow states a.now b.now }
+    ensures { result ≡ same_below states a.now b.now }
 {
     let mut i: usize = 0;
     while i < states {
@@ -77,7 +77,7 @@ fn refined(rows: &[[u8; 16]; 256], first: [u8; 256], states: usize, events: usiz
 // The least state that has a state's class.
 fn least_of_class(classes: &[u8; 256], i: usize) -> u8
     requires { i < 256 }
-    ensures { result ≡ leastBelow i (λ k. together classes.now k i) }
+    ensures { result ≡ least_below i (λ k. together classes.now k i) }
 {
     let mut k: usize = 0;
     while k < i {
@@ -92,7 +92,7 @@ fn least_of_class(classes: &[u8; 256], i: usize) -> u8
 // Each state with the least of its class.
 fn first_groups(classes: &[u8; 256], states: usize) -> [u8; 256]
     requires { states ≤ 256 }
-    ensures { take states result ≡ firstGroups states classes.now }
+    ensures { take states result ≡ first_groups states classes.now }
 {
     let mut group = [0u8; 256];
     let mut i: usize = 0;

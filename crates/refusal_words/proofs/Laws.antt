@@ -12,23 +12,23 @@ use lib.ListN.{length, get_or-eq_default}
 use borrow.Author.Tests.{leb-true}
 use Rattle.text_pieces.specs.Put.{Put}
 use Rattle.text_pieces.proofs.Laws.{put-none, put_is}
-use Rattle.refusal_words.specs.Words.{sentences, wordsFor}
+use Rattle.refusal_words.specs.Words.{sentences, words_for}
 
-pub said : {d vs s : List ℕ} {j : ℕ} (n k : ℕ) → n ≡ k → vs ≡ wordsFor k → leb (length vs) 120 ≡ true
-    → Put d 0 vs s j → Put d 0 (wordsFor n) s j × (j ≤ 120)
+pub said : {d vs s : List ℕ} {j : ℕ} (n k : ℕ) → n ≡ k → vs ≡ words_for k → leb (length vs) 120 ≡ true
+    → Put d 0 vs s j → Put d 0 (words_for n) s j × (j ≤ 120)
 said {vs = vs} n k e w l h =
-    (put_is h (wordsFor n) (w ∙ ap wordsFor (sym e)), omega (arith, leb-true (length vs) 120 l, h.next))
+    (put_is h (words_for n) (w ∙ ap words_for (sym e)), omega (arith, leb-true (length vs) 120 l, h.next))
 
-unsaid : {d : List ℕ} (n : ℕ) → wordsFor n ≡ [] → Put d 0 (wordsFor n) d 0 × (0 ≤ 120)
-unsaid n e = (put_is (put-none refl) (wordsFor n) (sym e), omega arith)
+unsaid : {d : List ℕ} (n : ℕ) → words_for n ≡ [] → Put d 0 (words_for n) d 0 × (0 ≤ 120)
+unsaid n e = (put_is (put-none refl) (words_for n) (sym e), omega arith)
 
-pub no_zero : {d : List ℕ} (n : ℕ) → n < 1 → Put d 0 (wordsFor n) d 0 × (0 ≤ 120)
+pub no_zero : {d : List ℕ} (n : ℕ) → n < 1 → Put d 0 (words_for n) d 0 × (0 ≤ 120)
 unfolding sentences
 no_zero n l =
     let e : n ≡ 0 = omega arith in
-    unsaid n (ap wordsFor e)
+    unsaid n (ap words_for e)
 
-pub no_more : {d : List ℕ} (n : ℕ) → 25 ≤ n → Put d 0 (wordsFor n) d 0 × (0 ≤ 120)
+pub no_more : {d : List ℕ} (n : ℕ) → 25 ≤ n → Put d 0 (words_for n) d 0 × (0 ≤ 120)
 unfolding sentences
 no_more n l = unsaid n (get_or-eq_default sentences [] l)
 

@@ -4,7 +4,7 @@ use Rattle.meaning.specs.Bytes.{ascii}
 use Rattle.meaning.specs.Refusals.{code_of}
 use Rattle.meaning.specs.declared.Refusal.{Refusal}
 use Rattle.meaning.specs.declared.Refusal.TheVariants.{ShortOutput}
-use Rattle.text_pieces.specs.Put.{atFront}
+use Rattle.text_pieces.specs.Put.{at_front}
 use Rattle.text_pieces.specs.declared.Text.{Text}
 use Rattle.text_pieces.specs.declared.Text.TheVariants as Text
 
@@ -38,17 +38,17 @@ sentences =
     ∷ ascii "the state, or this watch of the desk, is of another opening: hand it to the one it came from"
     ∷ []
 
-abbrev pub wordsFor : ℕ → List ℕ
-wordsFor number = get_or sentences number []
+abbrev pub words_for : ℕ → List ℕ
+words_for number = get_or sentences number []
 
 -- as a line
 abbrev pub words_of : Refusal → List ℕ
-words_of r = wordsFor (code_of r).0 ++ (10 ∷ [])
+words_of r = words_for (code_of r).0 ++ (10 ∷ [])
 
 -- the answer: 10 where the output has fewer than 128 bytes, in which the words of every refusal fit
-abbrev pub wordsAnswer : Refusal → List ℕ → Text
-wordsAnswer r out = cond (leb 128 (length out)) (Text.Written (length (words_of r))) (Text.Refused ShortOutput)
+abbrev pub words_answer : Refusal → List ℕ → Text
+words_answer r out = cond (leb 128 (length out)) (Text.Written (length (words_of r))) (Text.Refused ShortOutput)
 
 -- the output then: on a refusal "Lent buffers keep every byte"
-abbrev pub wordsAfter : Refusal → List ℕ → List ℕ
-wordsAfter r out = cond (leb 128 (length out)) (atFront (words_of r) out) out
+abbrev pub words_after : Refusal → List ℕ → List ℕ
+words_after r out = cond (leb 128 (length out)) (at_front (words_of r) out) out

@@ -1,7 +1,7 @@
 // A refusal in words: what is wrong, and what to do.
 ghost use Rattle.std.specs.Prelude.{◌≡◌, ◌≤◌, length};
 ghost use Rattle.text_pieces.specs.Put.{Put};
-ghost use Rattle.refusal_words.specs.Words.{wordsFor, wordsAnswer, wordsAfter};
+ghost use Rattle.refusal_words.specs.Words.{words_for, words_answer, words_after};
 
 use meaning::Refusal;
 use text_pieces::{Text, put_bytes};
@@ -10,7 +10,7 @@ use text_pieces::{Text, put_bytes};
 
 fn put_1_to_6(out: &mut [u8], number: u8) -> usize
     requires { (1 ≤ number) × (number ≤ 6) × (120 ≤ length out.old) }
-    ensures put { Put out.old 0 (wordsFor number) out.new result }
+    ensures put { Put out.old 0 (words_for number) out.new result }
     ensures upper_bound { result ≤ 120 }
 {
     match number {
@@ -41,7 +41,7 @@ fn put_1_to_6(out: &mut [u8], number: u8) -> usize
 
 fn put_7_to_12(out: &mut [u8], number: u8) -> usize
     requires { (7 ≤ number) × (number ≤ 12) × (120 ≤ length out.old) }
-    ensures put { Put out.old 0 (wordsFor number) out.new result }
+    ensures put { Put out.old 0 (words_for number) out.new result }
     ensures upper_bound { result ≤ 120 }
 {
     match number {
@@ -80,7 +80,7 @@ fn put_7_to_12(out: &mut [u8], number: u8) -> usize
 
 fn put_13_to_18(out: &mut [u8], number: u8) -> usize
     requires { (13 ≤ number) × (number ≤ 18) × (120 ≤ length out.old) }
-    ensures put { Put out.old 0 (wordsFor number) out.new result }
+    ensures put { Put out.old 0 (words_for number) out.new result }
     ensures upper_bound { result ≤ 120 }
 {
     match number {
@@ -119,7 +119,7 @@ fn put_13_to_18(out: &mut [u8], number: u8) -> usize
 
 fn put_19_to_24(out: &mut [u8], number: u8) -> usize
     requires { (19 ≤ number) × (number ≤ 24) × (120 ≤ length out.old) }
-    ensures put { Put out.old 0 (wordsFor number) out.new result }
+    ensures put { Put out.old 0 (words_for number) out.new result }
     ensures upper_bound { result ≤ 120 }
 {
     match number {
@@ -159,7 +159,7 @@ fn put_19_to_24(out: &mut [u8], number: u8) -> usize
 // The words of a number, or nothing where it is no refusal's.
 fn put_words(out: &mut [u8], number: u8) -> usize
     requires { 120 ≤ length out.old }
-    ensures put { Put out.old 0 (wordsFor number) out.new result }
+    ensures put { Put out.old 0 (words_for number) out.new result }
     ensures upper_bound { result ≤ 120 }
 {
     match number {
@@ -174,8 +174,8 @@ fn put_words(out: &mut [u8], number: u8) -> usize
 // The refusal's words at the front of the output, with a line end, and their length; or 10 where the output has fewer than
 // 128 bytes, and every byte of it as it was. Bytes past the line end are kept.
 pub fn words(refusal: Refusal, out: &mut [u8]) -> Text
-    ensures answer { result ≡ wordsAnswer refusal out.old }
-    ensures output { out.new ≡ wordsAfter refusal out.old }
+    ensures answer { result ≡ words_answer refusal out.old }
+    ensures output { out.new ≡ words_after refusal out.old }
 {
     if out.len() < 128 {
         return Text::Refused(Refusal::ShortOutput);

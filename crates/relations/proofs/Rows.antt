@@ -63,16 +63,16 @@ module _ (f : ℕ → ℕ) {w n : ℕ} {old m : List ℕ} (h : Added w n (λ x y
   added_more new q = record {
     long = q.long;
     done = λ x y a b c. go x y a b c (ℕ_discrete y w) (ℕ_discrete x x₁);
-    left = λ x y a b c. q.column-else x y (omega arith) (λ e. omega arith) ∙ h.left x y a (omega arith) c;
+    left = λ x y a b c. q.column_else x y (omega arith) (λ e. omega arith) ∙ h.left x y a (omega arith) c;
   }
     where
       go : (x y : ℕ) → x < n → y < w + 1 → y < n → Dec (y ≡ w) → Dec (x ≡ x₁) → entry new x y ≡ or (eqb (f y) x) (entry old x y)
       go x y a b c (yes d) (yes e) =
           ap₂ (entry new) e d ∙ q.there ∙ sym (ap (λ (t : Bool). or t (entry old x y)) (eq-eqb (f y) x (ap f d ∙ sym is ∙ sym e)))
       go x y a b c (yes d) (no e) =
-          q.row-else x y (omega arith) e ∙ h.left x y a (omega arith) c
+          q.row_else x y (omega arith) e ∙ h.left x y a (omega arith) c
           ∙ sym (ap (λ (t : Bool). or t (entry old x y)) (ne_eqb (f y) x (λ g. e (sym g ∙ ap f d ∙ sym is))))
-      go x y a b c (no d) e = q.column-else x y (omega arith) d ∙ h.done x y a (omega arith) c
+      go x y a b c (no d) e = q.column_else x y (omega arith) d ∙ h.done x y a (omega arith) c
 
 pub added-to : {w n : ℕ} {r : ℕ → ℕ → Bool} {old m : List ℕ} → Added w n r old m → (j : ℕ) → w ≡ j → Added j n r old m
 added-to {n = n} {r} {old} {m} h j e = subst (λ (k : ℕ). Added k n r old m) e h

@@ -9,49 +9,49 @@ use lib.Dec.{T}
 use lib.Bits.{bit_or}
 use Rattle.sequences.proofs.Pointwise.{is_true, is_false}
 use Rattle.meaning.specs.Traces.{Alphabet, Event}
-use Rattle.ltl.specs.Sets.{someBelow, everyBelow, unionBelow, someEvent, unionEvents}
+use Rattle.ltl.specs.Sets.{some_below, every_below, union_below, some_event, union_events}
 use Rattle.ltl.proofs.Searches.{→some, every→}
 
 -- none passes so far
 pub record NoneBelow (n : ℕ) (f : ℕ → Bool) : Type 0 where
-  pub is : someBelow n f ≡ false
+  pub is : some_below n f ≡ false
 
 pub none-zero : {f : ℕ → Bool} → NoneBelow 0 f
 none-zero = record { is = refl }
 
 pub none_more : {n : ℕ} {f : ℕ → Bool} → NoneBelow n f → f n ≡ false → NoneBelow (n + 1) f
-none_more {n} {f} h e = record { is = ap (λ (k : ℕ). someBelow k f) (add-one n) ∙ ap (λ (b : Bool). elim b [ true ↦ true | false ↦ someBelow n f ]) e ∙ h.is }
+none_more {n} {f} h e = record { is = ap (λ (k : ℕ). some_below k f) (add-one n) ∙ ap (λ (b : Bool). elim b [ true ↦ true | false ↦ some_below n f ]) e ∙ h.is }
 
-pub none-all : {n : ℕ} {f : ℕ → Bool} → NoneBelow n f → (m : ℕ) → n ≡ m → false ≡ someBelow m f
-none-all {f = f} h m e = sym h.is ∙ ap (λ (k : ℕ). someBelow k f) e
+pub none-all : {n : ℕ} {f : ℕ → Bool} → NoneBelow n f → (m : ℕ) → n ≡ m → false ≡ some_below m f
+none-all {f = f} h m e = sym h.is ∙ ap (λ (k : ℕ). some_below k f) e
 
-pub some-found : (m : ℕ) (f : ℕ → Bool) (i : ℕ) → i < m → f i ≡ true → true ≡ someBelow m f
-some-found m f i h e = sym (is_true (someBelow m f) (→some m f i h (subst T (sym e) tt)))
+pub some-found : (m : ℕ) (f : ℕ → Bool) (i : ℕ) → i < m → f i ≡ true → true ≡ some_below m f
+some-found m f i h e = sym (is_true (some_below m f) (→some m f i h (subst T (sym e) tt)))
 
 -- all pass so far
 pub record AllBelow (n : ℕ) (f : ℕ → Bool) : Type 0 where
-  pub is : everyBelow n f ≡ true
+  pub is : every_below n f ≡ true
 
 pub all-zero : {f : ℕ → Bool} → AllBelow 0 f
 all-zero = record { is = refl }
 
 pub all_more : {n : ℕ} {f : ℕ → Bool} → AllBelow n f → f n ≡ true → AllBelow (n + 1) f
-all_more {n} {f} h e = record { is = ap (λ (k : ℕ). everyBelow k f) (add-one n) ∙ ap (λ (b : Bool). elim b [ true ↦ everyBelow n f | false ↦ false ]) e ∙ h.is }
+all_more {n} {f} h e = record { is = ap (λ (k : ℕ). every_below k f) (add-one n) ∙ ap (λ (b : Bool). elim b [ true ↦ every_below n f | false ↦ false ]) e ∙ h.is }
 
-pub all-all : {n : ℕ} {f : ℕ → Bool} → AllBelow n f → (m : ℕ) → n ≡ m → true ≡ everyBelow m f
-all-all {f = f} h m e = sym h.is ∙ ap (λ (k : ℕ). everyBelow k f) e
+pub all-all : {n : ℕ} {f : ℕ → Bool} → AllBelow n f → (m : ℕ) → n ≡ m → true ≡ every_below m f
+all-all {f = f} h m e = sym h.is ∙ ap (λ (k : ℕ). every_below k f) e
 
-pub not-all : (m : ℕ) (f : ℕ → Bool) (i : ℕ) → i < m → f i ≡ false → false ≡ everyBelow m f
-not-all m f i h e = sym (is_false (everyBelow m f) (λ t. subst T e (every→ m f t i h)))
+pub not-all : (m : ℕ) (f : ℕ → Bool) (i : ℕ) → i < m → f i ≡ false → false ≡ every_below m f
+not-all m f i h e = sym (is_false (every_below m f) (λ t. subst T e (every→ m f t i h)))
 
 -- ---- over the same tests, or the same sets
 
-pub some_same : (n : ℕ) (f g : ℕ → Bool) → ((i : ℕ) → i < n → f i ≡ g i) → someBelow n f ≡ someBelow n g
+pub some_same : (n : ℕ) (f g : ℕ → Bool) → ((i : ℕ) → i < n → f i ≡ g i) → some_below n f ≡ some_below n g
 some_same zero f g h = refl
 some_same (suc n) f g h =
     ap₂ (λ (a b : Bool). elim a [ true ↦ true | false ↦ b ]) (h n (le_refl (suc n))) (some_same n f g (λ i l. h i (omega arith)))
 
-pub union-same : (n : ℕ) (f g : ℕ → ℕ) → ((i : ℕ) → i < n → f i ≡ g i) → unionBelow n f ≡ unionBelow n g
+pub union-same : (n : ℕ) (f g : ℕ → ℕ) → ((i : ℕ) → i < n → f i ≡ g i) → union_below n f ≡ union_below n g
 union-same zero f g h = refl
 union-same (suc n) f g h = ap₂ bit_or (h n (le_refl (suc n))) (union-same n f g (λ i l. h i (omega arith)))
 
@@ -61,12 +61,12 @@ only_same z true h = h tt
 only_same z false h = refl
 
 module _ (Σ : Alphabet) where
-  pub some-event-same : (f g : ℕ → Bool) → ((e : ℕ) → Event Σ e → f e ≡ g e) → someEvent Σ f ≡ someEvent Σ g
+  pub some-event-same : (f g : ℕ → Bool) → ((e : ℕ) → Event Σ e → f e ≡ g e) → some_event Σ f ≡ some_event Σ g
   some-event-same f g h =
       some_same Σ.width (λ e. elim (Σ.possible e) [ true ↦ f e | false ↦ false ]) (λ e. elim (Σ.possible e) [ true ↦ g e | false ↦ false ])
       (λ e l. only_same false (Σ.possible e) (λ t. h e (l, t)))
 
-  pub union-events-same : (f g : ℕ → ℕ) → ((e : ℕ) → Event Σ e → f e ≡ g e) → unionEvents Σ f ≡ unionEvents Σ g
+  pub union-events-same : (f g : ℕ → ℕ) → ((e : ℕ) → Event Σ e → f e ≡ g e) → union_events Σ f ≡ union_events Σ g
   union-events-same f g h =
       union-same Σ.width (λ e. elim (Σ.possible e) [ true ↦ f e | false ↦ 0 ]) (λ e. elim (Σ.possible e) [ true ↦ g e | false ↦ 0 ])
       (λ e l. only_same 0 (Σ.possible e) (λ t. h e (l, t)))

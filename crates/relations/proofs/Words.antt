@@ -12,7 +12,7 @@ use lib.Bits.{bit_or}
 use Rattle.sequences.proofs.Pointwise.{is_true, is_false}
 use Rattle.ltl.specs.Sets.{on}
 use Rattle.ltl.proofs.Sets.{on-zero, on_or, single-in, in-single}
-use Rattle.relations.specs.Relations.{entry, MarkedAt, onlyIf, in_words, RowPassed}
+use Rattle.relations.specs.Relations.{entry, MarkedAt, only_if, in_words, RowPassed}
 
 -- the remainder by one subtraction
 pub mod-once : (p n : ℕ) → n ≤ p → p - n < n → p - n ≡ p % n
@@ -26,7 +26,7 @@ joined_in A B i e = on_or A B i ∙ ap (λ (b : Bool). b || on B i) e
 joined-out : (A B i : ℕ) → on A i ≡ false → on (bit_or A B) i ≡ on B i
 joined-out A B i e = on_or A B i ∙ ap (λ (b : Bool). b || on B i) e
 
-joined-if : (test : Bool) (W w o i : ℕ) → W ≡ onlyIf test w → on (bit_or W o) i ≡ elim test [ true ↦ on w i || on o i | false ↦ on o i ]
+joined-if : (test : Bool) (W w o i : ℕ) → W ≡ only_if test w → on (bit_or W o) i ≡ elim test [ true ↦ on w i || on o i | false ↦ on o i ]
 joined-if true W w o i e = on_or W o i ∙ ap (λ (A : ℕ). on A i || on o i) e
 joined-if false W w o i e = joined-out W o i (ap (λ (A : ℕ). on A i) e ∙ on-zero i)
 
@@ -52,8 +52,8 @@ module _ (m : List ℕ) (x y word : ℕ) (long : length m ≡ 256) (a : x < 128)
   marked-at = record {
     long = length-set m at (bit_or word (get_or m at 0)) ∙ long;
     there = ap (λ (A : ℕ). on A (y % 64)) word_at ∙ joined_in word (get_or m at 0) (y % 64) bit-here;
-    row-else = λ v z l n. ap (λ (A : ℕ). on A (z % 64)) (get_or-set_other m at (2 * v + z / 64) (bit_or word (get_or m at 0)) 0 (λ e. n (omega arith)));
-    column-else = λ v z l n. go v z l n (ℕ_discrete (2 * v + z / 64) at);
+    row_else = λ v z l n. ap (λ (A : ℕ). on A (z % 64)) (get_or-set_other m at (2 * v + z / 64) (bit_or word (get_or m at 0)) 0 (λ e. n (omega arith)));
+    column_else = λ v z l n. go v z l n (ℕ_discrete (2 * v + z / 64) at);
   }
     where
       go : (v z : ℕ) → z < 128 → (z ≡ y → ⊥) → Dec (2 * v + z / 64 ≡ at) → entry with v z ≡ entry m v z
@@ -73,7 +73,7 @@ words_of m k y l = go (y / 64) (omega arith)
     go (suc zero) h = refl
     go (suc (suc d)) h = absurd (omega arith)
 
-module _ (test : Bool) (a b x A B : ℕ) (m : List ℕ) (long : length m ≡ 256) (l : x < 128) (p : A ≡ onlyIf test a) (q : B ≡ onlyIf test b) where
+module _ (test : Bool) (a b x A B : ℕ) (m : List ℕ) (long : length m ≡ 256) (l : x < 128) (p : A ≡ only_if test a) (q : B ≡ only_if test b) where
   abbrev first : List ℕ
   first = set m (2 * x) (bit_or A (get_or m (2 * x) 0))
 

@@ -1,7 +1,7 @@
 -- A relation between labels, as words hold it: its pairs, the edges that the profiles give, and the ways along them.
 use Rattle.std.specs.Prelude.{◌≡◌, Bool, true, false, ◌||◌, List, ℕ, zero, suc, ◌+◌, ◌*◌, ◌/◌, ◌%◌, ◌≤◌, ◌<◌, length, get_or, eqb}
 use Rattle.meaning.specs.Traces.{Alphabet, Event}
-use Rattle.ltl.specs.Sets.{on, someEvent}
+use Rattle.ltl.specs.Sets.{on, some_event}
 use Rattle.ltl.specs.Residuals.{before}
 use Rattle.ltl.specs.Keys.{look}
 
@@ -21,8 +21,8 @@ pub record EmptyRow (x : ℕ) (m : List ℕ) (answer : Bool) : Type 0 where
 pub record MarkedAt (x y : ℕ) (old new : List ℕ) : Type 0 where
   pub long : length new ≡ 256
   pub there : entry new x y ≡ true
-  pub row-else : (v z : ℕ) → z < 128 → (v ≡ x → ⊥) → entry new v z ≡ entry old v z
-  pub column-else : (v z : ℕ) → z < 128 → (z ≡ y → ⊥) → entry new v z ≡ entry old v z
+  pub row_else : (v z : ℕ) → z < 128 → (v ≡ x → ⊥) → entry new v z ≡ entry old v z
+  pub column_else : (v z : ℕ) → z < 128 → (z ≡ y → ⊥) → entry new v z ≡ entry old v z
 
 -- the pairs of r with a second number below w are added, of those below n
 pub record Added (w n : ℕ) (r : ℕ → ℕ → Bool) (old new : List ℕ) : Type 0 where
@@ -36,13 +36,13 @@ abbrev pub label_at : ℕ → List (List ℕ) → ℕ → ℕ → ℕ
 label_at n profiles = before n (look profiles)
 
 abbrev pub edge : Alphabet → ℕ → List (List ℕ) → ℕ → ℕ → Bool
-edge Σ n profiles x y = someEvent Σ (λ e. eqb (label_at n profiles e y) x)
+edge Σ n profiles x y = some_event Σ (λ e. eqb (label_at n profiles e y) x)
 
 -- ---- closure
 
 -- a set, or none
-abbrev pub onlyIf : Bool → ℕ → ℕ
-onlyIf test A = elim test [ true ↦ A | false ↦ 0 ]
+abbrev pub only_if : Bool → ℕ → ℕ
+only_if test A = elim test [ true ↦ A | false ↦ 0 ]
 
 -- y is in the set whose words are a and b
 abbrev pub in_words : ℕ → ℕ → ℕ → Bool

@@ -1,7 +1,7 @@
 // A relation between labels: its pairs, the edges that the profiles give, and their closure.
 ghost use Rattle.std.specs.Prelude.{◌≡◌, List, ℕ, ◌%◌, ◌≤◌, ◌<◌, length, eqb};
 ghost use Rattle.meaning.specs.Traces.{masked};
-ghost use Rattle.relations.specs.Relations.{entry, Matrix, EmptyRow, MarkedAt, Added, onlyIf, RowPassed, label_at, edge, through, closed};
+ghost use Rattle.relations.specs.Relations.{entry, Matrix, EmptyRow, MarkedAt, Added, only_if, RowPassed, label_at, edge, through, closed};
 
 use events::mask_has;
 use wire::wide;
@@ -94,7 +94,7 @@ pub fn edge_rows(
 
 // A set, or none.
 fn only_if(test: bool, set: u64) -> u64
-    ensures { result ≡ onlyIf test set }
+    ensures { result ≡ only_if test set }
 {
     if test { set } else { 0 }
 }

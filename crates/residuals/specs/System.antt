@@ -5,9 +5,9 @@ use Rattle.meaning.specs.Traces.{Alphabet, Word}
 use Rattle.meaning.specs.Verdicts.{Property, NoneSatisfies, AllSatisfy, SameResidual}
 
 -- the key after a list, from a key on
-abbrev pub keyAfter {ℓ} : {Key : Type ℓ} → (Key → ℕ → Key) → Key → List ℕ → Key
-keyAfter step k [] = k
-keyAfter step k (e ∷ w) = keyAfter step (step k e) w
+abbrev pub key_after {ℓ} : {Key : Type ℓ} → (Key → ℕ → Key) → Key → List ℕ → Key
+key_after step k [] = k
+key_after step k (e ∷ w) = key_after step (step k e) w
 
 pub record System (Σ : Alphabet) (L : Property) : Type 1 where
   pub Key : Type 0
@@ -16,6 +16,6 @@ pub record System (Σ : Alphabet) (L : Property) : Type 1 where
   pub same : Key → Key → Bool
   pub empty : Key → Bool
   pub full : Key → Bool
-  pub same-is : (u v : List ℕ) → Word Σ u → Word Σ v → T (same (keyAfter step start u) (keyAfter step start v)) ↔ SameResidual Σ L u v
-  pub empty-is : (w : List ℕ) → Word Σ w → T (empty (keyAfter step start w)) ↔ NoneSatisfies Σ L w
-  pub full_is : (w : List ℕ) → Word Σ w → T (full (keyAfter step start w)) ↔ AllSatisfy Σ L w
+  pub same_is : (u v : List ℕ) → Word Σ u → Word Σ v → T (same (key_after step start u) (key_after step start v)) ↔ SameResidual Σ L u v
+  pub empty_is : (w : List ℕ) → Word Σ w → T (empty (key_after step start w)) ↔ NoneSatisfies Σ L w
+  pub full_is : (w : List ℕ) → Word Σ w → T (full (key_after step start w)) ↔ AllSatisfy Σ L w

@@ -9,7 +9,7 @@ use lib.Dec.{ltb, leb}
 use borrow.Author.Tests.{leb-true, ltb-false, not-false}
 use Rattle.meaning.specs.RuleFiles.{Rule, Accepted, temporals, first_of, judge}
 use Rattle.meaning.specs.Grammar.{Tree}
-use Rattle.meaning.specs.RuleTexts.{size, ruleOf, ruleBytes, anyOutOfRange, ruleAnswer, treeAnswer}
+use Rattle.meaning.specs.RuleTexts.{size, rule_of, rule_bytes, any_out_of_range, rule_answer, tree_answer}
 use Rattle.meaning.specs.declared.Refusal.{Refusal}
 use Rattle.meaning.specs.declared.Refusal.TheVariants.{WrongSignals, OutOfRange, EighthTemporal, ShortOutput, TooManyNodes}
 use Rattle.meaning.specs.declared.Written.{Written}
@@ -21,9 +21,9 @@ use Rattle.rule_bytes.proofs.Trees.{tree-rule}
 
 -- the file of a tree over P signals has n bytes, for which there is room, and is accepted
 pub record AcceptedFile (P room : ℕ) (t : Tree) (n : ℕ) : Type 0 where
-  pub length-is : n ≡ length (ruleBytes (ruleOf P t))
+  pub length-is : n ≡ length (rule_bytes (rule_of P t))
   pub fits : n ≤ room
-  pub judged : judge (ruleBytes (ruleOf P t)) ≡ Accepted (ruleOf P t)
+  pub judged : judge (rule_bytes (rule_of P t)) ≡ Accepted (rule_of P t)
 
 -- a length is the answer where no check fails
 cleared : (n : ℕ) (x : Written) (cs : List (Bool × Refusal)) → first_of Written.Refused cs x ≡ Written.Rule n → Cleared cs (length cs) × (x ≡ Written.Rule n)
@@ -32,21 +32,21 @@ cleared n x cs e = first-cleared Written.Refused x (Written.Rule n) other cs e
     other : (r : Refusal) → Written.Refused r ≡ Written.Rule n → ⊥
     other r e = let z : ◌≡◌ {A = ℕ} 0 1 = cc in omega arith
 
-pub accepted : (P room : ℕ) (t : Tree) (n : ℕ) → Signs t → treeAnswer P room t ≡ Written.Rule n → AcceptedFile P room t n
-unfolding treeAnswer ruleAnswer
+pub accepted : (P room : ℕ) (t : Tree) (n : ℕ) → Signs t → tree_answer P room t ≡ Written.Rule n → AcceptedFile P room t n
+unfolding tree_answer rule_answer
 accepted P room t n h e =
-    let r : Rule = ruleOf P t in
-    let first = cleared n (ruleAnswer room r) ((not (leb 1 P && leb P 4), WrongSignals) ∷ (ltb 64 (size t), TooManyNodes) ∷ []) e in
+    let r : Rule = rule_of P t in
+    let first = cleared n (rule_answer room r) ((not (leb 1 P && leb P 4), WrongSignals) ∷ (ltb 64 (size t), TooManyNodes) ∷ []) e in
     let second =
-    cleared n (Written.Rule (length (ruleBytes r)))
-    ((anyOutOfRange P r.nodes, OutOfRange 0) ∷ (ltb 7 (temporals r.nodes), EighthTemporal 0) ∷ (ltb room (length (ruleBytes r)), ShortOutput) ∷ [])
+    cleared n (Written.Rule (length (rule_bytes r)))
+    ((any_out_of_range P r.nodes, OutOfRange 0) ∷ (ltb 7 (temporals r.nodes), EighthTemporal 0) ∷ (ltb room (length (rule_bytes r)), ShortOutput) ∷ [])
     first.1 in
     let q = second.1 in
-    let long : n ≡ length (ruleBytes r) = cc in
+    let long : n ≡ length (rule_bytes r) = cc in
     let signals = (and-eq-true_iff (leb 1 P) (leb P 4)).0 (not-false _ (first.0.none 0 (omega arith))) in
     record {
       length-is = long;
-      fits = omega (arith, ltb-false room (length (ruleBytes r)) (second.0.none 2 (omega arith)));
+      fits = omega (arith, ltb-false room (length (rule_bytes r)) (second.0.none 2 (omega arith)));
       judged =
           reads-back r
           (tree-rule P t h (leb-true 1 P signals.0) (leb-true P 4 signals.1) (ltb-false 64 (size t) (first.0.none 1 (omega arith)))

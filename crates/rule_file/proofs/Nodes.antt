@@ -12,8 +12,8 @@ use native.Mathlib.Omega.{arith}
 use borrow.Author.Tests.{lt-ltb, le-ltb}
 use lib.ListN.{length, set, replicate, length-append}
 use lib.Seq.{set_at, append_snoc}
-use Rattle.meaning.specs.Bytes.{u16At}
-use Rattle.meaning.specs.RuleFiles.{Accepted, Refused, temporal, temporals, headerOf, mask_of, reading_of, nodesFrom, bodyFrom, judge}
+use Rattle.meaning.specs.Bytes.{u16_at}
+use Rattle.meaning.specs.RuleFiles.{Accepted, Refused, temporal, temporals, header_of, mask_of, reading_of, nodes_from, body_from, judge}
 use Rattle.meaning.specs.declared.Node.{Node}
 use Rattle.meaning.specs.declared.Header.{Header}
 use Rattle.meaning.specs.declared.Refusal.{Refusal}
@@ -34,35 +34,35 @@ temporals-more (m ∷ ns) n = omega (arith, temporals-more ns n)
 
 module _ (b : List ℕ) (P m p : ℕ) (earlier : List Node) where
   pub nodes-more : (k : ℕ) (n : Node) → reading_of b P p (length earlier) (temporals earlier) ≡ Reading.Node n
-      → nodesFrom (suc k) b P m p earlier ≡ nodesFrom k b P m (p + 2 + u16At b p) (earlier ++ (n ∷ []))
-  unfolding nodesFrom
-  nodes-more k n e = rw (e, nodesFrom)
+      → nodes_from (suc k) b P m p earlier ≡ nodes_from k b P m (p + 2 + u16_at b p) (earlier ++ (n ∷ []))
+  unfolding nodes_from
+  nodes-more k n e = rw (e, nodes_from)
 
-  nodes-refused : (k : ℕ) (x : Refusal) → reading_of b P p (length earlier) (temporals earlier) ≡ Reading.Refused x → nodesFrom (suc k) b P m p earlier ≡ Refused x
-  unfolding nodesFrom
-  nodes-refused k x e = rw (e, nodesFrom)
+  nodes-refused : (k : ℕ) (x : Refusal) → reading_of b P p (length earlier) (temporals earlier) ≡ Reading.Refused x → nodes_from (suc k) b P m p earlier ≡ Refused x
+  unfolding nodes_from
+  nodes-refused k x e = rw (e, nodes_from)
 
-  nodes-over : p < length b → nodesFrom 0 b P m p earlier ≡ Refused (TrailingBytes p)
-  unfolding nodesFrom
+  nodes-over : p < length b → nodes_from 0 b P m p earlier ≡ Refused (TrailingBytes p)
+  unfolding nodes_from
   nodes-over l = rw (lt-ltb p (length b) l)
 
-  pub nodes-end : length b ≤ p → nodesFrom 0 b P m p earlier ≡ Accepted (record { signals = P; mask = m; nodes = earlier })
-  unfolding nodesFrom
+  pub nodes-end : length b ≤ p → nodes_from 0 b P m p earlier ≡ Accepted (record { signals = P; mask = m; nodes = earlier })
+  unfolding nodes_from
   nodes-end l = rw (le-ltb p (length b) l)
 
 module _ (b : List ℕ) where
-  pub judged-refused : (x : Refusal) → headerOf b ≡ HeaderReading.Refused x → judge b ≡ Refused x
+  pub judged-refused : (x : Refusal) → header_of b ≡ HeaderReading.Refused x → judge b ≡ Refused x
   unfolding judge
   judged-refused x e = rw (e, judge)
 
-  module _ (h : Header) (e : headerOf b ≡ HeaderReading.Header h) where
+  module _ (h : Header) (e : header_of b ≡ HeaderReading.Header h) where
     pub judged-mask-refused : (x : Refusal) → mask_of b h.signals ≡ MaskReading.Refused x → judge b ≡ Refused x
-    unfolding judge bodyFrom
-    judged-mask-refused x q = rw (e, judge, q, bodyFrom)
+    unfolding judge body_from
+    judged-mask-refused x q = rw (e, judge, q, body_from)
 
-    pub judged : (m p : ℕ) → mask_of b h.signals ≡ MaskReading.Mask m p → judge b ≡ nodesFrom h.nodes b h.signals m p []
-    unfolding judge bodyFrom
-    judged m p q = rw (e, judge, q, bodyFrom)
+    pub judged : (m p : ℕ) → mask_of b h.signals ≡ MaskReading.Mask m p → judge b ≡ nodes_from h.nodes b h.signals m p []
+    unfolding judge body_from
+    judged m p q = rw (e, judge, q, body_from)
 
 -- ---- the loop
 
@@ -77,7 +77,7 @@ pub record Progress (b : List ℕ) (P m N q : ℕ) (nodes : List Node) (p seen i
   pub few : seen ≤ i
   pub temporal-are : seen ≡ temporals earlier
   pub array : nodes ≡ earlier ++ replicate (64 - i) blank
-  pub rest : nodesFrom (N - i) b P m p earlier ≡ nodesFrom N b P m q []
+  pub rest : nodes_from (N - i) b P m p earlier ≡ nodes_from N b P m q []
 
 module _ {b : List ℕ} {P m N q : ℕ} where
   pub progress-none : {nodes : List Node} → P ≤ 4 → N ≤ 64 → q ≤ 12 → nodes ≡ replicate 64 blank → Progress b P m N q nodes q 0 0
@@ -92,22 +92,22 @@ module _ {b : List ℕ} {P m N q : ℕ} where
         few = omega arith;
         temporal-are = refl;
         array = e;
-        rest = ap (λ (k : ℕ). nodesFrom k b P m q []) (omega arith);
+        rest = ap (λ (k : ℕ). nodes_from k b P m q []) (omega arith);
       }
 
   module _ {nodes : List Node} {p seen i : ℕ} (h : Progress b P m N q nodes p seen i) where
     read_here : {r : Reading} → reading_of b P p i seen ≡ r → reading_of b P p (length h.earlier) (temporals h.earlier) ≡ r
     read_here e = ap₂ (λ (k s : ℕ). reading_of b P p k s) h.number (sym h.temporal-are) ∙ e
 
-    left : i < N → nodesFrom (suc (N - (i + 1))) b P m p h.earlier ≡ nodesFrom N b P m q []
-    left l = ap (λ (k : ℕ). nodesFrom k b P m p h.earlier) (omega arith) ∙ h.rest
+    left : i < N → nodes_from (suc (N - (i + 1))) b P m p h.earlier ≡ nodes_from N b P m q []
+    left l = ap (λ (k : ℕ). nodes_from k b P m p h.earlier) (omega arith) ∙ h.rest
 
     -- a turn: the node n is stored at j, its record's length and whether it is temporal are counted
-    pub progress-more : (n : Node) (j size t : ℕ) → i < N → reading_of b P p i seen ≡ Reading.Node n → j ≡ i → size ≡ u16At b p
+    pub progress-more : (n : Node) (j size t : ℕ) → i < N → reading_of b P p i seen ≡ Reading.Node n → j ≡ i → size ≡ u16_at b p
         → t ≡ cond (temporal n.kind) 1 0 → t ≤ 1 → Progress b P m N q (set nodes j n) (p + (2 + size)) (seen + t) (i + 1)
     progress-more n j size t l e o u w z =
         let ns = h.earlier in
-        let short : u16At b p ≤ 5 = (node-told b P p i seen n e).length in
+        let short : u16_at b p ≤ 5 = (node-told b P p i seen n e).length in
         record {
           earlier = ns ++ (n ∷ []);
           number = length-append ns (n ∷ []) ∙ omega (arith, h.number);
@@ -121,23 +121,23 @@ module _ {b : List ℕ} {P m N q : ℕ} where
               ap (λ (xs : List Node). set xs j n) (h.array ∙ ap (λ (k : ℕ). ns ++ replicate k blank) more)
               ∙ set_at ns blank (replicate (64 - (i + 1)) blank) n j (omega (arith, h.number)) ∙ sym (append_snoc ns n (replicate (64 - (i + 1)) blank));
           rest =
-              ap (λ (k : ℕ). nodesFrom (N - (i + 1)) b P m k (ns ++ (n ∷ []))) (omega arith)
+              ap (λ (k : ℕ). nodes_from (N - (i + 1)) b P m k (ns ++ (n ∷ []))) (omega arith)
               ∙ sym (nodes-more b P m p ns (N - (i + 1)) n (read_here e)) ∙ left l;
         }
       where
         more : 64 - i ≡ suc (64 - (i + 1))
         more = omega (arith, h.room)
 
-    pub progress-refused : (x : Refusal) → i < N → reading_of b P p i seen ≡ Reading.Refused x → nodesFrom N b P m q [] ≡ Refused x
+    pub progress-refused : (x : Refusal) → i < N → reading_of b P p i seen ≡ Reading.Refused x → nodes_from N b P m q [] ≡ Refused x
     progress-refused x l e = sym (left l) ∙ nodes-refused b P m p h.earlier (N - (i + 1)) x (read_here e)
 
-    done : N ≤ i → nodesFrom 0 b P m p h.earlier ≡ nodesFrom N b P m q []
-    done l = ap (λ (k : ℕ). nodesFrom k b P m p h.earlier) (omega (arith, h.within)) ∙ h.rest
+    done : N ≤ i → nodes_from 0 b P m p h.earlier ≡ nodes_from N b P m q []
+    done l = ap (λ (k : ℕ). nodes_from k b P m p h.earlier) (omega (arith, h.within)) ∙ h.rest
 
-    pub progress-over : N ≤ i → p < length b → nodesFrom N b P m q [] ≡ Refused (TrailingBytes p)
+    pub progress-over : N ≤ i → p < length b → nodes_from N b P m q [] ≡ Refused (TrailingBytes p)
     progress-over l u = sym (done l) ∙ nodes-over b P m p h.earlier u
 
-    pub progress-accepted : N ≤ i → length b ≤ p → record { outcome = Outcome.Accepted; signals = P; mask = m; count = N; nodes = nodes } ≡ read_of (nodesFrom N b P m q [])
+    pub progress-accepted : N ≤ i → length b ≤ p → record { outcome = Outcome.Accepted; signals = P; mask = m; count = N; nodes = nodes } ≡ read_of (nodes_from N b P m q [])
     progress-accepted l u =
         let ns = h.earlier in
         let size : N ≡ length ns = omega (arith, h.within, h.number) in

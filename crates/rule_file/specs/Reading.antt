@@ -16,8 +16,8 @@ abbrev pub blank : Node
 blank = record { kind = 0; a = 0; b = 0; upper = 0 }
 
 -- the rule of the first `count` nodes
-abbrev pub ruleIn : ℕ → ℕ → ℕ → List Node → Rule
-ruleIn P mask count nodes = record { signals = P; mask = mask; nodes = take count nodes }
+abbrev pub rule_in : ℕ → ℕ → ℕ → List Node → Rule
+rule_in P mask count nodes = record { signals = P; mask = mask; nodes = take count nodes }
 
 -- the nodes, and blank ones after them
 abbrev pub padded : List Node → List Node
@@ -28,14 +28,14 @@ read_of (Accepted rule) = record { outcome = Outcome.Accepted; signals = rule.si
 read_of (Refused x) = record { outcome = Outcome.Refused x; signals = 0; mask = 0; count = 0; nodes = replicate 64 blank }
 
 -- refusals handed on; in each the case that is no refusal does not arise
-abbrev pub handedOnHeader : HeaderReading → Judgement
-handedOnHeader (HeaderReading.Header h) = Refused (Truncated 0)
-handedOnHeader (HeaderReading.Refused x) = Refused x
+abbrev pub handed_on_header : HeaderReading → Judgement
+handed_on_header (HeaderReading.Header h) = Refused (Truncated 0)
+handed_on_header (HeaderReading.Refused x) = Refused x
 
-abbrev pub handedOnMask : MaskReading → Judgement
-handedOnMask (MaskReading.Mask m p) = Refused (Truncated 0)
-handedOnMask (MaskReading.Refused x) = Refused x
+abbrev pub handed_on_mask : MaskReading → Judgement
+handed_on_mask (MaskReading.Mask m p) = Refused (Truncated 0)
+handed_on_mask (MaskReading.Refused x) = Refused x
 
-abbrev pub handedOn : Reading → Judgement
-handedOn (Reading.Node n) = Refused (Truncated 0)
-handedOn (Reading.Refused x) = Refused x
+abbrev pub handed_on : Reading → Judgement
+handed_on (Reading.Node n) = Refused (Truncated 0)
+handed_on (Reading.Refused x) = Refused x

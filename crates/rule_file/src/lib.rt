@@ -1,7 +1,7 @@
 // Rule files, read record by record: the rule, or the first refusal in the order of document 01.
 ghost use Rattle.std.specs.Prelude.{◌≡◌, cond, [], ◌≤◌, replicate};
-ghost use Rattle.meaning.specs.RuleFiles.{Refused, nodesFrom, judge};
-ghost use Rattle.rule_file.specs.Reading.{blank, read_of, handedOnHeader, handedOnMask, handedOn};
+ghost use Rattle.meaning.specs.RuleFiles.{Refused, nodes_from, judge};
+ghost use Rattle.rule_file.specs.Reading.{blank, read_of, handed_on_header, handed_on_mask, handed_on};
 
 use meaning::{HeaderReading, MaskReading, Node, Reading, Refusal};
 use rule_nodes::shape_of;
@@ -39,7 +39,7 @@ fn refused(refusal: Refusal) -> Read
 
 // Hands on the refusal of the first record.
 fn handed_on_header(first: HeaderReading) -> Read
-    ensures { result ≡ read_of (handedOnHeader first) }
+    ensures { result ≡ read_of (handed_on_header first) }
 {
     match first {
         HeaderReading::Header(_) => refused(Refusal::Truncated(0)),
@@ -49,7 +49,7 @@ fn handed_on_header(first: HeaderReading) -> Read
 
 // Hands on the refusal of the mask's record.
 fn handed_on_mask(second: MaskReading) -> Read
-    ensures { result ≡ read_of (handedOnMask second) }
+    ensures { result ≡ read_of (handed_on_mask second) }
 {
     match second {
         MaskReading::Mask {
@@ -62,7 +62,7 @@ fn handed_on_mask(second: MaskReading) -> Read
 
 // Hands on the refusal of a node's record.
 fn handed_on(reading: Reading) -> Read
-    ensures { result ≡ read_of (handedOn reading) }
+    ensures { result ≡ read_of (handed_on reading) }
 {
     match reading {
         Reading::Node(_) => refused(Refusal::Truncated(0)),
@@ -80,7 +80,7 @@ fn counted(temporal: bool) -> u8
 // So many nodes, from a place on, and with the signals and the mask the rule.
 fn read_nodes(bytes: &[u8], signals: u8, mask: u16, count: u8, start: usize) -> Read
     requires { (signals ≤ 4) × (count ≤ 64) × (start ≤ 12) }
-    ensures { result ≡ read_of (nodesFrom count bytes.now signals mask start []) }
+    ensures { result ≡ read_of (nodes_from count bytes.now signals mask start []) }
 {
     let mut nodes = blanks();
     let mut p: usize = start;

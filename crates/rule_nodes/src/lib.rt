@@ -1,6 +1,6 @@
 // The nodes of rule files: what each kind has, and the checks of one node's body.
 ghost use Rattle.std.specs.Prelude.{◌≡◌, not, ◌&&◌, ◌≤◌, ◌<◌, leb};
-ghost use Rattle.meaning.specs.RuleFiles.{bodyLength, lengthFits, upperAt, operands, operandsFit, rangesFit};
+ghost use Rattle.meaning.specs.RuleFiles.{body_length, length_fits, upper_at, operands, operands_fit, ranges_fit};
 ghost use Rattle.rule_nodes.specs.Shapes.{shape, shape_of, node_of};
 
 use events::width;
@@ -47,8 +47,8 @@ pub fn shape_of(kind: u8) -> Shape
 
 // Whether a record's length fits its kind, whose body has so many bytes; that of an "at least" may have one more.
 pub fn length_fits(kind: u8, body: u8, length: u16) -> bool
-    requires { body ≡ bodyLength kind }
-    ensures { result ≡ lengthFits kind length }
+    requires { body ≡ body_length kind }
+    ensures { result ≡ length_fits kind length }
 {
     if wide16(length) == 2 + wide(body) {
         return true;
@@ -61,7 +61,7 @@ pub fn length_fits(kind: u8, body: u8, length: u16) -> bool
 // The upper count in the record at p, of this kind and length.
 fn upper_at(b: &[u8], p: usize, kind: u8, length: u16) -> u8
     requires { p < 65536 }
-    ensures { result ≡ upperAt b.now p kind length }
+    ensures { result ≡ upper_at b.now p kind length }
 {
     if kind != 3 {
         return 0;
@@ -74,7 +74,7 @@ fn upper_at(b: &[u8], p: usize, kind: u8, length: u16) -> u8
 
 // The node whose record is at p, of this kind and length, with as many bytes of its body as the kind has.
 pub fn node_at(b: &[u8], p: usize, kind: u8, body: u8, length: u16) -> Node
-    requires { (p < 65536) × (body ≡ bodyLength kind) }
+    requires { (p < 65536) × (body ≡ body_length kind) }
     ensures { result ≡ node_of b.now p kind length }
 {
     let upper = upper_at(b, p, kind, length);
@@ -107,7 +107,7 @@ pub fn node_at(b: &[u8], p: usize, kind: u8, body: u8, length: u16) -> Node
 // Whether one of the operands, so many, is not below the node's own number.
 pub fn wrong_operand(node: Node, count: u8, number: u8) -> bool
     requires { count ≡ operands node.kind }
-    ensures { result ≡ not (operandsFit number node) }
+    ensures { result ≡ not (operands_fit number node) }
 {
     if count < 1 {
         return false;
@@ -124,7 +124,7 @@ pub fn wrong_operand(node: Node, count: u8, number: u8) -> bool
 // Whether a signal, a mask or one of two counts is out of range.
 pub fn out_of_range(node: Node, signals: u8) -> bool
     requires { signals ≤ 4 }
-    ensures { result ≡ not (rangesFit signals node) }
+    ensures { result ≡ not (ranges_fit signals node) }
 {
     let kind = node.kind;
     if kind == 2 {

@@ -16,17 +16,17 @@ use Rattle.meaning.specs.RuleFiles.{first_of}
 use Rattle.meaning.specs.declared.Refusal.{Refusal}
 use Rattle.meaning.specs.declared.Refusal.TheVariants.{WrongSignals}
 
-abbrev pub failsAt : List (Bool × Refusal) → ℕ → Bool
-failsAt cs i = (get_or cs i (false, WrongSignals)).0
+abbrev pub fails_at : List (Bool × Refusal) → ℕ → Bool
+fails_at cs i = (get_or cs i (false, WrongSignals)).0
 
-abbrev pub refusalAt : List (Bool × Refusal) → ℕ → Refusal
-refusalAt cs i = (get_or cs i (false, WrongSignals)).1
+abbrev pub refusal_at : List (Bool × Refusal) → ℕ → Refusal
+refusal_at cs i = (get_or cs i (false, WrongSignals)).1
 
 pub record Cleared (cs : List (Bool × Refusal)) (i : ℕ) : Type 0 where
-  pub none : (j : ℕ) → j < i → failsAt cs j ≡ false
+  pub none : (j : ℕ) → j < i → fails_at cs j ≡ false
 
-pub cleared_more : {cs : List (Bool × Refusal)} {i : ℕ} → Cleared cs i → failsAt cs i ≡ false → Cleared cs (i + 1)
-cleared_more {cs} {i} h q = record { none = below_more (λ (j : ℕ). failsAt cs j ≡ false) i h.none q }
+pub cleared_more : {cs : List (Bool × Refusal)} {i : ℕ} → Cleared cs i → fails_at cs i ≡ false → Cleared cs (i + 1)
+cleared_more {cs} {i} h q = record { none = below_more (λ (j : ℕ). fails_at cs j ≡ false) i h.none q }
 
 tail : {c : Bool × Refusal} {cs : List (Bool × Refusal)} {i : ℕ} → Cleared (c ∷ cs) (suc i) → Cleared cs i
 tail h = record { none = λ j l. h.none (suc j) (omega arith) }
@@ -34,7 +34,7 @@ tail h = record { none = λ j l. h.none (suc j) (omega arith) }
 cons : {c : Bool × Refusal} {cs : List (Bool × Refusal)} {i : ℕ} → c.0 ≡ false → Cleared cs i → Cleared (c ∷ cs) (suc i)
 cons {c} {cs} {i} e h = record { none = go }
   where
-    go : (j : ℕ) → j < suc i → failsAt (c ∷ cs) j ≡ false
+    go : (j : ℕ) → j < suc i → fails_at (c ∷ cs) j ≡ false
     go zero l = e
     go (suc j) l = h.none j (le_of_suc-le-suc l)
 
@@ -43,7 +43,7 @@ cleared-append [] ds h = record { none = λ j l. absurd (not-suc-le-zero l) }
 cleared-append (c ∷ cs) ds h = cons (h.none 0 (omega arith)) (cleared-append cs ds (tail h))
 
 module _ {A : Type 0} (refuse : Refusal → A) (x : A) where
-  pub first-refused : (cs : List (Bool × Refusal)) (i : ℕ) → Cleared cs i → failsAt cs i ≡ true → first_of refuse cs x ≡ refuse (refusalAt cs i)
+  pub first-refused : (cs : List (Bool × Refusal)) (i : ℕ) → Cleared cs i → fails_at cs i ≡ true → first_of refuse cs x ≡ refuse (refusal_at cs i)
   first-refused [] i h q = absurd (never q)
     where
       never : ◌≡◌ {A = Bool} false true → ⊥

@@ -1,7 +1,7 @@
 // The records of rule files: the first one, the mask's and a node's, each read or refused by the first check that fails.
 ghost use Rattle.std.specs.Prelude.{◌≡◌, ◌≤◌, ◌<◌};
-ghost use Rattle.meaning.specs.RuleFiles.{headerOf, mask_of, reading_of};
-ghost use Rattle.rule_records.specs.Frames.{framedOf, refusalIn};
+ghost use Rattle.meaning.specs.RuleFiles.{header_of, mask_of, reading_of};
+ghost use Rattle.rule_records.specs.Frames.{framed_of, refusal_in};
 
 use events::full_mask;
 use meaning::{Header, HeaderReading, MaskReading, Reading, Refusal};
@@ -17,7 +17,7 @@ enum Framed {
 
 fn frame(b: &[u8], p: usize) -> Framed
     requires { p < 65536 }
-    ensures { result ≡ framedOf b.now p }
+    ensures { result ≡ framed_of b.now p }
 {
     if b.len() < p + 2 {
         return Framed::Refused(Refusal::Truncated(p));
@@ -35,7 +35,7 @@ fn frame(b: &[u8], p: usize) -> Framed
 
 // Hands on the refusal of a frame.
 fn refusal_in(framed: Framed) -> Refusal
-    ensures { result ≡ refusalIn framed }
+    ensures { result ≡ refusal_in framed }
 {
     match framed {
         Framed::Record { length: _, kind: _ } => Refusal::Truncated(0),
@@ -45,7 +45,7 @@ fn refusal_in(framed: Framed) -> Refusal
 
 // The first record.
 pub fn read_header(b: &[u8]) -> HeaderReading
-    ensures { result ≡ headerOf b.now }
+    ensures { result ≡ header_of b.now }
 {
     let framed = frame(b, 0);
     let Framed::Record { length, kind } = framed else {

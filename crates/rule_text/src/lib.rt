@@ -1,9 +1,9 @@
 // Writes the rule file of a rule's text.
 ghost use Rattle.std.specs.Prelude.{◌≡◌, ◌≤◌, length};
 ghost use Rattle.meaning.specs.Grammar.{Parses};
-ghost use Rattle.meaning.specs.RuleTexts.{ruleOf, ruleBytes, treeAnswer, outputOf};
+ghost use Rattle.meaning.specs.RuleTexts.{rule_of, rule_bytes, tree_answer, output_of};
 ghost use Rattle.grammar.specs.Reading.{tree_of};
-ghost use Rattle.rule_text.specs.Writing.{writtenAnswer, writtenAfter, Writes, Right};
+ghost use Rattle.rule_text.specs.Writing.{written_answer, written_after, Writes, Right};
 
 use meaning::{Refusal, Written};
 use rule_writer::write_nodes;
@@ -12,8 +12,8 @@ use text_scan::{Scanned, scan};
 // Writes the rule of signs that are an expression.
 fn write_signs(signs: &[u8], signals: u8, rule: &mut [u8]) -> Written
     requires { (length signs.now ≤ 1024) × Parses 6 signs.now (tree_of signs.now) }
-    ensures value { result ≡ treeAnswer signals (length rule.old) (tree_of signs.now) }
-    ensures rule_after { rule.new ≡ outputOf result (ruleBytes (ruleOf signals (tree_of signs.now))) rule.old }
+    ensures value { result ≡ tree_answer signals (length rule.old) (tree_of signs.now) }
+    ensures rule_after { rule.new ≡ output_of result (rule_bytes (rule_of signals (tree_of signs.now))) rule.old }
 {
     if signals < 1 {
         return Written::Refused(Refusal::WrongSignals);
@@ -41,8 +41,8 @@ fn room() -> [u8; 1024]
 // by the one reading that the grammar has for it; building the file has demands 2 and 3 of what was typed (crate
 // typed_rules, `joined`).
 pub fn write(text: &[u8], signals: u8, rule: &mut [u8]) -> Written
-    ensures answer { result ≡ writtenAnswer text.now signals rule.old }
-    ensures output { rule.new ≡ writtenAfter text.now signals rule.old }
+    ensures answer { result ≡ written_answer text.now signals rule.old }
+    ensures output { rule.new ≡ written_after text.now signals rule.old }
     ensures reading { Writes text.now signals rule.old result rule.new }
     ensures right { Right text.now signals rule.new result }
 {

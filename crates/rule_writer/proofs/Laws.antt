@@ -13,8 +13,8 @@ use native.Mathlib.Omega.{arith}
 use lib.ListN.{length, get_or, take, drop, length-append}
 use lib.Seq.{take-suc, take-add, get_or-take, length-take-le}
 use borrow.Author.Tests.{lt-ltb, le-ltb}
-use Rattle.meaning.specs.RuleFiles.{Rule, bodyLength, temporal, temporals, rangesFit}
-use Rattle.meaning.specs.RuleTexts.{node, nodeBytes, nodesBytes, ruleBytes, anyOutOfRange, ruleAnswer}
+use Rattle.meaning.specs.RuleFiles.{Rule, body_length, temporal, temporals, ranges_fit}
+use Rattle.meaning.specs.RuleTexts.{node, node_bytes, nodes_bytes, rule_bytes, any_out_of_range, rule_answer}
 use Rattle.meaning.specs.declared.Node.{Node}
 use Rattle.meaning.specs.declared.Refusal.{Refusal}
 use Rattle.meaning.specs.declared.Refusal.TheVariants.{OutOfRange, EighthTemporal, ShortOutput}
@@ -29,10 +29,10 @@ use Rattle.rule_writer.specs.Writing.{unmasked, Wrote}
 
 -- ---- the last node of a list
 
-range_snoc : (P : ℕ) (ns : List Node) (n : Node) → anyOutOfRange P (ns ++ (n ∷ [])) ≡ (anyOutOfRange P ns || not (rangesFit P n))
-unfolding anyOutOfRange
-range_snoc P [] n = or-false (not (rangesFit P n))
-range_snoc P (m ∷ ns) n = ap (λ (b : Bool). not (rangesFit P m) || b) (range_snoc P ns n) ∙ sym (or_assoc (not (rangesFit P m)) (anyOutOfRange P ns) (not (rangesFit P n)))
+range_snoc : (P : ℕ) (ns : List Node) (n : Node) → any_out_of_range P (ns ++ (n ∷ [])) ≡ (any_out_of_range P ns || not (ranges_fit P n))
+unfolding any_out_of_range
+range_snoc P [] n = or-false (not (ranges_fit P n))
+range_snoc P (m ∷ ns) n = ap (λ (b : Bool). not (ranges_fit P m) || b) (range_snoc P ns n) ∙ sym (or_assoc (not (ranges_fit P m)) (any_out_of_range P ns) (not (ranges_fit P n)))
 
 -- ---- the node at an index of an array
 
@@ -43,32 +43,32 @@ module _ (nodes : List Node) (i : ℕ) (l : i < length nodes) where
   take_more : take (i + 1) nodes ≡ take i nodes ++ (here ∷ [])
   take_more = ap (λ (k : ℕ). take k nodes) (add-one i) ∙ take-suc nodes i (node 0 0 0) l
 
-  pub range-more : (P : ℕ) (a b : Bool) → a ≡ anyOutOfRange P (take i nodes) → b ≡ not (rangesFit P here) → (a || b) ≡ anyOutOfRange P (take (i + 1) nodes)
-  range-more P a b p q = ap₂ ◌||◌ p q ∙ sym (range_snoc P (take i nodes) here) ∙ sym (ap (anyOutOfRange P) take_more)
+  pub range-more : (P : ℕ) (a b : Bool) → a ≡ any_out_of_range P (take i nodes) → b ≡ not (ranges_fit P here) → (a || b) ≡ any_out_of_range P (take (i + 1) nodes)
+  range-more P a b p q = ap₂ ◌||◌ p q ∙ sym (range_snoc P (take i nodes) here) ∙ sym (ap (any_out_of_range P) take_more)
 
   pub temporals-take : temporals (take (i + 1) nodes) ≡ temporals (take i nodes) + cond (temporal here.kind) 1 0
   temporals-take = ap temporals take_more ∙ temporals-more (take i nodes) here
 
-  pub bytes_take : nodesBytes (take (i + 1) nodes) ≡ nodesBytes (take i nodes) ++ nodeBytes here
-  bytes_take = ap nodesBytes take_more ∙ bytes-append (take i nodes) (here ∷ []) ∙ ap (λ (b : List ℕ). nodesBytes (take i nodes) ++ b) (bytes_one here)
+  pub bytes_take : nodes_bytes (take (i + 1) nodes) ≡ nodes_bytes (take i nodes) ++ node_bytes here
+  bytes_take = ap nodes_bytes take_more ∙ bytes-append (take i nodes) (here ∷ []) ∙ ap (λ (b : List ℕ). nodes_bytes (take i nodes) ++ b) (bytes_one here)
 
-  pub length_more : length (nodesBytes (take (i + 1) nodes)) ≡ length (nodesBytes (take i nodes)) + length (nodeBytes here)
-  length_more = ap length bytes_take ∙ length-append (nodesBytes (take i nodes)) (nodeBytes here)
+  pub length_more : length (nodes_bytes (take (i + 1) nodes)) ≡ length (nodes_bytes (take i nodes)) + length (node_bytes here)
+  length_more = ap length bytes_take ∙ length-append (nodes_bytes (take i nodes)) (node_bytes here)
 
   pub kind-of : (count : ℕ) → i < count → count ≤ length nodes → KindsFit (take count nodes) → here.kind ≤ 13
   kind-of count m u h =
       subst (λ (n : Node). n.kind ≤ 13) (get_or-take count nodes i (node 0 0 0) m) (h.kind i (omega (arith, length-take-le count nodes u)))
 
-  pub bytes-within : (count : ℕ) → i < count → length (nodesBytes (take i nodes)) + length (nodeBytes here) ≤ length (nodesBytes (take count nodes))
+  pub bytes-within : (count : ℕ) → i < count → length (nodes_bytes (take i nodes)) + length (node_bytes here) ≤ length (nodes_bytes (take count nodes))
   bytes-within count m =
       let rest : List Node = take (count - (i + 1)) (drop (i + 1) nodes) in
       let parts : count ≡ i + 1 + (count - (i + 1)) = omega arith in
       let whole : take count nodes ≡ take (i + 1) nodes ++ rest = ap (λ (k : ℕ). take k nodes) parts ∙ take-add (i + 1) (count - (i + 1)) nodes in
       omega (
         arith,
-        ap (λ (ns : List Node). length (nodesBytes ns)) whole,
+        ap (λ (ns : List Node). length (nodes_bytes ns)) whole,
         ap length (bytes-append (take (i + 1) nodes) rest),
-        length-append (nodesBytes (take (i + 1) nodes)) (nodesBytes rest),
+        length-append (nodes_bytes (take (i + 1) nodes)) (nodes_bytes rest),
         length_more,
       )
 
@@ -81,9 +81,9 @@ pub few-within : (n a b c d e f at m : ℕ) → n ≤ 6 → at + n ≤ m → at 
 few-within n a b c d e f at m h l = omega (arith, take-few n a b c d e f h)
 
 -- the first n of all the bytes that a node can have
-pub record-bytes : (n : ℕ) (x : Node) → n ≡ 4 + bodyLength x.kind → take n ((n - 2) ∷ 0 ∷ x.kind ∷ 0 ∷ x.a ∷ x.b ∷ []) ≡ nodeBytes x
+pub record-bytes : (n : ℕ) (x : Node) → n ≡ 4 + body_length x.kind → take n ((n - 2) ∷ 0 ∷ x.kind ∷ 0 ∷ x.a ∷ x.b ∷ []) ≡ node_bytes x
 record-bytes n x e =
-    let m : ℕ = bodyLength x.kind in
+    let m : ℕ = body_length x.kind in
     ap (λ (k : ℕ). take k ((n - 2) ∷ 0 ∷ x.kind ∷ 0 ∷ x.a ∷ x.b ∷ [])) e
     ∙ take-add 4 m ((n - 2) ∷ 0 ∷ x.kind ∷ 0 ∷ x.a ∷ x.b ∷ [])
     ∙ ap (λ (k : ℕ). k ∷ 0 ∷ x.kind ∷ 0 ∷ take m (x.a ∷ x.b ∷ [])) (omega arith)
@@ -91,36 +91,36 @@ record-bytes n x e =
 -- ---- the answers
 
 module _ (r : Rule) (out : List ℕ) where
-  refused : (x : Refusal) → ruleAnswer (length out) r ≡ Written.Refused x → Wrote r out (Written.Refused x) out
+  refused : (x : Refusal) → rule_answer (length out) r ≡ Written.Refused x → Wrote r out (Written.Refused x) out
   refused x e = record { answer = sym e; output = rw e }
 
-  pub wrote-range : anyOutOfRange r.signals r.nodes ≡ true → Wrote r out (Written.Refused (OutOfRange 0)) out
-  unfolding ruleAnswer
+  pub wrote-range : any_out_of_range r.signals r.nodes ≡ true → Wrote r out (Written.Refused (OutOfRange 0)) out
+  unfolding rule_answer
   wrote-range e = refused (OutOfRange 0) (rw e)
 
-  module _ (a : anyOutOfRange r.signals r.nodes ≡ false) where
+  module _ (a : any_out_of_range r.signals r.nodes ≡ false) where
     pub wrote-temporal : 7 < temporals r.nodes → Wrote r out (Written.Refused (EighthTemporal 0)) out
-    unfolding ruleAnswer
+    unfolding rule_answer
     wrote-temporal l = refused (EighthTemporal 0) (rw (a, lt-ltb 7 (temporals r.nodes) l))
 
     module _ (few : temporals r.nodes ≤ 7) where
-      pub wrote-short : length out < 6 + length (nodesBytes r.nodes) → Wrote r out (Written.Refused ShortOutput) out
-      unfolding ruleAnswer
+      pub wrote-short : length out < 6 + length (nodes_bytes r.nodes) → Wrote r out (Written.Refused ShortOutput) out
+      unfolding rule_answer
       wrote-short l =
-          refused ShortOutput (rw (a, le-ltb 7 (temporals r.nodes) few, lt-ltb (length out) (length (ruleBytes r)) (omega (arith, file-length r))))
+          refused ShortOutput (rw (a, le-ltb 7 (temporals r.nodes) few, lt-ltb (length out) (length (rule_bytes r)) (omega (arith, file-length r))))
 
-      pub wrote-file : (n : ℕ) (s : List ℕ) (j : ℕ) → n ≡ 6 + length (nodesBytes r.nodes) → n ≤ length out → Put out 0 (ruleBytes r) s j → Wrote r out (Written.Rule n) s
-      unfolding ruleAnswer
+      pub wrote-file : (n : ℕ) (s : List ℕ) (j : ℕ) → n ≡ 6 + length (nodes_bytes r.nodes) → n ≤ length out → Put out 0 (rule_bytes r) s j → Wrote r out (Written.Rule n) s
+      unfolding rule_answer
       wrote-file n s j e l h =
-          let q : ruleAnswer (length out) r ≡ Written.Rule (length (ruleBytes r)) =
-          rw (a, le-ltb 7 (temporals r.nodes) few, le-ltb (length out) (length (ruleBytes r)) (omega (arith, file-length r))) in
-          let long : n ≡ length (ruleBytes r) = omega (arith, file-length r) in
+          let q : rule_answer (length out) r ≡ Written.Rule (length (rule_bytes r)) =
+          rw (a, le-ltb 7 (temporals r.nodes) few, le-ltb (length out) (length (rule_bytes r)) (omega (arith, file-length r))) in
+          let long : n ≡ length (rule_bytes r) = omega (arith, file-length r) in
           record { answer = ap Written.Rule long ∙ sym q; output = rw q (put_front h (omega (arith, h.next))) }
 
 -- the first record, and the nodes' after it
-pub file-put : (P count : ℕ) (nodes : List Node) {d s r : List ℕ} {i j : ℕ} → length (take count nodes) ≡ count → Put d 0 (4 ∷ 0 ∷ 0 ∷ 1 ∷ P ∷ count ∷ []) s i → Put s i (nodesBytes (take count nodes)) r j
-    → Put d 0 (ruleBytes (unmasked P count nodes)) r j
-unfolding ruleBytes
+pub file-put : (P count : ℕ) (nodes : List Node) {d s r : List ℕ} {i j : ℕ} → length (take count nodes) ≡ count → Put d 0 (4 ∷ 0 ∷ 0 ∷ 1 ∷ P ∷ count ∷ []) s i → Put s i (nodes_bytes (take count nodes)) r j
+    → Put d 0 (rule_bytes (unmasked P count nodes)) r j
+unfolding rule_bytes
 file-put P count nodes e h k =
-    put_is (put-more h k) (ruleBytes (unmasked P count nodes))
-    (ap (λ (n : ℕ). (4 ∷ 0 ∷ 0 ∷ 1 ∷ P ∷ n ∷ []) ++ nodesBytes (take count nodes)) (sym e))
+    put_is (put-more h k) (rule_bytes (unmasked P count nodes))
+    (ap (λ (n : ℕ). (4 ∷ 0 ∷ 0 ∷ 1 ∷ P ∷ n ∷ []) ++ nodes_bytes (take count nodes)) (sym e))

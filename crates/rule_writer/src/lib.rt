@@ -1,7 +1,7 @@
 // Writes a rule's nodes as a rule file.
 ghost use Rattle.std.specs.Prelude.{◌≡◌, cond, [], ◌∷◌, ◌+◌, ◌≤◌, length, take};
-ghost use Rattle.meaning.specs.RuleFiles.{bodyLength, temporal, temporals};
-ghost use Rattle.meaning.specs.RuleTexts.{nodeBytes, nodesBytes, ruleBytes, anyOutOfRange, ruleAnswer, outputOf};
+ghost use Rattle.meaning.specs.RuleFiles.{body_length, temporal, temporals};
+ghost use Rattle.meaning.specs.RuleTexts.{node_bytes, nodes_bytes, rule_bytes, any_out_of_range, rule_answer, output_of};
 ghost use Rattle.rule_bytes.specs.WellFormed.{KindsFit};
 ghost use Rattle.text_pieces.specs.Put.{Put};
 ghost use Rattle.rule_writer.specs.Writing.{unmasked, Wrote};
@@ -16,7 +16,7 @@ use wire::wide;
 // Whether a signal, a mask or a count of some node is out of range.
 fn any_out_of_range(signals: u8, count: usize, nodes: [Node; 64]) -> bool
     requires { (signals ≤ 4) × (count ≤ 64) }
-    ensures { result ≡ anyOutOfRange signals (take count nodes) }
+    ensures { result ≡ any_out_of_range signals (take count nodes) }
 {
     let mut found = false;
     let mut i: usize = 0;
@@ -56,7 +56,7 @@ fn temporal_count(count: usize, nodes: [Node; 64]) -> usize
 
 fn record_length(kind: u8) -> usize
     requires { kind ≤ 13 }
-    ensures { (result ≡ 4 + bodyLength kind) × (result ≤ 6) }
+    ensures { (result ≡ 4 + body_length kind) × (result ≤ 6) }
 {
     let shape = shape_of(kind);
     4 + wide(shape.body)
@@ -65,7 +65,7 @@ fn record_length(kind: u8) -> usize
 // The length of the file, which has as many nodes as `count` says.
 fn file_length(count: usize, nodes: [Node; 64]) -> usize
     requires { (count ≤ 64) × KindsFit (take count nodes) }
-    ensures value { result ≡ 6 + length (nodesBytes (take count nodes)) }
+    ensures value { result ≡ 6 + length (nodes_bytes (take count nodes)) }
     ensures nodes_len { length (take count nodes) ≡ count }
 {
     let mut n: usize = 6;
@@ -89,8 +89,8 @@ fn put_first(out: &mut [u8], signals: u8, count: u8) -> usize
 
 // A node's record at a place; says the place after it.
 fn put_node(out: &mut [u8], at: usize, node: Node) -> usize
-    requires { (node.kind ≤ 13) × (at + length (nodeBytes node) ≤ length out.old) }
-    ensures { Put out.old at (nodeBytes node) out.new result }
+    requires { (node.kind ≤ 13) × (at + length (node_bytes node) ≤ length out.old) }
+    ensures { Put out.old at (node_bytes node) out.new result }
 {
     let n = record_length(node.kind);
     let bytes = [(n - 2) as u8, 0, node.kind, 0, node.a, node.b];
@@ -100,8 +100,8 @@ fn put_node(out: &mut [u8], at: usize, node: Node) -> usize
 // The records of the first `count` nodes from a place on; says the place after them.
 fn put_nodes(out: &mut [u8], start: usize, count: usize, nodes: [Node; 64]) -> usize
     requires count_bound { (count ≤ 64) × KindsFit (take count nodes) }
-    requires nodes_in_bounds { start + length (nodesBytes (take count nodes)) ≤ length out.old }
-    ensures { Put out.old start (nodesBytes (take count nodes)) out.new result }
+    requires nodes_in_bounds { start + length (nodes_bytes (take count nodes)) ≤ length out.old }
+    ensures { Put out.old start (nodes_bytes (take count nodes)) out.new result }
 {
     let mut at = start;
     let mut i: usize = 0;
@@ -138,8 +138,8 @@ fn write_rule(signals: u8, count: usize, nodes: [Node; 64], rule: &mut [u8]) -> 
 // file are kept.
 pub fn write_nodes(signals: u8, count: u8, nodes: [Node; 64], rule: &mut [u8]) -> Written
     requires { (signals ≤ 4) × (count ≤ 64) × KindsFit (take count nodes) }
-    ensures answer { result ≡ ruleAnswer (length rule.old) (unmasked signals count nodes) }
-    ensures output { rule.new ≡ outputOf (ruleAnswer (length rule.old) (unmasked signals count nodes)) (ruleBytes (unmasked signals count nodes)) rule.old }
+    ensures answer { result ≡ rule_answer (length rule.old) (unmasked signals count nodes) }
+    ensures output { rule.new ≡ output_of (rule_answer (length rule.old) (unmasked signals count nodes)) (rule_bytes (unmasked signals count nodes)) rule.old }
 {
     write_rule(signals, wide(count), nodes, rule)
 }

@@ -6,7 +6,7 @@ use native.Mathlib.Nat.{not-suc-le-zero}
 use native.Mathlib.Omega.{arith}
 use lib.ListN.{length, get_or}
 use Rattle.sequences.specs.Tabulate.{tabulate}
-use Rattle.sequences.proofs.Loops.{Filled, filled-all, length-tab, getD-tab}
+use Rattle.sequences.proofs.Loops.{Filled, filled-all, length-tab, get_d-tab}
 use Rattle.meaning.specs.TableFiles.{successor}
 use Rattle.run_parts.specs.Parts.{Copied}
 
@@ -26,5 +26,5 @@ module _ {t : List ℕ} {P : ℕ} where
       there : (s e : ℕ) → e ≤ 15 → 16 * s + e < length rows → get_or rows (16 * s + e) 0 ≡ successor t P s e
       there s e b i =
           let k : 16 * s + e < m = omega (arith, i, ap length all ∙ length-tab m (flat t P)) in
-          ap (λ (r : List ℕ). get_or r (16 * s + e) 0) all ∙ getD-tab m (flat t P) (16 * s + e) 0 k
+          ap (λ (r : List ℕ). get_or r (16 * s + e) 0) all ∙ get_d-tab m (flat t P) (16 * s + e) 0 k
           ∙ ap₂ (successor t P) (omega arith) (omega arith)

@@ -1,11 +1,11 @@
 -- What a run reads.
 use Rattle.std.specs.Prelude.{◌≡◌, List, Bool, ℕ, ◌+◌, ◌*◌, ◌≤◌, ◌<◌, length, get_or}
-use Rattle.meaning.specs.TableFiles.{verdictOf, verdictByte, successor}
+use Rattle.meaning.specs.TableFiles.{verdict_of, verdict_byte, successor}
 use Rattle.meaning.specs.Runs.{decides}
 
 -- whether a state shows a verdict other than undecided
-abbrev pub decidesAt : List ℕ → ℕ → ℕ → Bool
-decidesAt t P s = decides (verdictOf (verdictByte t P s))
+abbrev pub decides_at : List ℕ → ℕ → ℕ → Bool
+decides_at t P s = decides (verdict_of (verdict_byte t P s))
 
 -- The rows, as far as they go, hold the successors, 16 to a state.
 pub record Copied (t : List ℕ) (P : ℕ) (rows : List ℕ) : Type 0 where

@@ -3,7 +3,7 @@ ghost use Rattle.std.specs.Prelude.{◌≡◌, ◌++◌, ◌^◌, ◌≤◌, len
 ghost use Rattle.sequences.specs.Tabulate.{tabulate};
 ghost use Rattle.meaning.specs.TableFiles.{successor};
 ghost use Rattle.meaning.specs.Runs.{in_table};
-ghost use Rattle.run_parts.specs.Parts.{Copied, decidesAt};
+ghost use Rattle.run_parts.specs.Parts.{Copied, decides_at};
 
 use events::width;
 use meaning::Verdict;
@@ -26,7 +26,7 @@ pub fn in_table(t: &[u8], signals: u8, states: u16, state: u16) -> bool
 // Whether a state shows a verdict other than undecided.
 pub fn decides_at(t: &[u8], signals: u8, state: u16) -> bool
     requires { signals ≤ 4 }
-    ensures { result ≡ decidesAt t.now signals state }
+    ensures { result ≡ decides_at t.now signals state }
 {
     let v = verdict_at(t, signals, state);
     match v {

@@ -14,7 +14,7 @@ use native.Mathlib.Numerals.{add-one}
 use native.Mathlib.Omega.{arith}
 use borrow.Author.Count.{below_none, below_more}
 use lib.ListN.{length, set, get_or, drop, drop_of_length-le, length-append, length-drop}
-use Rattle.sequences.specs.Tabulate.{tabulate, all_below, leastBelow}
+use Rattle.sequences.specs.Tabulate.{tabulate, all_below, least_below}
 
 module _ {A : Type 0} where
   tab-suc : (n : ℕ) (f : ℕ → A) (d : List A) → n < length d → set (tabulate n f ++ drop n d) n (f n) ≡ tabulate (suc n) f ++ drop (suc n) d
@@ -50,10 +50,10 @@ module _ {A : Type 0} where
   tabulate-snoc zero f = refl
   tabulate-snoc (suc n) f = ap (λ (l : List A). f zero ∷ l) (tabulate-snoc n (λ i. f (suc i)))
 
-  pub getD-tab : (n : ℕ) (f : ℕ → A) (i : ℕ) (z : A) → i < n → get_or (tabulate n f) i z ≡ f i
-  getD-tab zero f i z l = absurd (not-suc-le-zero l)
-  getD-tab (suc n) f zero z l = refl
-  getD-tab (suc n) f (suc i) z l = getD-tab n (λ k. f (suc k)) i z (le_of_suc-le-suc l)
+  pub get_d-tab : (n : ℕ) (f : ℕ → A) (i : ℕ) (z : A) → i < n → get_or (tabulate n f) i z ≡ f i
+  get_d-tab zero f i z l = absurd (not-suc-le-zero l)
+  get_d-tab (suc n) f zero z l = refl
+  get_d-tab (suc n) f (suc i) z l = get_d-tab n (λ k. f (suc k)) i z (le_of_suc-le-suc l)
 
   pub filled-length : {n : ℕ} {f : ℕ → A} {d s : List A} → Filled n f d s → length s ≡ length d
   filled-length {n} {f} {d} h = rw (h.is, length-append, length-tab, length-drop) (omega (arith, h.room))
@@ -101,7 +101,7 @@ all-at n p h i l = go (p i) refl
     go false e = e ∙ sym (all-not n p i l e) ∙ h
 
 -- j is the least: none below passes, and j passes unless it is the bound
-pub least-is : (n : ℕ) (p : ℕ → Bool) (j : ℕ) → j ≤ n → ((k : ℕ) → k < j → p k ≡ false) → (j < n → p j ≡ true) → leastBelow n p ≡ j
+pub least-is : (n : ℕ) (p : ℕ → Bool) (j : ℕ) → j ≤ n → ((k : ℕ) → k < j → p k ≡ false) → (j < n → p j ≡ true) → least_below n p ≡ j
 least-is zero p zero l h q = refl
 least-is zero p (suc j) l h q = absurd (not-suc-le-zero l)
 least-is (suc n) p zero l h q = rw (q (omega arith))
@@ -131,8 +131,8 @@ missed-none {p} = record { none = below_none (λ (k : ℕ). p k ≡ false) }
 pub missed_more : {n : ℕ} {p : ℕ → Bool} → Missed n p → p n ≡ false → Missed (n + 1) p
 missed_more {n} {p} h q = record { none = below_more (λ (k : ℕ). p k ≡ false) n h.none q }
 
-pub missed-found : {j : ℕ} {p : ℕ → Bool} → Missed j p → (n : ℕ) → j < n → p j ≡ true → leastBelow n p ≡ j
+pub missed-found : {j : ℕ} {p : ℕ → Bool} → Missed j p → (n : ℕ) → j < n → p j ≡ true → least_below n p ≡ j
 missed-found {j} {p} h n l q = least-is n p j (omega arith) h.none (λ _. q)
 
-pub missed-end : {j : ℕ} {p : ℕ → Bool} → Missed j p → (n : ℕ) → j ≡ n → leastBelow n p ≡ n
+pub missed-end : {j : ℕ} {p : ℕ → Bool} → Missed j p → (n : ℕ) → j ≡ n → least_below n p ≡ n
 missed-end {j} {p} h n e = least-is n p j (omega arith) h.none (λ l. absurd (omega arith)) ∙ e

@@ -8,7 +8,7 @@ use native.Mathlib.Decide.{ℕ_discrete, dec_lt}
 use native.Mathlib.Omega.{arith}
 use lib.Dec.{eqb}
 use borrow.Author.Tests.{eqb-true, eqb-false}
-use Rattle.sequences.specs.Tabulate.{leastBelow}
+use Rattle.sequences.specs.Tabulate.{least_below}
 
 -- f maps the numbers below n into those below k, no two to the same
 pub record Injective (n k : ℕ) (f : ℕ → ℕ) : Type 0 where
@@ -85,7 +85,7 @@ pub record Least (n : ℕ) (p : ℕ → Bool) (k : ℕ) : Type 0 where
   pub before : (i : ℕ) → i < k → p i ≡ false
   pub here : k < n → p k ≡ true
 
-pub least-below : (n : ℕ) (p : ℕ → Bool) → Least n p (leastBelow n p)
+pub least-below : (n : ℕ) (p : ℕ → Bool) → Least n p (least_below n p)
 least-below zero p = record { bound = le_refl 0; before = λ i l. absurd (not-suc-le-zero l); here = λ l. absurd (not-suc-le-zero l) }
 least-below (suc n) p = go (p zero) refl (least-below n (λ i. p (suc i)))
   where
@@ -99,7 +99,7 @@ least-below (suc n) p = go (p zero) refl (least-below n (λ i. p (suc i)))
 
 -- the least argument at which f takes j
 abbrev pub inverse : ℕ → (ℕ → ℕ) → ℕ → ℕ
-inverse n f j = leastBelow n (λ i. eqb (f i) j)
+inverse n f j = least_below n (λ i. eqb (f i) j)
 
 pub injective-onto : (n k : ℕ) {f : ℕ → ℕ} → Injective n k f → n ≡ k → Onto n k f (inverse n f)
 injective-onto n k {f} h q = record {

@@ -8,7 +8,7 @@ use mathlib.Core.List.{List, ◌∷◌}
 use Prim.Native.Nat.{ℕ, zero, suc, ◌<◌}
 use native.Mathlib.Omega.{arith}
 use lib.Dec.{T}
-use Rattle.sequences.specs.Tabulate.{tabulate, all_below, leastBelow}
+use Rattle.sequences.specs.Tabulate.{tabulate, all_below, least_below}
 
 pub is_true : (b : Bool) → T b → b ≡ true
 is_true true t = refl
@@ -30,7 +30,7 @@ pub all-is : (n : ℕ) (p : ℕ → Bool) → ((i : ℕ) → i < n → p i ≡ t
 all-is zero p h = refl
 all-is (suc n) p h = rw (h zero (omega arith)) (all-is n (λ i. p (suc i)) (λ i l. h (suc i) (omega arith)))
 
-pub least-same : (n : ℕ) (p q : ℕ → Bool) → ((i : ℕ) → i < n → p i ≡ q i) → leastBelow n p ≡ leastBelow n q
+pub least-same : (n : ℕ) (p q : ℕ → Bool) → ((i : ℕ) → i < n → p i ≡ q i) → least_below n p ≡ least_below n q
 least-same zero p q h = refl
 least-same (suc n) p q h =
     ap₂ (λ (b : Bool) (k : ℕ). cond b 0 (suc k)) (h 0 (omega arith)) (least-same n (λ i. p (suc i)) (λ i. q (suc i)) (λ i l. h (suc i) (omega arith)))

@@ -27,6 +27,6 @@ all_below zero p = true
 all_below (suc n) p = let r = all_below n (λ i. p (suc i)) in cond (p zero) r false
 
 -- the least index below n at which p holds, and n where there is none
-abbrev pub leastBelow : ℕ → (ℕ → Bool) → ℕ
-leastBelow zero p = zero
-leastBelow (suc n) p = let r = suc (leastBelow n (λ i. p (suc i))) in cond (p zero) zero r
+abbrev pub least_below : ℕ → (ℕ → Bool) → ℕ
+least_below zero p = zero
+least_below (suc n) p = let r = suc (least_below n (λ i. p (suc i))) in cond (p zero) zero r

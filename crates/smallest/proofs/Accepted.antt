@@ -9,9 +9,9 @@ use lib.ListN.{length, get_or, length-append}
 use lib.Dec.{ltb, leb, eqb}
 use lib.Pow.{pow_pos, pow_mono}
 use borrow.Author.Tests.{leb-true, leb-false, eqb-false, not-false}
-use Rattle.meaning.specs.Bytes.{u16At}
-use Rattle.meaning.specs.Traces.{masked, fullMask}
-use Rattle.meaning.specs.RuleFiles.{Rule, alphabetOf, first_of, frameChecks, headerOf, reading_of, Judgement, Accepted, Refused, lengthFits, temporal, temporals, nodeAt, operandsFit, rangesFit, mask_of, nodesFrom, bodyFrom, judge}
+use Rattle.meaning.specs.Bytes.{u16_at}
+use Rattle.meaning.specs.Traces.{masked, full_mask}
+use Rattle.meaning.specs.RuleFiles.{Rule, alphabet_of, first_of, frame_checks, header_of, reading_of, Judgement, Accepted, Refused, length_fits, temporal, temporals, node_at, operands_fit, ranges_fit, mask_of, nodes_from, body_from, judge}
 use Rattle.meaning.specs.declared.Node.{Node}
 use Rattle.meaning.specs.declared.Header.{Header}
 use Rattle.meaning.specs.declared.Refusal.{Refusal}
@@ -49,9 +49,9 @@ and-true true false e = (refl, e)
 and-true false b e = let z : ◌≡◌ {A = ℕ} 0 1 = cc in absurd (omega arith)
 
 -- those of the first record
-abbrev headerChecks : List ℕ → List (Bool × Refusal)
-headerChecks b =
-    frameChecks b 0 (eqb (u16At b 2) 256) (eqb (u16At b 0) 4)
+abbrev header_checks : List ℕ → List (Bool × Refusal)
+header_checks b =
+    frame_checks b 0 (eqb (u16_at b 2) 256) (eqb (u16_at b 0) 4)
     ++ ((not (leb 1 (get_or b 4 0) && leb (get_or b 4 0) 4), WrongSignals)
     ∷ (not (leb 1 (get_or b 5 0) && leb (get_or b 5 0) 64), WrongCount)
     ∷ [])
@@ -62,8 +62,8 @@ pub record Counts (h : Header) : Type 0 where
   pub some : 1 ≤ h.nodes
   pub few : h.nodes ≤ 64
 
-pub header-counts : (b : List ℕ) (h : Header) → headerOf b ≡ HeaderReading.Header h → Counts h
-unfolding headerOf
+pub header-counts : (b : List ℕ) (h : Header) → header_of b ≡ HeaderReading.Header h → Counts h
+unfolding header_of
 header-counts b h e =
     subst Counts same
     (record {
@@ -72,8 +72,8 @@ header-counts b h e =
       few = leb-true (get_or b 5 0) 64 u.1;
     })
   where
-    checked : (HeaderReading.Header (record { signals = get_or b 4 0; nodes = get_or b 5 0 }) ≡ HeaderReading.Header h) × Clear (headerChecks b)
-    checked = passes HeaderReading.Refused (HeaderReading.Header h) (λ r q. let z : ◌≡◌ {A = ℕ} 0 1 = cc in omega arith) (headerChecks b) (HeaderReading.Header (record { signals = get_or b 4 0; nodes = get_or b 5 0 })) e
+    checked : (HeaderReading.Header (record { signals = get_or b 4 0; nodes = get_or b 5 0 }) ≡ HeaderReading.Header h) × Clear (header_checks b)
+    checked = passes HeaderReading.Refused (HeaderReading.Header h) (λ r q. let z : ◌≡◌ {A = ℕ} 0 1 = cc in omega arith) (header_checks b) (HeaderReading.Header (record { signals = get_or b 4 0; nodes = get_or b 5 0 })) e
 
     same : record { signals = get_or b 4 0; nodes = get_or b 5 0 } ≡ h
     same = cc checked.0
@@ -88,43 +88,43 @@ header-counts b h e =
 masked-live : (P m : ℕ) → m < 2 ^ 2 ^ P → m ≢ 0 → Live (masked (2 ^ P) m)
 masked-live P m l q = let e = in-mask (2 ^ P) m l q in record { event = e.event; possible = (e.low, rw e.on tt) }
 
-pub full-live : (P : ℕ) → Live (masked (2 ^ P) (fullMask P))
-full-live P = masked-live P (fullMask P) (omega (arith, pow_pos (2 ^ P))) (λ z. omega (arith, z, two-le P))
+pub full-live : (P : ℕ) → Live (masked (2 ^ P) (full_mask P))
+full-live P = masked-live P (full_mask P) (omega (arith, pow_pos (2 ^ P))) (λ z. omega (arith, z, two-le P))
   where
     two-le : (P : ℕ) → 2 ≤ 2 ^ 2 ^ P
     two-le P = pow_mono {i = 1} {j = 2 ^ P} (pow_pos P)
 
 -- those of the mask's record
-abbrev maskChecks : List ℕ → ℕ → List (Bool × Refusal)
-maskChecks b P =
-    frameChecks b 6 true (eqb (u16At b 6) 4)
-    ++ ((leb (2 ^ 2 ^ P) (u16At b 10), OutOfRange 6)
-    ∷ (eqb (u16At b 10) 0, NoEvent 6)
+abbrev mask_checks : List ℕ → ℕ → List (Bool × Refusal)
+mask_checks b P =
+    frame_checks b 6 true (eqb (u16_at b 6) 4)
+    ++ ((leb (2 ^ 2 ^ P) (u16_at b 10), OutOfRange 6)
+    ∷ (eqb (u16_at b 10) 0, NoEvent 6)
     ∷ [])
 
 -- an accepted mask has an event
 mask-live : (b : List ℕ) (P m p : ℕ) → mask_of b P ≡ MaskReading.Mask m p → Live (masked (2 ^ P) m)
 unfolding mask_of
-mask-live b P m p e = go (eqb (u16At b 8) 257) e
+mask-live b P m p e = go (eqb (u16_at b 8) 257) e
   where
-    there : first_of MaskReading.Refused (maskChecks b P) (MaskReading.Mask (u16At b 10) 12) ≡ MaskReading.Mask m p → Live (masked (2 ^ P) m)
+    there : first_of MaskReading.Refused (mask_checks b P) (MaskReading.Mask (u16_at b 10) 12) ≡ MaskReading.Mask m p → Live (masked (2 ^ P) m)
     there e =
-        let z = passes MaskReading.Refused (MaskReading.Mask m p) (λ r q. let z : ◌≡◌ {A = ℕ} 0 1 = cc in omega arith) (maskChecks b P) (MaskReading.Mask (u16At b 10) 12) e in
+        let z = passes MaskReading.Refused (MaskReading.Mask m p) (λ r q. let z : ◌≡◌ {A = ℕ} 0 1 = cc in omega arith) (mask_checks b P) (MaskReading.Mask (u16_at b 10) 12) e in
         let c = z.1.1.1.1.1.1 in
-        let same : u16At b 10 ≡ m = cc z.0 in
-        subst (λ (n : ℕ). Live (masked (2 ^ P) n)) same (masked-live P (u16At b 10) (leb-false (2 ^ 2 ^ P) (u16At b 10) c.0) (eqb-false (u16At b 10) 0 c.1.0))
+        let same : u16_at b 10 ≡ m = cc z.0 in
+        subst (λ (n : ℕ). Live (masked (2 ^ P) n)) same (masked-live P (u16_at b 10) (leb-false (2 ^ 2 ^ P) (u16_at b 10) c.0) (eqb-false (u16_at b 10) 0 c.1.0))
 
-    go : (t : Bool) → cond t (first_of MaskReading.Refused (maskChecks b P) (MaskReading.Mask (u16At b 10) 12)) (MaskReading.Mask (fullMask P) 6) ≡ MaskReading.Mask m p → Live (masked (2 ^ P) m)
+    go : (t : Bool) → cond t (first_of MaskReading.Refused (mask_checks b P) (MaskReading.Mask (u16_at b 10) 12)) (MaskReading.Mask (full_mask P) 6) ≡ MaskReading.Mask m p → Live (masked (2 ^ P) m)
     go true e = there e
-    go false e = let same : fullMask P ≡ m = cc e in subst (λ (n : ℕ). Live (masked (2 ^ P) n)) same (full-live P)
+    go false e = let same : full_mask P ≡ m = cc e in subst (λ (n : ℕ). Live (masked (2 ^ P) n)) same (full-live P)
 
 -- a node that is read is no eighth temporal one
 node-checks : (b : List ℕ) (P p number seen : ℕ) → List (Bool × Refusal)
 node-checks b P p number seen =
-    let n = nodeAt b p in
-    frameChecks b p (leb n.kind 13) (lengthFits n.kind (u16At b p))
-    ++ ((not (operandsFit number n), WrongOperand p)
-    ∷ (not (rangesFit P n), OutOfRange p)
+    let n = node_at b p in
+    frame_checks b p (leb n.kind 13) (length_fits n.kind (u16_at b p))
+    ++ ((not (operands_fit number n), WrongOperand p)
+    ∷ (not (ranges_fit P n), OutOfRange p)
     ∷ (temporal n.kind && leb 7 seen, EighthTemporal p)
     ∷ [])
 
@@ -132,10 +132,10 @@ node-temporal : (b : List ℕ) (P p number seen : ℕ) (n : Node) → reading_of
 unfolding reading_of node-checks
 node-temporal b P p number seen n e l = go (temporal n.kind) refl
   where
-    checked : (Reading.Node (nodeAt b p) ≡ Reading.Node n) × Clear (node-checks b P p number seen)
-    checked = passes Reading.Refused (Reading.Node n) (λ r q. let z : ◌≡◌ {A = ℕ} 0 1 = cc in omega arith) (node-checks b P p number seen) (Reading.Node (nodeAt b p)) e
+    checked : (Reading.Node (node_at b p) ≡ Reading.Node n) × Clear (node-checks b P p number seen)
+    checked = passes Reading.Refused (Reading.Node n) (λ r q. let z : ◌≡◌ {A = ℕ} 0 1 = cc in omega arith) (node-checks b P p number seen) (Reading.Node (node_at b p)) e
 
-    same : nodeAt b p ≡ n
+    same : node_at b p ≡ n
     same = cc checked.0
 
     last : temporal n.kind && leb 7 seen ≡ false
@@ -156,8 +156,8 @@ pub record Has (P m k : ℕ) (r : Rule) : Type 0 where
   pub nodes : length r.nodes ≡ k
   pub temporal : temporals r.nodes ≤ 7
 
-pub has-from : (k : ℕ) (b : List ℕ) (P m p : ℕ) (earlier : List Node) (r : Rule) → nodesFrom k b P m p earlier ≡ Accepted r → temporals earlier ≤ 7 → Has P m (k + length earlier) r
-unfolding nodesFrom
+pub has-from : (k : ℕ) (b : List ℕ) (P m p : ℕ) (earlier : List Node) (r : Rule) → nodes_from k b P m p earlier ≡ Accepted r → temporals earlier ≤ 7 → Has P m (k + length earlier) r
+unfolding nodes_from
 has-from zero b P m p earlier r e l = go (ltb p (length b)) e
   where
     go : (t : Bool) → cond t (Refused (TrailingBytes p)) (Accepted (record { signals = P; mask = m; nodes = earlier })) ≡ Accepted r → Has P m (0 + length earlier) r
@@ -165,11 +165,11 @@ has-from zero b P m p earlier r e l = go (ltb p (length b)) e
     go false e =
         let q : record { signals = P; mask = m; nodes = earlier } ≡ r = cc in
         subst (Has P m (0 + length earlier)) q (record { signals = refl; mask = refl; nodes = omega arith; temporal = l })
-has-from (suc k) b P m p earlier r e l = go (reading_of b P p (length earlier) (temporals earlier)) refl (λ n. has-from k b P m (p + 2 + u16At b p) (earlier ++ (n ∷ [])) r) e
+has-from (suc k) b P m p earlier r e l = go (reading_of b P p (length earlier) (temporals earlier)) refl (λ n. has-from k b P m (p + 2 + u16_at b p) (earlier ++ (n ∷ [])) r) e
   where
     go : (x : Reading) → reading_of b P p (length earlier) (temporals earlier) ≡ x
-        → ((n : Node) → nodesFrom k b P m (p + 2 + u16At b p) (earlier ++ (n ∷ [])) ≡ Accepted r → temporals (earlier ++ (n ∷ [])) ≤ 7 → Has P m (k + length (earlier ++ (n ∷ []))) r)
-        → elim x as (λ _. Judgement) [ Reading.Node n ↦ nodesFrom k b P m (p + 2 + u16At b p) (earlier ++ (n ∷ [])) | Reading.Refused r ↦ Refused r ] ≡ Accepted r → Has P m (suc k + length earlier) r
+        → ((n : Node) → nodes_from k b P m (p + 2 + u16_at b p) (earlier ++ (n ∷ [])) ≡ Accepted r → temporals (earlier ++ (n ∷ [])) ≤ 7 → Has P m (k + length (earlier ++ (n ∷ []))) r)
+        → elim x as (λ _. Judgement) [ Reading.Node n ↦ nodes_from k b P m (p + 2 + u16_at b p) (earlier ++ (n ∷ [])) | Reading.Refused r ↦ Refused r ] ≡ Accepted r → Has P m (suc k + length earlier) r
     go (Reading.Node n) q ih e =
         let h = ih n e (rw (temporals-snoc earlier n) (node-temporal b P p (length earlier) (temporals earlier) n q l)) in
         let c : k + length (earlier ++ (n ∷ [])) ≡ suc k + length earlier = (let d = length-append earlier (n ∷ []) in omega arith) in
@@ -178,17 +178,17 @@ has-from (suc k) b P m p earlier r e l = go (reading_of b P p (length earlier) (
 
 pub record Formed (r : Rule) : Type 0 where
   pub signals : Signals r.signals
-  pub live : Live (alphabetOf r)
+  pub live : Live (alphabet_of r)
   pub some : 1 ≤ length r.nodes
   pub few : length r.nodes ≤ 64
   pub temporal : temporals r.nodes ≤ 7
 
-body-formed : (b : List ℕ) (h : Header) (r : Rule) → Counts h → bodyFrom h.nodes b h.signals ≡ Accepted r → Formed r
-unfolding bodyFrom
+body-formed : (b : List ℕ) (h : Header) (r : Rule) → Counts h → body_from h.nodes b h.signals ≡ Accepted r → Formed r
+unfolding body_from
 body-formed b h r c e = go (mask_of b h.signals) refl e
   where
     go : (x : MaskReading) → mask_of b h.signals ≡ x
-        → elim x as (λ _. Judgement) [ MaskReading.Mask m p ↦ nodesFrom h.nodes b h.signals m p [] | MaskReading.Refused r ↦ Refused r ] ≡ Accepted r → Formed r
+        → elim x as (λ _. Judgement) [ MaskReading.Mask m p ↦ nodes_from h.nodes b h.signals m p [] | MaskReading.Refused r ↦ Refused r ] ≡ Accepted r → Formed r
     go (MaskReading.Mask m p) q e =
         let f = has-from h.nodes b h.signals m p [] r e (omega arith) in
         record {
@@ -202,9 +202,9 @@ body-formed b h r c e = go (mask_of b h.signals) refl e
 
 pub accepted-formed : (b : List ℕ) (r : Rule) → judge b ≡ Accepted r → Formed r
 unfolding judge
-accepted-formed b r e = go (headerOf b) refl e
+accepted-formed b r e = go (header_of b) refl e
   where
-    go : (x : HeaderReading) → headerOf b ≡ x → elim x as (λ _. Judgement) [ HeaderReading.Header h ↦ bodyFrom h.nodes b h.signals | HeaderReading.Refused r ↦ Refused r ] ≡ Accepted r → Formed r
+    go : (x : HeaderReading) → header_of b ≡ x → elim x as (λ _. Judgement) [ HeaderReading.Header h ↦ body_from h.nodes b h.signals | HeaderReading.Refused r ↦ Refused r ] ≡ Accepted r → Formed r
     go (HeaderReading.Header h) q e = body-formed b h r (header-counts b h q) e
     go (HeaderReading.Refused y) q e = let z : ◌≡◌ {A = ℕ} 0 1 = cc in absurd (omega arith)
 

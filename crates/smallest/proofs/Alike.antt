@@ -11,7 +11,7 @@ use lib.Dec.{T}
 use Rattle.sequences.specs.Tabulate.{tabulate, up_to}
 use Rattle.meaning.specs.Traces.{Alphabet, Event, Word, Lasso, prepend, Continuation}
 use Rattle.meaning.specs.Verdicts.{Property, NoneSatisfies, AllSatisfy, NeverDecided, Judged, SameResidual, MoreThan}
-use Rattle.meaning.specs.Monitors.{Monitor, Over, keep, events, newlyMet, walk, BreadthFirst}
+use Rattle.meaning.specs.Monitors.{Monitor, Over, keep, events, newly_met, walk, BreadthFirst}
 use Rattle.meaning.specs.declared.Verdict.{Verdict}
 use Rattle.meaning.specs.declared.Verdict.TheVariants.{Undecided, Satisfied, Violated, Moot}
 use Rattle.residuals.specs.System.{System}
@@ -107,8 +107,8 @@ module _ {Σ Σ' : Alphabet} {L L' : Property} (a : Alike Σ Σ' L L') where
     same = S.same;
     empty = S.empty;
     full = S.full;
-    same-is = λ u v p q. Iff.trans (S.same-is u v (word-to (turned a) u p) (word-to (turned a) v q)) (residuals-same u v);
-    empty-is = λ w p. Iff.trans (S.empty-is w (word-to (turned a) w p)) (none-same w);
+    same_is = λ u v p q. Iff.trans (S.same_is u v (word-to (turned a) u p) (word-to (turned a) v q)) (residuals-same u v);
+    empty_is = λ w p. Iff.trans (S.empty_is w (word-to (turned a) w p)) (none-same w);
     full_is = λ w p. Iff.trans (S.full_is w (word-to (turned a) w p)) (all_same w);
   }
 
@@ -122,7 +122,7 @@ keep_same (suc n) p q f h =
 
 module _ {Σ Σ' : Alphabet} {L L' : Property} (a : Alike Σ Σ' L L') where
   over-to : {m : Monitor} → Over Σ m → Over Σ' m
-  over-to o = record { start-in = o.start-in; next-in = λ s e l h. o.next-in s e l (event-to (turned a) e h) }
+  over-to o = record { start_in = o.start_in; next_in = λ s e l h. o.next_in s e l (event-to (turned a) e h) }
 
   events-same : events Σ ≡ events Σ'
   events-same = keep_same Σ.width Σ.possible Σ'.possible (λ i. i) a.possible ∙ ap (λ (n : ℕ). keep Σ'.possible (up_to n)) a.width
@@ -131,9 +131,9 @@ module _ {Σ Σ' : Alphabet} {L L' : Property} (a : Alike Σ Σ' L L') where
   walk_same m zero queue met = refl
   walk_same m (suc k) [] met = refl
   walk_same m (suc k) (s ∷ queue) met =
-      let new = newlyMet met (map (m.next s) (events Σ)) in
+      let new = newly_met met (map (m.next s) (events Σ)) in
       walk_same m k (queue ++ new) (met ++ new)
-      ∙ ap (λ (es : List ℕ). let new = newlyMet met (map (m.next s) es) in walk Σ' m k (queue ++ new) (met ++ new)) events-same
+      ∙ ap (λ (es : List ℕ). let new = newly_met met (map (m.next s) es) in walk Σ' m k (queue ++ new) (met ++ new)) events-same
 
   order-to : (m : Monitor) → BreadthFirst Σ m → BreadthFirst Σ' m
   unfolding BreadthFirst
@@ -163,8 +163,8 @@ module _ {Σ Σ' : Alphabet} {L L' : Property} (a : Alike Σ Σ' L L') where
       verdicts = W.verdicts;
       rows = W.rows;
       fits = record {
-        signals-low = f.signals-low;
-        signals-high = f.signals-high;
+        signals_low = f.signals_low;
+        signals_high = f.signals_high;
         states-low = f.states-low;
         states-high = f.states-high;
         verdict = f.verdict;

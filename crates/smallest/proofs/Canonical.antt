@@ -7,7 +7,7 @@ use native.Mathlib.Nat.{le_antisymm}
 use Rattle.meaning.specs.Traces.{Alphabet, Word}
 use Rattle.meaning.specs.Verdicts.{Property, Judged}
 use Rattle.meaning.specs.Monitors.{shows, Renumbered}
-use Rattle.meaning.specs.TableFiles.{statesIn, monitorOf}
+use Rattle.meaning.specs.TableFiles.{states_in, monitor_of}
 use Rattle.meaning.specs.declared.Verdict.{Verdict}
 use Rattle.moore.specs.Reduced.{SameVerdicts}
 use Rattle.moore.proofs.Minimal.{smallest, unique}
@@ -22,20 +22,20 @@ module _ {Σ : Alphabet} {P : ℕ} (p : OfSignals Σ P) {L L' : Property} {t t' 
 
   verdicts-same : t ≡ t' → Same
   verdicts-same q w a v =
-      let e : shows (monitorOf t) w ≡ shows (monitorOf t') w = ap (λ (b : List ℕ). shows (monitorOf b) w) q in
+      let e : shows (monitor_of t) w ≡ shows (monitor_of t') w = ap (λ (b : List ℕ). shows (monitor_of b) w) q in
       (λ j. (h'.judged w a v).0 (sym e ∙ (h.judged w a v).1 j), λ j. (h.judged w a v).0 (e ∙ (h'.judged w a v).1 j))
 
   module _ (j : Same) where
-    one_way : SameVerdicts Σ (monitorOf t) (monitorOf t')
-    one_way = record { same = λ w a. let v = shows (monitorOf t') w in (h.judged w a v).1 ((j w a v).1 ((h'.judged w a v).0 refl)) }
+    one_way : SameVerdicts Σ (monitor_of t) (monitor_of t')
+    one_way = record { same = λ w a. let v = shows (monitor_of t') w in (h.judged w a v).1 ((j w a v).1 ((h'.judged w a v).0 refl)) }
 
-    other_way : SameVerdicts Σ (monitorOf t') (monitorOf t)
+    other_way : SameVerdicts Σ (monitor_of t') (monitor_of t)
     other_way = record { same = λ w a. sym (one_way.same w a) }
 
-    states-same : statesIn t ≡ statesIn t'
+    states-same : states_in t ≡ states_in t'
     states-same = le_antisymm (smallest h.over h'.over h.reduced one_way) (smallest h'.over h.over h'.reduced other_way)
 
-    paired : Renumbered Σ (monitorOf t) (monitorOf t')
+    paired : Renumbered Σ (monitor_of t) (monitor_of t')
     paired = unique h.over h'.over h.reduced one_way (sym states-same)
 
     tables-same : t ≡ t'

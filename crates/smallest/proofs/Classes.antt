@@ -7,11 +7,11 @@ use Prim.Native.Nat.{ℕ, ◌≤◌, ◌<◌}
 use native.Mathlib.Omega.{arith}
 use lib.ListN.{length, get_or}
 use lib.Dec.{T}
-use Rattle.sequences.proofs.Loops.{getD-tab}
+use Rattle.sequences.proofs.Loops.{get_d-tab}
 use Rattle.meaning.specs.Traces.{Alphabet, Word}
 use Rattle.meaning.specs.Verdicts.{Property, NoneSatisfies, AllSatisfy, NeverDecided, Judged}
 use Rattle.meaning.specs.Monitors.{follow, shows, BreadthFirst}
-use Rattle.meaning.specs.TableFiles.{verdictOf}
+use Rattle.meaning.specs.TableFiles.{verdict_of}
 use Rattle.meaning.specs.declared.Verdict.{Verdict}
 use Rattle.meaning.specs.declared.Verdict.TheVariants.{Undecided, Satisfied, Violated, Moot}
 use Rattle.residuals.specs.System.{System}
@@ -20,7 +20,7 @@ use Rattle.moore.specs.Grouping.{machine, Machine}
 use Rattle.moore.specs.Quotient.{reduced, Says}
 use Rattle.moore.proofs.Words.{word-append, follow-append}
 use Rattle.moore.proofs.Reduction.{reduced-shows}
-use Rattle.smallest.specs.Table.{class_of, classesOf}
+use Rattle.smallest.specs.Table.{class_of, classes_of}
 use Rattle.smallest.proofs.Judgements.{Live, judged-one}
 
 -- ---- of a key
@@ -51,48 +51,48 @@ module _ {Σ : Alphabet} {L : Property} (S : System Σ L) {limit : ℕ} {keys : 
   state : {s : ℕ} → s < length rows → s < length keys
   state {s} l = subst (λ (n : ℕ). s < n) C.count l
 
-  class-at : (i : ℕ) → i < length keys → get_or (classesOf S keys) i 0 ≡ class (S.empty (get_or keys i S.start)) (S.full (get_or keys i S.start))
-  unfolding classesOf class_of
-  class-at i l = getD-tab (length keys) (λ i. class_of S (get_or keys i S.start)) i 0 l
+  class-at : (i : ℕ) → i < length keys → get_or (classes_of S keys) i 0 ≡ class (S.empty (get_or keys i S.start)) (S.full (get_or keys i S.start))
+  unfolding classes_of class_of
+  class-at i l = get_d-tab (length keys) (λ i. class_of S (get_or keys i S.start)) i 0 l
 
-  pub machine-of : Machine Σ (length rows) rows (classesOf S keys)
+  pub machine-of : Machine Σ (length rows) rows (classes_of S keys)
   machine-of = record {
     some = rw C.count C.some;
     inside = λ s e l h. rw C.count (C.inside s e (state l) h.0);
     class = λ s l. rw (class-at s (state l)) (class_low (S.empty (get_or keys s S.start)) (S.full (get_or keys s S.start)));
   }
 
-  pub in_order : BreadthFirst Σ (machine (length rows) rows (classesOf S keys))
-  in_order = C.order (λ s. verdictOf (get_or (classesOf S keys) s 0))
+  pub in_order : BreadthFirst Σ (machine (length rows) rows (classes_of S keys))
+  in_order = C.order (λ s. verdict_of (get_or (classes_of S keys) s 0))
 
   -- the state on which the machine stands after a word
   abbrev stand : List ℕ → ℕ
-  stand w = follow (machine (length rows) rows (classesOf S keys)) 0 w
+  stand w = follow (machine (length rows) rows (classes_of S keys)) 0 w
 
   module _ (w : List ℕ) (a : Word Σ w) where
-    class-after : get_or (classesOf S keys) (stand w) 0 ≡ class (S.empty (get_or keys (stand w) S.start)) (S.full (get_or keys (stand w) S.start))
-    class-after = class-at (stand w) (stands-in S C (λ s. verdictOf (get_or (classesOf S keys) s 0)) w a)
+    class-after : get_or (classes_of S keys) (stand w) 0 ≡ class (S.empty (get_or keys (stand w) S.start)) (S.full (get_or keys (stand w) S.start))
+    class-after = class-at (stand w) (stands-in S C (λ s. verdict_of (get_or (classes_of S keys) s 0)) w a)
 
-    none_after : get_or (classesOf S keys) (stand w) 0 ≡ 2 → NoneSatisfies Σ L w
+    none_after : get_or (classes_of S keys) (stand w) 0 ≡ 2 → NoneSatisfies Σ L w
     none_after q =
-        (empty-after S C (λ s. verdictOf (get_or (classesOf S keys) s 0)) w a).0
+        (empty-after S C (λ s. verdict_of (get_or (classes_of S keys) s 0)) w a).0
         (class-two (S.empty (get_or keys (stand w) S.start)) (S.full (get_or keys (stand w) S.start)) (sym class-after ∙ q))
 
-    all_after : get_or (classesOf S keys) (stand w) 0 ≡ 1 → AllSatisfy Σ L w
+    all_after : get_or (classes_of S keys) (stand w) 0 ≡ 1 → AllSatisfy Σ L w
     all_after q =
-        (full-after S C (λ s. verdictOf (get_or (classesOf S keys) s 0)) w a).0
+        (full-after S C (λ s. verdict_of (get_or (classes_of S keys) s 0)) w a).0
         (class-one (S.empty (get_or keys (stand w) S.start)) (S.full (get_or keys (stand w) S.start)) (sym class-after ∙ q))
 
-    neither-after : get_or (classesOf S keys) (stand w) 0 ≡ 0 → (¬ NoneSatisfies Σ L w) × (¬ AllSatisfy Σ L w)
+    neither-after : get_or (classes_of S keys) (stand w) 0 ≡ 0 → (¬ NoneSatisfies Σ L w) × (¬ AllSatisfy Σ L w)
     neither-after q =
         let z = class-zero (S.empty (get_or keys (stand w) S.start)) (S.full (get_or keys (stand w) S.start)) (sym class-after ∙ q) in
-        (λ n. z.0 ((empty-after S C (λ s. verdictOf (get_or (classesOf S keys) s 0)) w a).1 n), λ n. z.1 ((full-after S C (λ s. verdictOf (get_or (classesOf S keys) s 0)) w a).1 n))
+        (λ n. z.0 ((empty-after S C (λ s. verdict_of (get_or (classes_of S keys) s 0)) w a).1 n), λ n. z.1 ((full-after S C (λ s. verdict_of (get_or (classes_of S keys) s 0)) w a).1 n))
 
   -- where the machine stands after further events
-  further : (w z : List ℕ) → get_or (classesOf S keys) (follow (machine (length rows) rows (classesOf S keys)) (stand w) z) 0 ≡ get_or (classesOf S keys) (stand (w ++ z)) 0
-  further w z = ap (λ (s : ℕ). get_or (classesOf S keys) s 0) (sym (follow-append (machine (length rows) rows (classesOf S keys)) 0 w z))
+  further : (w z : List ℕ) → get_or (classes_of S keys) (follow (machine (length rows) rows (classes_of S keys)) (stand w) z) 0 ≡ get_or (classes_of S keys) (stand (w ++ z)) 0
+  further w z = ap (λ (s : ℕ). get_or (classes_of S keys) s 0) (sym (follow-append (machine (length rows) rows (classes_of S keys)) 0 w z))
 
-  says-judged : (w : List ℕ) → Word Σ w → (v : Verdict) → Says Σ (length rows) rows (classesOf S keys) (stand w) v → Judged Σ L w v
+  says-judged : (w : List ℕ) → Word Σ w → (v : Verdict) → Says Σ (length rows) rows (classes_of S keys) (stand w) v → Judged Σ L w v
   unfolding NeverDecided
   says-judged w a Satisfied h = all_after w a h
   says-judged w a Violated h = none_after w a h
@@ -103,12 +103,12 @@ module _ {Σ : Alphabet} {L : Property} (S : System Σ L) {limit : ℕ} {keys : 
       z = h.1.by
 
       later : NeverDecided Σ L w
-          → (get_or (classesOf S keys) (follow (machine (length rows) rows (classesOf S keys)) (stand w) z) 0 ≡ 1) ⊎ (get_or (classesOf S keys) (follow (machine (length rows) rows (classesOf S keys)) (stand w) z) 0 ≡ 2) → ⊥
+          → (get_or (classes_of S keys) (follow (machine (length rows) rows (classes_of S keys)) (stand w) z) 0 ≡ 1) ⊎ (get_or (classes_of S keys) (follow (machine (length rows) rows (classes_of S keys)) (stand w) z) 0 ≡ 2) → ⊥
       later m (inl q) = (m z h.1.word).1 (all_after (w ++ z) (word-append Σ w z a h.1.word) (sym (further w z) ∙ q))
       later m (inr q) = (m z h.1.word).0 (none_after (w ++ z) (word-append Σ w z a h.1.word) (sym (further w z) ∙ q))
 
-  pub reduced-judged : Live Σ → (w : List ℕ) → Word Σ w → (v : Verdict) → (shows (reduced Σ (length rows) rows (classesOf S keys)) w ≡ v) ↔ Judged Σ L w v
-  reduced-judged live w a v = (judged v, λ j. judged-one live L w (shows (reduced Σ (length rows) rows (classesOf S keys)) w) v (judged (shows (reduced Σ (length rows) rows (classesOf S keys)) w) refl) j)
+  pub reduced-judged : Live Σ → (w : List ℕ) → Word Σ w → (v : Verdict) → (shows (reduced Σ (length rows) rows (classes_of S keys)) w ≡ v) ↔ Judged Σ L w v
+  reduced-judged live w a v = (judged v, λ j. judged-one live L w (shows (reduced Σ (length rows) rows (classes_of S keys)) w) v (judged (shows (reduced Σ (length rows) rows (classes_of S keys)) w) refl) j)
     where
-      judged : (v : Verdict) → shows (reduced Σ (length rows) rows (classesOf S keys)) w ≡ v → Judged Σ L w v
+      judged : (v : Verdict) → shows (reduced Σ (length rows) rows (classes_of S keys)) w ≡ v → Judged Σ L w v
       judged v q = says-judged w a v ((reduced-shows machine-of w a v).0 q)

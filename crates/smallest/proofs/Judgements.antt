@@ -15,16 +15,16 @@ pub record Live (Σ : Alphabet) : Type 0 where
   pub possible : Event Σ event
 
 -- one event, for ever
-abbrev forEver : ℕ → Lasso
-forEver e = record { stem = []; loop = e ∷ []; nonEmpty = omega arith }
+abbrev for_ever : ℕ → Lasso
+for_ever e = record { stem = []; loop = e ∷ []; non_empty = omega arith }
 
-goes_on : {Σ : Alphabet} (live : Live Σ) → Continuation Σ (forEver live.event)
+goes_on : {Σ : Alphabet} (live : Live Σ) → Continuation Σ (for_ever live.event)
 goes_on live i = rw mod-one live.possible
 
 module _ {Σ : Alphabet} (live : Live Σ) (L : Property) where
   pub exclusive : (w : List ℕ) → NoneSatisfies Σ L w → AllSatisfy Σ L w → ⊥
   unfolding NoneSatisfies AllSatisfy
-  exclusive w n a = n (forEver live.event) (goes_on live) (a (forEver live.event) (goes_on live))
+  exclusive w n a = n (for_ever live.event) (goes_on live) (a (for_ever live.event) (goes_on live))
 
   not_none : (w : List ℕ) → NeverDecided Σ L w → NoneSatisfies Σ L w → ⊥
   unfolding NeverDecided

@@ -13,7 +13,7 @@ use lib.Seq.{get_or-set_same, get_or-set_other}
 use lib.Dec.{ltb, leb}
 use borrow.Author.Tests.{ltb-true}
 use Rattle.sequences.proofs.Tests.{never}
-use Rattle.meaning.specs.TableFiles.{successor, verdictByte}
+use Rattle.meaning.specs.TableFiles.{successor, verdict_byte}
 use Rattle.meaning.specs.Runs.{in_table}
 use Rattle.state_sets.specs.Sets.{Has, Among, Spread, Moved}
 
@@ -50,7 +50,7 @@ has-only l q p a = go (ℕ_discrete p q)
 pub in-below : (t : List ℕ) (P S q : ℕ) → in_table t P S q ≡ true → q < S
 in-below t P S q h = go (ltb q S) refl h
   where
-    go : (b : Bool) → ltb q S ≡ b → (b && leb (verdictByte t P q) 3) ≡ true → q < S
+    go : (b : Bool) → ltb q S ≡ b → (b && leb (verdict_byte t P q) 3) ≡ true → q < S
     go true e i = ltb-true q S e
     go false e i = never (sym i)
 

@@ -1,7 +1,7 @@
 -- Sets of the states of a table, marked in a list, and how they move by one of several events. The table is t, over P signals and with S states.
 use Rattle.std.specs.Prelude.{◌≡◌, ◌⊎◌, List, Bool, true, false, cond, ℕ, ◌<◌, length, get_or, eqb}
 use Rattle.sequences.specs.Tabulate.{all_below}
-use Rattle.meaning.specs.TableFiles.{successor, verdictByte}
+use Rattle.meaning.specs.TableFiles.{successor, verdict_byte}
 use Rattle.meaning.specs.Runs.{in_table}
 
 -- the state is in the set
@@ -29,8 +29,8 @@ module _ (t : List ℕ) (P S : ℕ) (n : ℕ) (es : List ℕ) where
     pub out : ok ≡ false → (s : ℕ) × (e : ℕ) × (s < m) × Has from s × Among n es e × (in_table t P S (successor t P s e) ≡ false)
 
 -- each member of the set has the verdict byte v
-abbrev pub showsByte : List ℕ → ℕ → List Bool → ℕ → ℕ → Bool
-showsByte t P set v s = cond (get_or set s false) (eqb (verdictByte t P s) v) true
+abbrev pub shows_byte : List ℕ → ℕ → List Bool → ℕ → ℕ → Bool
+shows_byte t P set v s = cond (get_or set s false) (eqb (verdict_byte t P s) v) true
 
-abbrev pub allShow : List ℕ → ℕ → ℕ → List Bool → ℕ → Bool
-allShow t P S set v = all_below S (showsByte t P set v)
+abbrev pub all_show : List ℕ → ℕ → ℕ → List Bool → ℕ → Bool
+all_show t P S set v = all_below S (shows_byte t P set v)

@@ -1,7 +1,7 @@
 // Sets of a table's states: the start alone, the states that one of several events leads to, and whether all show one verdict.
 ghost use Rattle.std.specs.Prelude.{◌≡◌, true, false, cond, ◌≤◌, eqb, length, replicate, set};
-ghost use Rattle.meaning.specs.TableFiles.{verdictByte};
-ghost use Rattle.state_sets.specs.Sets.{Spread, Moved, allShow};
+ghost use Rattle.meaning.specs.TableFiles.{verdict_byte};
+ghost use Rattle.state_sets.specs.Sets.{Spread, Moved, all_show};
 
 use run_parts::in_table;
 use table_layout::{row_at, successor_at};
@@ -98,7 +98,7 @@ pub fn advance(
 // Whether a state that is a member has a verdict byte.
 fn shows_byte(t: &[u8], signals: u8, member: bool, state: u16, verdict: u8) -> bool
     requires { signals ≤ 4 }
-    ensures { result ≡ cond member (eqb (verdictByte t.now signals state) verdict) true }
+    ensures { result ≡ cond member (eqb (verdict_byte t.now signals state) verdict) true }
 {
     if member {
         return byte_at(t, row_at(signals, state) + 4) == verdict;
@@ -109,7 +109,7 @@ fn shows_byte(t: &[u8], signals: u8, member: bool, state: u16, verdict: u8) -> b
 // Whether all members have a verdict byte.
 pub fn all_show(t: &[u8], signals: u8, states: u16, members: &[bool; 256], verdict: u8) -> bool
     requires { (signals ≤ 4) × (states ≤ 256) × (length members.now ≡ 256) }
-    ensures { result ≡ allShow t.now signals states members.now verdict }
+    ensures { result ≡ all_show t.now signals states members.now verdict }
 {
     let mut state: u16 = 0;
     while state < states {

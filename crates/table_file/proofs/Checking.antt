@@ -8,12 +8,12 @@ use lib.Dec.{eqb, ltb}
 use Rattle.sequences.specs.Tabulate.{every, all_below}
 use Rattle.sequences.proofs.Pointwise.{all_same}
 use Rattle.meaning.specs.Bytes.{bit}
-use Rattle.meaning.specs.Traces.{fullMask}
-use Rattle.meaning.specs.TableFiles.{headerTests, rowTests, signalsIn, statesIn, noSuccessor, successor, successorFits, isTable, checkedOf}
+use Rattle.meaning.specs.Traces.{full_mask}
+use Rattle.meaning.specs.TableFiles.{header_tests, row_tests, signals_in, states_in, no_successor, successor, successor_fits, is_table, checked_of}
 use Rattle.meaning.specs.declared.Refusal.TheVariants.{WrongTable}
 use Rattle.meaning.specs.declared.Checked.TheVariants as Checked
 use Rattle.table_layout.specs.Masks.{MaskIn}
-use Rattle.table_layout.proofs.Form.{rowsFit}
+use Rattle.table_layout.proofs.Form.{rows_fit}
 use Rattle.events.proofs.Masks.{full-bit}
 use Rattle.table_layout.proofs.Masks.{mask-possible}
 use Rattle.table_file.specs.Successors.{fits_by}
@@ -22,38 +22,38 @@ use Rattle.table_file.specs.Successors.{fits_by}
 pub fits-possible : (b : Bool) (S to : ℕ) → b ≡ true → ltb to S ≡ fits_by b S to
 fits-possible b S to h = rw h
 
-pub fits-impossible : (b : Bool) (S to : ℕ) → b ≡ false → eqb to noSuccessor ≡ fits_by b S to
+pub fits-impossible : (b : Bool) (S to : ℕ) → b ≡ false → eqb to no_successor ≡ fits_by b S to
 fits-impossible b S to h = rw h
 
 -- where every event can happen, the successors that fit are the states
-pub successors-full : (P m S : ℕ) (to : ℕ → ℕ) → m ≡ fullMask P → all_below (2 ^ P) (λ e. ltb (to e) S) ≡ all_below (2 ^ P) (λ e. fits_by (eqb (bit e m) 1) S (to e))
+pub successors-full : (P m S : ℕ) (to : ℕ → ℕ) → m ≡ full_mask P → all_below (2 ^ P) (λ e. ltb (to e) S) ≡ all_below (2 ^ P) (λ e. fits_by (eqb (bit e m) 1) S (to e))
 successors-full P m S to q =
     all_same (2 ^ P) (λ e. ltb (to e) S) (λ e. fits_by (eqb (bit e m) 1) S (to e))
     (λ e l. ap (λ (b : Bool). fits_by b S (to e)) (sym (eq-eqb (bit e m) 1 (ap (bit e) q ∙ full-bit (2 ^ P) e l))))
 
 module _ (t : List ℕ) where
-  pub checked-table : (P S : ℕ) → every (headerTests t) ≡ true → P ≡ signalsIn t → S ≡ statesIn t → all_below S (λ s. every (rowTests t P S s)) ≡ true
-      → Checked.Table P S ≡ checkedOf t
-  unfolding isTable
+  pub checked-table : (P S : ℕ) → every (header_tests t) ≡ true → P ≡ signals_in t → S ≡ states_in t → all_below S (λ s. every (row_tests t P S s)) ≡ true
+      → Checked.Table P S ≡ checked_of t
+  unfolding is_table
   checked-table P S h p q r =
-      let e : rowsFit t ≡ true = rw (p, q) at r in
+      let e : rows_fit t ≡ true = rw (p, q) at r in
       rw (h, e, p, q)
 
-  pub checked-rows : (P S : ℕ) → P ≡ signalsIn t → S ≡ statesIn t → all_below S (λ s. every (rowTests t P S s)) ≡ false
-      → Checked.Refused WrongTable ≡ checkedOf t
-  unfolding isTable
-  checked-rows P S p q r = let e : rowsFit t ≡ false = rw (p, q) at r in rw e (go (every (headerTests t)))
+  pub checked-rows : (P S : ℕ) → P ≡ signals_in t → S ≡ states_in t → all_below S (λ s. every (row_tests t P S s)) ≡ false
+      → Checked.Refused WrongTable ≡ checked_of t
+  unfolding is_table
+  checked-rows P S p q r = let e : rows_fit t ≡ false = rw (p, q) at r in rw e (go (every (header_tests t)))
     where
-      go : (b : Bool) → Checked.Refused WrongTable ≡ cond (b && false) (Checked.Table (signalsIn t) (statesIn t)) (Checked.Refused WrongTable)
+      go : (b : Bool) → Checked.Refused WrongTable ≡ cond (b && false) (Checked.Table (signals_in t) (states_in t)) (Checked.Refused WrongTable)
       go true = refl
       go false = refl
 
-  pub checked-header : every (headerTests t) ≡ false → Checked.Refused WrongTable ≡ checkedOf t
-  unfolding isTable
+  pub checked-header : every (header_tests t) ≡ false → Checked.Refused WrongTable ≡ checked_of t
+  unfolding is_table
   checked-header h = rw h
 
   -- the successors of a state, by a mask of the events that can happen
-  pub successors-by : {P m : ℕ} → MaskIn t P m → (S s : ℕ) → all_below (2 ^ P) (λ e. fits_by (eqb (bit e m) 1) S (successor t P s e)) ≡ all_below (2 ^ P) (successorFits t P S s)
+  pub successors-by : {P m : ℕ} → MaskIn t P m → (S s : ℕ) → all_below (2 ^ P) (λ e. fits_by (eqb (bit e m) 1) S (successor t P s e)) ≡ all_below (2 ^ P) (successor_fits t P S s)
   successors-by {P} {m} h S s =
-      all_same (2 ^ P) (λ e. fits_by (eqb (bit e m) 1) S (successor t P s e)) (successorFits t P S s)
+      all_same (2 ^ P) (λ e. fits_by (eqb (bit e m) 1) S (successor t P s e)) (successor_fits t P S s)
       (λ e l. ap (λ (b : Bool). fits_by b S (successor t P s e)) (mask-possible h e l))

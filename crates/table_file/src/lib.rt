@@ -1,9 +1,9 @@
 // The check of a table file: whether its bytes have the form of a table.
 ghost use Rattle.std.specs.Prelude.{◌≡◌, true, ◌+◌, ◌*◌, ◌^◌, ◌≤◌, ◌<◌, eqb, length};
 ghost use Rattle.sequences.specs.Tabulate.{every, all_below};
-ghost use Rattle.meaning.specs.Bytes.{bit, u16At};
-ghost use Rattle.meaning.specs.TableFiles.{row_at, contentTests, rowTests, headerTests, checkedOf};
-ghost use Rattle.meaning.specs.Runs.{countsFit};
+ghost use Rattle.meaning.specs.Bytes.{bit, u16_at};
+ghost use Rattle.meaning.specs.TableFiles.{row_at, content_tests, row_tests, header_tests, checked_of};
+ghost use Rattle.meaning.specs.Runs.{counts_fit};
 ghost use Rattle.table_layout.specs.Masks.{MaskIn};
 ghost use Rattle.table_file.specs.Successors.{fits_by};
 
@@ -13,7 +13,7 @@ use table_layout::{all_below, counts_fit, possible_mask, row_at, two_at};
 use wire::{byte_at, u16_at, wide16};
 
 fn header_fits(t: &[u8]) -> bool
-    ensures { result ≡ every (headerTests t.now) }
+    ensures { result ≡ every (header_tests t.now) }
 {
     if t.len() < 7 {
         return false;
@@ -40,7 +40,7 @@ fn successor_fits(to: u16, states: u16, possible: bool) -> bool
 // Whether all the successors from a place on, so many, fit, by the mask of the events that can happen.
 fn each_fits(t: &[u8], at: usize, events: usize, states: u16, mask: u16) -> bool
     requires { (at < 4194400) × (events ≤ 16) × (at + 2 * events ≤ length t.now) }
-    ensures { result ≡ all_below events (λ e. fits_by (eqb (bit e mask) 1) states (u16At t.now (at + 2 * e))) }
+    ensures { result ≡ all_below events (λ e. fits_by (eqb (bit e mask) 1) states (u16_at t.now (at + 2 * e))) }
 {
     let mut e: usize = 0;
     while e < events {
@@ -57,7 +57,7 @@ fn each_fits(t: &[u8], at: usize, events: usize, states: u16, mask: u16) -> bool
 // Whether all the successors from a place on fit, which where every event can happen is found faster.
 fn successors_fit(t: &[u8], at: usize, signals: u8, states: u16, mask: u16) -> bool
     requires { (at < 4194400) × (signals ≤ 4) × (at + 2 * 2 ^ signals ≤ length t.now) }
-    ensures { result ≡ all_below (2 ^ signals) (λ e. fits_by (eqb (bit e mask) 1) states (u16At t.now (at + 2 * e))) }
+    ensures { result ≡ all_below (2 ^ signals) (λ e. fits_by (eqb (bit e mask) 1) states (u16_at t.now (at + 2 * e))) }
 {
     let events = width(signals);
     if mask == full_mask(signals) {
@@ -69,7 +69,7 @@ fn successors_fit(t: &[u8], at: usize, signals: u8, states: u16, mask: u16) -> b
 // Whether a state's verdict byte is one of the four, an event is left, and all its successors fit. The mask is that of the table's events.
 pub fn content_fits(t: &[u8], signals: u8, states: u16, mask: u16, state: u16) -> bool
     requires { (signals ≤ 4) × (row_at signals (state + 1) ≤ length t.now) × MaskIn t.now signals mask }
-    ensures { result ≡ every (contentTests t.now signals states state) }
+    ensures { result ≡ every (content_tests t.now signals states state) }
 {
     let at = row_at(signals, state);
     if 3 < byte_at(t, at + 4) {
@@ -83,7 +83,7 @@ pub fn content_fits(t: &[u8], signals: u8, states: u16, mask: u16, state: u16) -
 
 fn row_fits(t: &[u8], signals: u8, states: u16, mask: u16, state: u16) -> bool
     requires { (signals ≤ 4) × (row_at signals (state + 1) ≤ length t.now) × MaskIn t.now signals mask }
-    ensures { result ≡ every (rowTests t.now signals states state) }
+    ensures { result ≡ every (row_tests t.now signals states state) }
 {
     let at = row_at(signals, state);
     if wide16(u16_at(t, at)) != 3 + 2 * width(signals) {
@@ -96,8 +96,8 @@ fn row_fits(t: &[u8], signals: u8, states: u16, mask: u16, state: u16) -> bool
 }
 
 fn rows_fit(t: &[u8], signals: u8, states: u16) -> bool
-    requires { countsFit t.now signals states ≡ true }
-    ensures { result ≡ all_below states (λ s. every (rowTests t.now signals states s)) }
+    requires { counts_fit t.now signals states ≡ true }
+    ensures { result ≡ all_below states (λ s. every (row_tests t.now signals states s)) }
 {
     let mask = possible_mask(t, signals);
     let mut s: u16 = 0;
@@ -113,7 +113,7 @@ fn rows_fit(t: &[u8], signals: u8, states: u16) -> bool
 
 // Whether the bytes are a table's, with its counts; refused by 14 where they are not.
 pub fn check(t: &[u8]) -> Checked
-    ensures { result ≡ checkedOf t.now }
+    ensures { result ≡ checked_of t.now }
 {
     if header_fits(t) {
         let signals = byte_at(t, 4);

@@ -12,13 +12,13 @@ use Rattle.sequences.specs.Tabulate.{every, all_below}
 use Rattle.sequences.proofs.Tests.{holds}
 use Rattle.sequences.proofs.Loops.{all-at}
 use Rattle.sequences.proofs.Pointwise.{is_true}
-use Rattle.meaning.specs.Bytes.{u16At}
-use Rattle.meaning.specs.Traces.{Alphabet, Event, isEvent}
-use Rattle.meaning.specs.TableFiles.{rowLength, row_at, tableLength, countsTests, contentTests, headerTests, rowTests, signalsIn, statesIn, verdictByte, successor, alphabetIn, successorFits, eventLeft, isTable, verdictOf}
-use Rattle.meaning.specs.Runs.{countsFit}
+use Rattle.meaning.specs.Bytes.{u16_at}
+use Rattle.meaning.specs.Traces.{Alphabet, Event, is_event}
+use Rattle.meaning.specs.TableFiles.{row_length, row_at, table_length, counts_tests, content_tests, header_tests, row_tests, signals_in, states_in, verdict_byte, successor, alphabet_in, successor_fits, event_left, is_table, verdict_of}
+use Rattle.meaning.specs.Runs.{counts_fit}
 use Rattle.meaning.specs.declared.Verdict.TheVariants.{Undecided}
 
-pub verdict-else : (v : ℕ) → (v ≡ 1 → ⊥) → (v ≡ 2 → ⊥) → (v ≡ 3 → ⊥) → Undecided ≡ verdictOf v
+pub verdict-else : (v : ℕ) → (v ≡ 1 → ⊥) → (v ≡ 2 → ⊥) → (v ≡ 3 → ⊥) → Undecided ≡ verdict_of v
 verdict-else zero a b c = refl
 verdict-else (suc zero) a b c = absurd (a refl)
 verdict-else (suc (suc zero)) a b c = absurd (b refl)
@@ -30,10 +30,10 @@ never q = let z : ◌≡◌ {A = ℕ} 0 1 = cc in absurd (omega arith)
 
 -- an event that can happen, by the test of it
 module _ (Σ : Alphabet) (e : ℕ) where
-  pub event-test : Event Σ e → isEvent Σ e ≡ true
+  pub event-test : Event Σ e → is_event Σ e ≡ true
   event-test h = rw (lt-ltb e Σ.width h.0) (is_true (Σ.possible e) h.1)
 
-  pub test-event : isEvent Σ e ≡ true → Event Σ e
+  pub test-event : is_event Σ e ≡ true → Event Σ e
   test-event h = go (ltb e Σ.width) (Σ.possible e) refl h
     where
       go : (a b : Bool) → ltb e Σ.width ≡ a → (a && b) ≡ true → (e < Σ.width) × T b
@@ -47,16 +47,16 @@ chosen true x y h q = q
 chosen false x y h q = absurd h
 
 -- what counts that fit tell
-module _ (t : List ℕ) (P S : ℕ) (h : countsFit t P S ≡ true) where
+module _ (t : List ℕ) (P S : ℕ) (h : counts_fit t P S ≡ true) where
   pub counts-few : P ≤ 4
-  counts-few = leb-true P 4 (holds (countsTests t P S) h 1)
+  counts-few = leb-true P 4 (holds (counts_tests t P S) h 1)
 
   pub counts_some : 1 ≤ S
-  counts_some = leb-true 1 S (holds (countsTests t P S) h 2)
+  counts_some = leb-true 1 S (holds (counts_tests t P S) h 2)
 
   -- the record of each state stands within the bytes
   pub row_inside : (s : ℕ) → s < S → row_at P (s + 1) ≤ length t
-  row_inside s l = omega (arith, eqb-true (length t) (tableLength P S) (holds (countsTests t P S) h 4), mul-le-mul_right {m = s + 1} {n = S} (rowLength P) (omega arith))
+  row_inside s l = omega (arith, eqb-true (length t) (table_length P S) (holds (counts_tests t P S) h 4), mul-le-mul_right {m = s + 1} {n = S} (row_length P) (omega arith))
 
 -- the tests after the first three
 after-three : (a b c : Bool) (l : List Bool) → every (a ∷ b ∷ c ∷ l) ≡ true → every l ≡ true
@@ -66,59 +66,59 @@ after-three true false c l h = never h
 after-three false b c l h = never h
 
 module _ (t : List ℕ) where
-  abbrev pub rowsFit : Bool
-  rowsFit = all_below (statesIn t) (λ s. every (rowTests t (signalsIn t) (statesIn t) s))
+  abbrev pub rows_fit : Bool
+  rows_fit = all_below (states_in t) (λ s. every (row_tests t (signals_in t) (states_in t) s))
 
   -- a first record that fits names at most four signals
-  pub signals-few : every (headerTests t) ≡ true → signalsIn t ≤ 4
-  signals-few h = leb-true (signalsIn t) 4 (holds (headerTests t) h 4)
+  pub signals-few : every (header_tests t) ≡ true → signals_in t ≤ 4
+  signals-few h = leb-true (signals_in t) 4 (holds (header_tests t) h 4)
 
   -- and from 1 to 256 states
-  pub states-some : every (headerTests t) ≡ true → 1 ≤ statesIn t
-  states-some h = leb-true 1 (statesIn t) (holds (headerTests t) h 5)
+  pub states-some : every (header_tests t) ≡ true → 1 ≤ states_in t
+  states-some h = leb-true 1 (states_in t) (holds (header_tests t) h 5)
 
-  pub states-few : every (headerTests t) ≡ true → statesIn t ≤ 256
-  states-few h = leb-true (statesIn t) 256 (holds (headerTests t) h 6)
+  pub states-few : every (header_tests t) ≡ true → states_in t ≤ 256
+  states-few h = leb-true (states_in t) 256 (holds (header_tests t) h 6)
 
-  pub header-counts : every (headerTests t) ≡ true → countsFit t (signalsIn t) (statesIn t) ≡ true
-  header-counts h = after-three (leb 7 (length t)) (eqb (u16At t 0) 5) (eqb (u16At t 2) 512) (countsTests t (signalsIn t) (statesIn t)) h
+  pub header-counts : every (header_tests t) ≡ true → counts_fit t (signals_in t) (states_in t) ≡ true
+  header-counts h = after-three (leb 7 (length t)) (eqb (u16_at t 0) 5) (eqb (u16_at t 2) 512) (counts_tests t (signals_in t) (states_in t)) h
 
-  pub table-header : isTable t ≡ true → every (headerTests t) ≡ true
-  unfolding isTable
-  table-header h = go (every (headerTests t)) h
+  pub table-header : is_table t ≡ true → every (header_tests t) ≡ true
+  unfolding is_table
+  table-header h = go (every (header_tests t)) h
     where
-      go : (b : Bool) → (b && rowsFit) ≡ true → b ≡ true
+      go : (b : Bool) → (b && rows_fit) ≡ true → b ≡ true
       go true e = refl
       go false e = e
 
   -- what the counts of a table tell
-  module _ (h : isTable t ≡ true) where
-    pub table-counts : countsFit t (signalsIn t) (statesIn t) ≡ true
+  module _ (h : is_table t ≡ true) where
+    pub table-counts : counts_fit t (signals_in t) (states_in t) ≡ true
     table-counts = header-counts (table-header h)
 
-    table-row : (s : ℕ) → s < statesIn t → every (rowTests t (signalsIn t) (statesIn t) s) ≡ true
-    unfolding isTable
-    table-row s l = all-at (statesIn t) (λ k. every (rowTests t (signalsIn t) (statesIn t) k)) (go (every (headerTests t)) h) s l
+    table-row : (s : ℕ) → s < states_in t → every (row_tests t (signals_in t) (states_in t) s) ≡ true
+    unfolding is_table
+    table-row s l = all-at (states_in t) (λ k. every (row_tests t (signals_in t) (states_in t) k)) (go (every (header_tests t)) h) s l
       where
-        go : (b : Bool) → (b && rowsFit) ≡ true → rowsFit ≡ true
+        go : (b : Bool) → (b && rows_fit) ≡ true → rows_fit ≡ true
         go true e = e
         go false e = never e
 
     -- a state's verdict byte and its successors
-    pub table-verdict : (s : ℕ) → s < statesIn t → leb (verdictByte t (signalsIn t) s) 3 ≡ true
-    table-verdict s l = holds (rowTests t (signalsIn t) (statesIn t) s) (table-row s l) 2
+    pub table-verdict : (s : ℕ) → s < states_in t → leb (verdict_byte t (signals_in t) s) 3 ≡ true
+    table-verdict s l = holds (row_tests t (signals_in t) (states_in t) s) (table-row s l) 2
 
-    table-left : (s : ℕ) → s < statesIn t → eventLeft t (signalsIn t) ≡ true
-    table-left s l = holds (rowTests t (signalsIn t) (statesIn t) s) (table-row s l) 3
+    table-left : (s : ℕ) → s < states_in t → event_left t (signals_in t) ≡ true
+    table-left s l = holds (row_tests t (signals_in t) (states_in t) s) (table-row s l) 3
 
-    table-successors : (s : ℕ) → s < statesIn t → all_below (2 ^ signalsIn t) (successorFits t (signalsIn t) (statesIn t) s) ≡ true
-    table-successors s l = holds (rowTests t (signalsIn t) (statesIn t) s) (table-row s l) 4
+    table-successors : (s : ℕ) → s < states_in t → all_below (2 ^ signals_in t) (successor_fits t (signals_in t) (states_in t) s) ≡ true
+    table-successors s l = holds (row_tests t (signals_in t) (states_in t) s) (table-row s l) 4
 
-    pub table-content : (s : ℕ) → s < statesIn t → every (contentTests t (signalsIn t) (statesIn t) s) ≡ true
+    pub table-content : (s : ℕ) → s < states_in t → every (content_tests t (signals_in t) (states_in t) s) ≡ true
     table-content s l = rw (table-verdict s l, table-left s l, table-successors s l)
 
     -- the successor for an event that can happen is a state
-    pub table-inside : (s e : ℕ) → s < statesIn t → Event (alphabetIn t (signalsIn t)) e → successor t (signalsIn t) s e < statesIn t
+    pub table-inside : (s e : ℕ) → s < states_in t → Event (alphabet_in t (signals_in t)) e → successor t (signals_in t) s e < states_in t
     table-inside s e l b =
-        let fits = all-at (2 ^ signalsIn t) (successorFits t (signalsIn t) (statesIn t) s) (table-successors s l) e b.0 in
-        ltb-true (successor t (signalsIn t) s e) (statesIn t) (chosen ((alphabetIn t (signalsIn t)).possible e) _ _ b.1 fits)
+        let fits = all-at (2 ^ signals_in t) (successor_fits t (signals_in t) (states_in t) s) (table-successors s l) e b.0 in
+        ltb-true (successor t (signals_in t) s e) (states_in t) (chosen ((alphabet_in t (signals_in t)).possible e) _ _ b.1 fits)

@@ -18,8 +18,8 @@ use Rattle.sequences.specs.Tabulate.{all_below}
 use Rattle.sequences.proofs.Loops.{all-at, all-not}
 use Rattle.sequences.proofs.Pointwise.{all-is, is_true}
 use Rattle.meaning.specs.Bytes.{bit}
-use Rattle.meaning.specs.Traces.{fullMask, Event, isEvent}
-use Rattle.meaning.specs.TableFiles.{noSuccessor, successor, alphabetIn, eventLeft}
+use Rattle.meaning.specs.Traces.{full_mask, Event, is_event}
+use Rattle.meaning.specs.TableFiles.{no_successor, successor, alphabet_in, event_left}
 use Rattle.events.proofs.Counting.{off-above}
 use Rattle.events.proofs.Masks.{in-mask, full-bit}
 use Rattle.table_layout.specs.Masks.{Marked, MaskIn}
@@ -54,38 +54,38 @@ marked-full : (n : ℕ) (f : ℕ → Bool) → ((i : ℕ) → i < n → f i ≡ 
 marked-full n f h = record { small = ones_lt n; bits = λ i l. eq-eqb (bit i (2 ^ n - 1)) 1 (full-bit n i l) ∙ sym (h i l) }
 
 -- the mask of a table's events
-pub mask-in : {t : List ℕ} {m : ℕ} (P : ℕ) → Marked (2 ^ P) (alphabetIn t P).possible m → MaskIn t P m
+pub mask-in : {t : List ℕ} {m : ℕ} (P : ℕ) → Marked (2 ^ P) (alphabet_in t P).possible m → MaskIn t P m
 mask-in {t} {m} P h = record { bits = λ e. go e (dec_lt e (2 ^ P)) }
   where
-    go : (e : ℕ) → Dec (e < 2 ^ P) → eqb (bit e m) 1 ≡ isEvent (alphabetIn t P) e
+    go : (e : ℕ) → Dec (e < 2 ^ P) → eqb (bit e m) 1 ≡ is_event (alphabet_in t P) e
     go e (yes l) = rw (lt-ltb e (2 ^ P) l) (h.bits e l)
     go e (no l) = rw (le-ltb e (2 ^ P) (omega arith), off-above (2 ^ P) m e h.small (omega arith))
 
 -- where no successor of state 0 is 65,535, every event can happen
-pub mask_full : (t : List ℕ) (P : ℕ) {m : ℕ} → m ≡ fullMask P → all_below (2 ^ P) (λ e. ltb (successor t P 0 e) noSuccessor) ≡ true → MaskIn t P m
-mask_full t P q h = mask-in P (subst (λ (m : ℕ). Marked (2 ^ P) (alphabetIn t P).possible m) (sym q) (marked-full (2 ^ P) (alphabetIn t P).possible can))
+pub mask_full : (t : List ℕ) (P : ℕ) {m : ℕ} → m ≡ full_mask P → all_below (2 ^ P) (λ e. ltb (successor t P 0 e) no_successor) ≡ true → MaskIn t P m
+mask_full t P q h = mask-in P (subst (λ (m : ℕ). Marked (2 ^ P) (alphabet_in t P).possible m) (sym q) (marked-full (2 ^ P) (alphabet_in t P).possible can))
   where
-    can : (e : ℕ) → e < 2 ^ P → (alphabetIn t P).possible e ≡ true
+    can : (e : ℕ) → e < 2 ^ P → (alphabet_in t P).possible e ≡ true
     can e l =
-        let b : successor t P 0 e < noSuccessor = ltb-true (successor t P 0 e) noSuccessor (all-at (2 ^ P) (λ k. ltb (successor t P 0 k) noSuccessor) h e l) in
-        ap not (ne_eqb (successor t P 0 e) noSuccessor (λ z. omega arith))
+        let b : successor t P 0 e < no_successor = ltb-true (successor t P 0 e) no_successor (all-at (2 ^ P) (λ k. ltb (successor t P 0 k) no_successor) h e l) in
+        ap not (ne_eqb (successor t P 0 e) no_successor (λ z. omega arith))
 
 -- ---- what a mask says of its table
 
 module _ {t : List ℕ} {P m : ℕ} (h : MaskIn t P m) where
   -- the events that it has
-  pub mask-possible : (e : ℕ) → e < 2 ^ P → eqb (bit e m) 1 ≡ (alphabetIn t P).possible e
-  mask-possible e l = let b : eqb (bit e m) 1 ≡ isEvent (alphabetIn t P) e = h.bits e in rw (lt-ltb e (2 ^ P) l) at b
+  pub mask-possible : (e : ℕ) → e < 2 ^ P → eqb (bit e m) 1 ≡ (alphabet_in t P).possible e
+  mask-possible e l = let b : eqb (bit e m) 1 ≡ is_event (alphabet_in t P) e = h.bits e in rw (lt-ltb e (2 ^ P) l) at b
 
   -- whether it has any
-  pub no-event : m ≡ 0 → eventLeft t P ≡ false
-  no-event q = ap not (all-is (2 ^ P) (λ e. not ((alphabetIn t P).possible e)) (λ e l. ap not (off e l)))
+  pub no-event : m ≡ 0 → event_left t P ≡ false
+  no-event q = ap not (all-is (2 ^ P) (λ e. not ((alphabet_in t P).possible e)) (λ e l. ap not (off e l)))
     where
-      off : (e : ℕ) → e < 2 ^ P → (alphabetIn t P).possible e ≡ false
+      off : (e : ℕ) → e < 2 ^ P → (alphabet_in t P).possible e ≡ false
       off e l = sym (mask-possible e l) ∙ rw (q, zero-div)
 
-  pub some-event : m < 65536 → (m ≡ 0 → ⊥) → eventLeft t P ≡ true
+  pub some-event : m < 65536 → (m ≡ 0 → ⊥) → event_left t P ≡ true
   some-event l n =
       let e = in-mask 16 m l n in
-      let can : Event (alphabetIn t P) e.event = test-event (alphabetIn t P) e.event (sym (h.bits e.event) ∙ e.on) in
-      ap not (all-not (2 ^ P) (λ k. not ((alphabetIn t P).possible k)) e.event can.0 (ap not (is_true ((alphabetIn t P).possible e.event) can.1)))
+      let can : Event (alphabet_in t P) e.event = test-event (alphabet_in t P) e.event (sym (h.bits e.event) ∙ e.on) in
+      ap not (all-not (2 ^ P) (λ k. not ((alphabet_in t P).possible k)) e.event can.0 (ap not (is_true ((alphabet_in t P).possible e.event) can.1)))

@@ -1,9 +1,9 @@
 // The layout of a table file: whether counts go with its length, where a state's record stands, and what stands in it.
 ghost use Rattle.std.specs.Prelude.{◌≡◌, cond, not, ◌+◌, ◌*◌, ◌^◌, ◌≤◌, ◌<◌, ltb, eqb, length};
 ghost use Rattle.sequences.specs.Tabulate.{all_below};
-ghost use Rattle.meaning.specs.Bytes.{u16At};
-ghost use Rattle.meaning.specs.TableFiles.{row_at, verdictOf, verdictByte, successor, noSuccessor};
-ghost use Rattle.meaning.specs.Runs.{countsFit};
+ghost use Rattle.meaning.specs.Bytes.{u16_at};
+ghost use Rattle.meaning.specs.TableFiles.{row_at, verdict_of, verdict_byte, successor, no_successor};
+ghost use Rattle.meaning.specs.Runs.{counts_fit};
 ghost use Rattle.table_layout.specs.Masks.{Marked, MaskIn};
 
 use events::{full_mask, width};
@@ -20,7 +20,7 @@ pub fn row_at(signals: u8, state: u16) -> usize
 
 // Whether the counts are a table's, and the bytes as many as that table has.
 pub fn counts_fit(t: &[u8], signals: u8, states: u16) -> bool
-    ensures { result ≡ countsFit t.now signals states }
+    ensures { result ≡ counts_fit t.now signals states }
 {
     if signals < 1 {
         return false;
@@ -40,7 +40,7 @@ pub fn counts_fit(t: &[u8], signals: u8, states: u16) -> bool
 // The verdict of a state. Past the bytes it is undecided.
 pub fn verdict_at(t: &[u8], signals: u8, state: u16) -> Verdict
     requires { signals ≤ 4 }
-    ensures { result ≡ verdictOf (verdictByte t.now signals state) }
+    ensures { result ≡ verdict_of (verdict_byte t.now signals state) }
 {
     let v = byte_at(t, row_at(signals, state) + 4);
     match v {
@@ -70,7 +70,7 @@ fn half(x: u8) -> u16
 // The number in two bytes that are there.
 pub fn two_at(t: &[u8], i: usize) -> u16
     requires { i + 2 ≤ length t.now }
-    ensures { result ≡ u16At t.now i }
+    ensures { result ≡ u16_at t.now i }
 {
     half(t[i]) + 256 * half(t[i + 1])
 }
@@ -78,7 +78,7 @@ pub fn two_at(t: &[u8], i: usize) -> u16
 // Whether all the successors from a place on, so many, are below a number.
 pub fn all_below(t: &[u8], at: usize, events: usize, bound: u16) -> bool
     requires { (at < 4194400) × (events ≤ 16) × (at + 2 * events ≤ length t.now) }
-    ensures { result ≡ all_below events (λ e. ltb (u16At t.now (at + 2 * e)) bound) }
+    ensures { result ≡ all_below events (λ e. ltb (u16_at t.now (at + 2 * e)) bound) }
 {
     let mut e: usize = 0;
     while e < events {
@@ -107,7 +107,7 @@ fn with_event(mask: u16, event: usize, possible: bool) -> u16
 // The mask of the events whose successor, from a place on, is not 65,535.
 fn mask_at(t: &[u8], at: usize, events: usize) -> u16
     requires { (at < 4194400) × (events ≤ 16) × (at + 2 * events ≤ length t.now) }
-    ensures { Marked events (λ e. not (eqb (u16At t.now (at + 2 * e)) noSuccessor)) result }
+    ensures { Marked events (λ e. not (eqb (u16_at t.now (at + 2 * e)) no_successor)) result }
 {
     let mut mask: u16 = 0;
     let mut e: usize = 0;

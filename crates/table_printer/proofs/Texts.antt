@@ -13,18 +13,18 @@ use lib.Seq.{take-append_seam}
 use lib.Dec.{leb}
 use borrow.Author.Tests.{le-leb}
 use Rattle.meaning.specs.RuleFiles.{Rule, Judgement, judge}
-use Rattle.meaning.specs.TableFiles.{isTable}
+use Rattle.meaning.specs.TableFiles.{is_table}
 use Rattle.meaning.specs.Demands.{Reads}
 use Rattle.meaning.specs.declared.Refusal.{Refusal}
 use Rattle.meaning.specs.declared.Refusal.TheVariants.{ShortOutput}
 use Rattle.meaning.specs.declared.Built.{Built}
 use Rattle.meaning.specs.declared.Built.TheVariants as Built
 use Rattle.smallest.specs.Table.{Outcome, Table, TooMany}
-use Rattle.building.specs.Build.{outcomeOf, answerTo, outputOf, answer_of, outputAfter, Right}
+use Rattle.building.specs.Build.{outcome_of, answer_to, output_of, answer_of, output_after, Right}
 use Rattle.building.proofs.Right.{our-demands, built-by}
-use Rattle.text_pieces.specs.RefusalLine.{refusalText, lineAnswer, lineAfter}
-use Rattle.table_text.specs.Text.{text_of, textAnswer, textAfter}
-use Rattle.table_printer.specs.Printing.{outcomeText, judgementText, printed, printAnswer, printAfter}
+use Rattle.text_pieces.specs.RefusalLine.{refusal_text, line_answer, line_after}
+use Rattle.table_text.specs.Text.{text_of, text_answer, text_after}
+use Rattle.table_printer.specs.Printing.{outcome_text, judgement_text, printed, print_answer, print_after}
 use Rattle.table_printer.proofs.Longest.{table-longest}
 
 -- ---- after building
@@ -32,7 +32,7 @@ use Rattle.table_printer.proofs.Longest.{table-longest}
 -- the first n bytes are a table, whose text is the rule file's
 pub record Tabled (file after : List ℕ) (n : ℕ) : Type 0 where
   pub inside : n ≤ length after
-  pub form : isTable (take n after) ≡ true
+  pub form : is_table (take n after) ≡ true
   pub text : text_of (take n after) ≡ printed file
 
 -- the first n bytes have this text
@@ -41,7 +41,7 @@ pub record Front (after : List ℕ) (n : ℕ) (text : List ℕ) : Type 0 where
   pub text-is : text_of (take n after) ≡ text
 
 module _ (file before : List ℕ) where
-  front : (n : ℕ) → answer_of (judge file) before ≡ Built.Table n → Front (outputAfter (judge file) before) n (printed file)
+  front : (n : ℕ) → answer_of (judge file) before ≡ Built.Table n → Front (output_after (judge file) before) n (printed file)
   front n e = go (judge file) e
     where
       built : (t : List ℕ) (b : Bool) → cond b (Built.Table (length t)) (Built.Refused ShortOutput) ≡ Built.Table n
@@ -52,55 +52,55 @@ module _ (file before : List ℕ) where
           record { inside = omega (arith, length-append t past); text-is = rw l (ap text_of (take-append_seam t past)) }
       built t false q = let z : ◌≡◌ {A = ℕ} 0 1 = cc in absurd (omega arith)
 
-      outcome : (x : Outcome) → answerTo x before ≡ Built.Table n → Front (outputOf x before) n (outcomeText x)
+      outcome : (x : Outcome) → answer_to x before ≡ Built.Table n → Front (output_of x before) n (outcome_text x)
       outcome (Table t) q = built t (leb (length t) (length before)) q
       outcome TooMany q = let z : ◌≡◌ {A = ℕ} 0 1 = cc in absurd (omega arith)
 
-      go : (j : Judgement) → answer_of j before ≡ Built.Table n → Front (outputAfter j before) n (judgementText j)
-      go (Judgement.Accepted r) q = outcome (outcomeOf r) q
+      go : (j : Judgement) → answer_of j before ≡ Built.Table n → Front (output_after j before) n (judgement_text j)
+      go (Judgement.Accepted r) q = outcome (outcome_of r) q
       go (Judgement.Refused x) q = let z : ◌≡◌ {A = ℕ} 0 1 = cc in absurd (omega arith)
 
-  pub tabled : (after : List ℕ) (b : Built) (n : ℕ) → b ≡ answer_of (judge file) before → after ≡ outputAfter (judge file) before → Right file before after b
+  pub tabled : (after : List ℕ) (b : Built) (n : ℕ) → b ≡ answer_of (judge file) before → after ≡ output_after (judge file) before → Right file before after b
       → b ≡ Built.Table n → Tabled file after n
   tabled after b n p o right e =
       let f = subst (λ (a : List ℕ). Front a n (printed file)) (sym o) (front n (sym p ∙ e)) in
       let r = subst (λ (x : Built). Right file before after x) e right in
-      record { inside = f.inside; form = r.demand-3.form; text = f.text-is }
+      record { inside = f.inside; form = r.demand_3.form; text = f.text-is }
 
   -- there is room for the longest table
   module _ (room : 9479 ≤ length before) where
     -- "output shorter than the table" cannot be
-    never-short : (r : Rule) (t : List ℕ) → Reads file r → outcomeOf r ≡ Table t → leb (length t) (length before) ≡ true
+    never-short : (r : Rule) (t : List ℕ) → Reads file r → outcome_of r ≡ Table t → leb (length t) (length before) ≡ true
     never-short r t reads q =
-        let h = table-longest t (our-demands.demand-3 file r t reads (built-by file r reads t q)).form in
+        let h = table-longest t (our-demands.demand_3 file r t reads (built-by file r reads t q)).form in
         le-leb (length t) (length before) (omega arith)
 
-    pub refused-text : (x : Refusal) → answer_of (judge file) before ≡ Built.Refused x → refusalText x ≡ printed file
+    pub refused-text : (x : Refusal) → answer_of (judge file) before ≡ Built.Refused x → refusal_text x ≡ printed file
     refused-text x e = go (judge file) refl e
       where
-        outcome : (r : Rule) → Reads file r → (o : Outcome) → outcomeOf r ≡ o → answerTo o before ≡ Built.Refused x → refusalText x ≡ outcomeText o
+        outcome : (r : Rule) → Reads file r → (o : Outcome) → outcome_of r ≡ o → answer_to o before ≡ Built.Refused x → refusal_text x ≡ outcome_text o
         outcome r reads (Table t) p q =
             let f = rw (never-short r t reads p) at q in
             let z : ◌≡◌ {A = ℕ} 0 1 = cc in
             absurd (omega arith)
-        outcome r reads TooMany p q = ap refusalText (cc)
+        outcome r reads TooMany p q = ap refusal_text (cc)
 
-        go : (j : Judgement) → judge file ≡ j → answer_of j before ≡ Built.Refused x → refusalText x ≡ judgementText j
-        go (Judgement.Accepted r) p q = outcome r p (outcomeOf r) refl q
-        go (Judgement.Refused y) p q = ap refusalText (cc)
+        go : (j : Judgement) → judge file ≡ j → answer_of j before ≡ Built.Refused x → refusal_text x ≡ judgement_text j
+        go (Judgement.Accepted r) p q = outcome r p (outcome_of r) refl q
+        go (Judgement.Refused y) p q = ap refusal_text (cc)
 
 -- ---- the two texts
 
 module _ (file out : List ℕ) where
-  pub table-answer : (t : List ℕ) → isTable t ≡ true → text_of t ≡ printed file → textAnswer t out ≡ printAnswer file out
+  pub table-answer : (t : List ℕ) → is_table t ≡ true → text_of t ≡ printed file → text_answer t out ≡ print_answer file out
   table-answer t form e = rw (form, e)
 
-  pub table-after : (t : List ℕ) → isTable t ≡ true → text_of t ≡ printed file → textAfter t out ≡ printAfter file out
+  pub table-after : (t : List ℕ) → is_table t ≡ true → text_of t ≡ printed file → text_after t out ≡ print_after file out
   table-after t form e = rw (form, e)
 
-  module _ (x : Refusal) (long : 32768 ≤ length out) (e : refusalText x ≡ printed file) where
-    pub line-answer : lineAnswer x out ≡ printAnswer file out
+  module _ (x : Refusal) (long : 32768 ≤ length out) (e : refusal_text x ≡ printed file) where
+    pub line-answer : line_answer x out ≡ print_answer file out
     line-answer = rw (le-leb 64 (length out) (omega arith), le-leb 32768 (length out) long, e)
 
-    pub line_after : lineAfter x out ≡ printAfter file out
+    pub line_after : line_after x out ≡ print_after file out
     line_after = rw (le-leb 64 (length out) (omega arith), le-leb 32768 (length out) long, e)

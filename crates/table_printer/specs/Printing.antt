@@ -3,30 +3,30 @@ use Rattle.std.specs.Prelude.{List, cond, ℕ, length, leb}
 use Rattle.meaning.specs.RuleFiles.{Judgement, judge}
 use Rattle.meaning.specs.declared.Refusal.TheVariants.{ShortOutput, TooManyResiduals}
 use Rattle.smallest.specs.Table.{Outcome, Table, TooMany}
-use Rattle.building.specs.Build.{outcomeOf}
-use Rattle.text_pieces.specs.Put.{atFront}
-use Rattle.text_pieces.specs.RefusalLine.{refusalText}
+use Rattle.building.specs.Build.{outcome_of}
+use Rattle.text_pieces.specs.Put.{at_front}
+use Rattle.text_pieces.specs.RefusalLine.{refusal_text}
 use Rattle.text_pieces.specs.declared.Text.{Text}
 use Rattle.text_pieces.specs.declared.Text.TheVariants as Text
 use Rattle.table_text.specs.Text.{text_of}
 
 -- the text of what building comes to, given a long enough buffer
-abbrev pub outcomeText : Outcome → List ℕ
-outcomeText (Table t) = text_of t
-outcomeText TooMany = refusalText TooManyResiduals
+abbrev pub outcome_text : Outcome → List ℕ
+outcome_text (Table t) = text_of t
+outcome_text TooMany = refusal_text TooManyResiduals
 
-abbrev pub judgementText : Judgement → List ℕ
-judgementText (Judgement.Accepted r) = outcomeText (outcomeOf r)
-judgementText (Judgement.Refused x) = refusalText x
+abbrev pub judgement_text : Judgement → List ℕ
+judgement_text (Judgement.Accepted r) = outcome_text (outcome_of r)
+judgement_text (Judgement.Refused x) = refusal_text x
 
 -- the text of a rule file
 abbrev pub printed : List ℕ → List ℕ
-printed file = judgementText (judge file)
+printed file = judgement_text (judge file)
 
 -- the answer: 10 where the output has fewer than 32,768 bytes, in which every text fits
-abbrev pub printAnswer : List ℕ → List ℕ → Text
-printAnswer file out = cond (leb 32768 (length out)) (Text.Written (length (printed file))) (Text.Refused ShortOutput)
+abbrev pub print_answer : List ℕ → List ℕ → Text
+print_answer file out = cond (leb 32768 (length out)) (Text.Written (length (printed file))) (Text.Refused ShortOutput)
 
 -- the output then: on a refusal "Lent buffers keep every byte"
-abbrev pub printAfter : List ℕ → List ℕ → List ℕ
-printAfter file out = cond (leb 32768 (length out)) (atFront (printed file) out) out
+abbrev pub print_after : List ℕ → List ℕ → List ℕ
+print_after file out = cond (leb 32768 (length out)) (at_front (printed file) out) out

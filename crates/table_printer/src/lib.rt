@@ -1,6 +1,6 @@
 // Prints the table of a rule file as text, into a lent buffer.
 ghost use Rattle.std.specs.Prelude.{◌≡◌, length};
-ghost use Rattle.table_printer.specs.Printing.{printAnswer, printAfter};
+ghost use Rattle.table_printer.specs.Printing.{print_answer, print_after};
 
 use meaning::{Built, Refusal};
 use table_text::table_text;
@@ -16,8 +16,8 @@ fn room() -> [u8; 9479]
 // Builds the table of a rule file and writes its text at the front of `text`, or the line of the refusal, and answers the length of what it wrote;
 // or 10 where `text` has fewer than 32,768 bytes, with every byte as it was. Bytes past the text are kept.
 pub fn print_rule(rule: &[u8], text: &mut [u8]) -> Text
-    ensures answer { result ≡ printAnswer rule.now text.old }
-    ensures output { text.new ≡ printAfter rule.now text.old }
+    ensures answer { result ≡ print_answer rule.now text.old }
+    ensures output { text.new ≡ print_after rule.now text.old }
 {
     if text.len() < 32768 {
         return Text::Refused(Refusal::ShortOutput);

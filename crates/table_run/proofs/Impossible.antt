@@ -4,8 +4,8 @@ use mathlib.Core.Path.{◌≡◌, refl}
 use mathlib.Core.List.{List, [], ◌∷◌, ◌++◌, map}
 use mathlib.Core.Bool.{true, false}
 use Prim.Native.Nat.{ℕ}
-use Rattle.meaning.specs.TableFiles.{isTable}
-use Rattle.meaning.specs.Runs.{decidedFrom, run_of}
+use Rattle.meaning.specs.TableFiles.{is_table}
+use Rattle.meaning.specs.Runs.{decided_from, run_of}
 use Rattle.meaning.specs.declared.Verdict.TheVariants.{Violated}
 use Rattle.meaning.specs.declared.Refusal.TheVariants.{WrongEvent}
 use Rattle.meaning.specs.declared.Decided.TheVariants.{After}
@@ -30,20 +30,20 @@ abbrev one : List ℕ
 one = rows (row 0 (to 1) nowhere) (row 2 (to 1) nowhere)
 
 -- that table; with 65,535 in the first row alone, in the second alone, and with no event left
-pub tables : map isTable
+pub tables : map is_table
     (one
     ∷ rows (row 0 (to 1) nowhere) (row 2 (to 1) (to 1))
     ∷ rows (row 0 (to 1) (to 1)) (row 2 (to 1) nowhere)
     ∷ rows (row 0 nowhere nowhere) (row 2 nowhere nowhere) ∷ [])
     ≡ true ∷ false ∷ false ∷ false ∷ []
-unfolding isTable
+unfolding is_table
 tables = refl
 
 -- 12 covers the whole list, also past a decided state
 pub one-runs : run_of one 0 (0 ∷ 0 ∷ []) ≡ Ran.Ended 1 Violated (After 1)
-unfolding isTable decidedFrom
+unfolding is_table decided_from
 one-runs = refl
 
 pub one-refused : run_of one 0 (0 ∷ 0 ∷ 1 ∷ []) ≡ Ran.Refused (WrongEvent 2)
-unfolding isTable
+unfolding is_table
 one-refused = refl

@@ -1,7 +1,7 @@
 // Runs over bytes and counts in hand, whatever they are: what is read is tested, so that no answer but a refusal leaves the table.
 ghost use Rattle.std.specs.Prelude.{◌≡◌, [], ◌∷◌, ◌≤◌};
-ghost use Rattle.meaning.specs.Runs.{ranIn, no_row, rowIn};
-ghost use Rattle.table_run.specs.Tables.{admission, shownBy};
+ghost use Rattle.meaning.specs.Runs.{ran_in, no_row, row_in};
+ghost use Rattle.table_run.specs.Tables.{admission, shown_by};
 
 use event_lists::first_bad;
 use events::width;
@@ -37,7 +37,7 @@ fn admit(t: &[u8], signals: u8, states: u16, state: u16) -> Admission
 
 // A run over bytes and counts: 14, 13 or 12 before it starts, and 14 where its way leaves the table.
 pub fn run_in(t: &[u8], signals: u8, states: u16, state: u16, events: &[u8]) -> Ran
-    ensures { result ≡ ranIn t.now signals states state events.now }
+    ensures { result ≡ ran_in t.now signals states state events.now }
 {
     let admitted = admit(t, signals, states, state);
     if let Admission::Refused(why) = admitted {
@@ -61,7 +61,7 @@ pub fn run_in(t: &[u8], signals: u8, states: u16, state: u16, events: &[u8]) -> 
 // When the first verdict other than undecided was shown on a way of one event.
 fn first_shown(t: &[u8], signals: u8, state: u16, to: u16) -> Decided
     requires { signals ≤ 4 }
-    ensures { result ≡ shownBy t.now signals state to }
+    ensures { result ≡ shown_by t.now signals state to }
 {
     if decides_at(t, signals, state) {
         return Decided::After(0);
@@ -74,7 +74,7 @@ fn first_shown(t: &[u8], signals: u8, state: u16, to: u16) -> Decided
 
 // A run over one event, with no list.
 pub fn step_in(t: &[u8], signals: u8, states: u16, state: u16, event: u8) -> Ran
-    ensures { result ≡ ranIn t.now signals states state (event ∷ []) }
+    ensures { result ≡ ran_in t.now signals states state (event ∷ []) }
 {
     let admitted = admit(t, signals, states, state);
     if let Admission::Refused(why) = admitted {
@@ -114,7 +114,7 @@ fn no_row(why: Refusal) -> StateRow
 
 // The row of a state: 14 and 13 as for a run, and 14 where the row is none of a table.
 pub fn row_in(t: &[u8], signals: u8, states: u16, state: u16) -> StateRow
-    ensures { result ≡ rowIn t.now signals states state }
+    ensures { result ≡ row_in t.now signals states state }
 {
     let admitted = admit(t, signals, states, state);
     if let Admission::Refused(why) = admitted {

@@ -2,7 +2,7 @@
 ghost use Rattle.std.specs.Prelude.{◌≡◌, ◌+◌, ◌*◌, ◌^◌, ◌≤◌, ◌∷◌, length};
 ghost use Rattle.text_pieces.specs.Put.{Put};
 ghost use Rattle.text_pieces.specs.Decimal.{decimal};
-ghost use Rattle.table_text.specs.Text.{word, countsText, successorsText, lineText, linesText, textAnswer, textAfter};
+ghost use Rattle.table_text.specs.Text.{word, counts_text, successors_text, line_text, lines_text, text_answer, text_after};
 
 use events::width;
 use meaning::{Checked, Refusal, Verdict};
@@ -31,7 +31,7 @@ fn put_word(out: &mut [u8], at: usize, verdict: Verdict) -> usize
 // The first line, at the front.
 fn put_counts(out: &mut [u8], signals: u8, states: u16) -> usize
     requires { 32 ≤ length out.old }
-    ensures put { Put out.old 0 (countsText signals states) out.new result }
+    ensures put { Put out.old 0 (counts_text signals states) out.new result }
     ensures upper_bound { result ≤ 32 }
 {
     let a = put_bytes(out, 0, b"signals ");
@@ -53,7 +53,7 @@ fn put_successor(out: &mut [u8], at: usize, to: u16) -> usize
 
 fn put_successors(out: &mut [u8], at: usize, table: &[u8], signals: u8, state: u16) -> usize
     requires { (signals ≤ 4) × (at + 96 ≤ length out.old) }
-    ensures put { Put out.old at (successorsText table.now signals state (2 ^ signals)) out.new result }
+    ensures put { Put out.old at (successors_text table.now signals state (2 ^ signals)) out.new result }
     ensures upper_bound { result ≤ at + 96 }
 {
     let events = width(signals);
@@ -70,7 +70,7 @@ fn put_successors(out: &mut [u8], at: usize, table: &[u8], signals: u8, state: u
 // The line of a state.
 fn put_line(out: &mut [u8], at: usize, table: &[u8], signals: u8, state: u16) -> usize
     requires { (signals ≤ 4) × (at + 112 ≤ length out.old) }
-    ensures put { Put out.old at (lineText table.now signals state) out.new result }
+    ensures put { Put out.old at (line_text table.now signals state) out.new result }
     ensures upper_bound { result ≤ at + 112 }
 {
     let a = put_number(out, at, state);
@@ -82,7 +82,7 @@ fn put_line(out: &mut [u8], at: usize, table: &[u8], signals: u8, state: u16) ->
 
 fn put_lines(out: &mut [u8], at: usize, table: &[u8], signals: u8, states: u16) -> usize
     requires { (signals ≤ 4) × (at + 112 * states ≤ length out.old) }
-    ensures put { Put out.old at (linesText table.now signals states) out.new result }
+    ensures put { Put out.old at (lines_text table.now signals states) out.new result }
     ensures upper_bound { result ≤ at + 112 * states }
 {
     let mut next = at;
@@ -99,8 +99,8 @@ fn put_lines(out: &mut [u8], at: usize, table: &[u8], signals: u8, states: u16) 
 // The table's text at the front of the output and its length; or 14 where the bytes are no table, then 10 where the output has fewer than
 // 32,768 bytes, and every byte of the output as it was. Bytes past the text are kept.
 pub fn table_text(table: &[u8], out: &mut [u8]) -> Text
-    ensures value { result ≡ textAnswer table.now out.old }
-    ensures out_after { out.new ≡ textAfter table.now out.old }
+    ensures value { result ≡ text_answer table.now out.old }
+    ensures out_after { out.new ≡ text_after table.now out.old }
 {
     let checked = check(table);
     let Checked::Table { signals, states } = checked else {

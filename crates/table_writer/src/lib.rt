@@ -3,8 +3,8 @@ ghost use Rattle.std.specs.Prelude.{◌≡◌, cond, List, ℕ, ◌+◌, ◌*◌
 ghost use Rattle.std.proofs.lemmas.List.Edits.{sets};
 ghost use Rattle.meaning.specs.Bytes.{bit};
 ghost use Rattle.meaning.specs.Traces.{masked};
-ghost use Rattle.meaning.specs.TableFiles.{rowLength, noSuccessor};
-ghost use Rattle.table_bytes.specs.Written.{headerBytes, successorBytes, rowBytes, rowsBytes, written_of, tableAfter};
+ghost use Rattle.meaning.specs.TableFiles.{row_length, no_successor};
+ghost use Rattle.table_bytes.specs.Written.{header_bytes, successor_bytes, row_bytes, rows_bytes, written_of, table_after};
 
 use events::{mask_has, width};
 use meaning::{Built, Refusal};
@@ -13,7 +13,7 @@ use wire::{put_u16, wide16};
 
 fn put_header(out: &mut [u8], signals: u8, states: u16)
     requires { 7 ≤ length out.old }
-    ensures { out.new ≡ sets out.old 0 (headerBytes signals states) }
+    ensures { out.new ≡ sets out.old 0 (header_bytes signals states) }
 {
     out[0] = 5;
     out[1] = 0;
@@ -26,7 +26,7 @@ fn put_header(out: &mut [u8], signals: u8, states: u16)
 // A successor as it is written: 65,535 for an event that cannot happen.
 fn written_successor(mask: u16, event: usize, to: u8) -> u16
     requires { event < 16 }
-    ensures { result ≡ cond (eqb (bit event mask) 1) to noSuccessor }
+    ensures { result ≡ cond (eqb (bit event mask) 1) to no_successor }
 {
     if mask_has(mask, event) {
         return to as u16;
@@ -36,7 +36,7 @@ fn written_successor(mask: u16, event: usize, to: u8) -> u16
 
 fn put_successors(out: &mut [u8], at: usize, events: usize, mask: u16, row: [u8; 16])
     requires { (events ≤ 16) × (at + 2 * events ≤ length out.old) }
-    ensures { out.new ≡ sets out.old at (successorBytes (masked events mask) events row) }
+    ensures { out.new ≡ sets out.old at (successor_bytes (masked events mask) events row) }
 {
     let mut e: usize = 0;
     while e < events {
@@ -47,8 +47,8 @@ fn put_successors(out: &mut [u8], at: usize, events: usize, mask: u16, row: [u8;
 }
 
 fn put_row(out: &mut [u8], at: usize, signals: u8, mask: u16, verdict: u8, row: [u8; 16])
-    requires { (signals ≤ 4) × (at + rowLength signals ≤ length out.old) }
-    ensures { out.new ≡ sets out.old at (rowBytes (masked (2 ^ signals) mask) signals verdict row) }
+    requires { (signals ≤ 4) × (at + row_length signals ≤ length out.old) }
+    ensures { out.new ≡ sets out.old at (row_bytes (masked (2 ^ signals) mask) signals verdict row) }
 {
     let n = width(signals);
     put_u16(out, at, (3 + 2 * n) as u16);
@@ -65,9 +65,9 @@ fn put_rows(
     verdicts: &[u8; 256],
     rows: &[[u8; 16]; 256],
 )
-    requires signals_bound { (signals ≤ 4) × (states ≤ 256) × (7 + states * rowLength signals ≤ length out.old) }
+    requires signals_bound { (signals ≤ 4) × (states ≤ 256) × (7 + states * row_length signals ≤ length out.old) }
     requires verdicts_len { (length verdicts.now ≡ 256) × (length {A = List ℕ} rows.now ≡ 256) }
-    ensures { out.new ≡ sets out.old 7 (rowsBytes (masked (2 ^ signals) mask) signals states verdicts.now rows.now) }
+    ensures { out.new ≡ sets out.old 7 (rows_bytes (masked (2 ^ signals) mask) signals states verdicts.now rows.now) }
 {
     let mut s: u16 = 0;
     while s < states {
@@ -90,7 +90,7 @@ pub fn write(
     requires signals_bound { (signals ≤ 4) × (states ≤ 256) }
     requires verdicts_len { (length verdicts.now ≡ 256) × (length {A = List ℕ} rows.now ≡ 256) }
     ensures value { result ≡ written_of signals states out.old }
-    ensures out_after { out.new ≡ tableAfter (masked (2 ^ signals) mask) signals states verdicts.now rows.now out.old }
+    ensures out_after { out.new ≡ table_after (masked (2 ^ signals) mask) signals states verdicts.now rows.now out.old }
 {
     let n = row_at(signals, states);
     if out.len() < n {

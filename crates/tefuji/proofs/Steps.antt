@@ -7,11 +7,11 @@ use native.Mathlib.Omega.{arith}
 use borrow.Author.Tests.{lt-leb, ltb-true}
 use lib.Dec.{ltb}
 use Rattle.sequences.proofs.Tests.{fails}
-use Rattle.meaning.specs.TableFiles.{signalsIn, statesIn, isTable, countsTests, checkedOf}
-use Rattle.meaning.specs.Runs.{countsFit}
-use Rattle.meaning.specs.Openings.{opening, state_of, start_of, runFromIn, run_from}
-use Rattle.meaning.specs.Desks.{refused, freshIn, fresh_of}
-use Rattle.meaning.specs.Recordings.{judgedIn, judgedOf}
+use Rattle.meaning.specs.TableFiles.{signals_in, states_in, is_table, counts_tests, checked_of}
+use Rattle.meaning.specs.Runs.{counts_fit}
+use Rattle.meaning.specs.Openings.{opening, state_of, start_of, run_from_in, run_from}
+use Rattle.meaning.specs.Desks.{refused, fresh_in, fresh_of}
+use Rattle.meaning.specs.Recordings.{judged_in, judged_of}
 use Rattle.meaning.specs.declared.Refusal.{Refusal}
 use Rattle.meaning.specs.declared.Refusal.TheVariants.{WrongTable}
 use Rattle.meaning.specs.declared.Checked.{Checked}
@@ -24,138 +24,138 @@ use Rattle.meaning.specs.declared.Watch.{Watch}
 use Rattle.table_layout.proofs.Form.{table-header, states-few}
 use Rattle.table_run.proofs.Answers.{found}
 use Rattle.openings.proofs.Answers.{run-from-table, run-from-none, run-from-refused}
-use Rattle.desk_tasks.specs.Surveys.{servedIn, servedOf}
+use Rattle.desk_tasks.specs.Surveys.{served_in, served_of}
 use Rattle.desk_tasks.specs.declared.Request.{Request}
 use Rattle.desk_tasks.proofs.Tables.{served-agrees, fresh-agrees}
 use Rattle.recordings.proofs.Answers.{judged-table, judged-none, judged-refused}
 use Rattle.codes.specs.declared.Opening.{Opening as Found}
-use Rattle.codes.specs.Codes.{refusalCode, stateCode, stateIn, openedCode, signalsOf, number_of, statesOf, startCode, openingIn, run_at, judgeAt, freshAt}
+use Rattle.codes.specs.Codes.{refusal_code, state_code, state_in, opened_code, signals_of, number_of, states_of, start_code, opening_in, run_at, judge_at, fresh_at}
 
 -- ---- the parts of an opening's number
 
 module _ (P n S : ℕ) (n-fits : n < 65536) (S-fits : S < 65536) where
-  signals-back : signalsOf (P * 2 ^ 32 + n * 65536 + S) ≡ P
+  signals-back : signals_of (P * 2 ^ 32 + n * 65536 + S) ≡ P
   signals-back = omega (arith, n-fits, S-fits)
 
   number-back : number_of (P * 2 ^ 32 + n * 65536 + S) ≡ n
   number-back = omega (arith, n-fits, S-fits)
 
-  states-back : statesOf (P * 2 ^ 32 + n * 65536 + S) ≡ S
+  states-back : states_of (P * 2 ^ 32 + n * 65536 + S) ≡ S
   states-back = omega (arith, n-fits, S-fits)
 
 -- a state comes back from its number
-pub state-back : (s : State) → s.number < 65536 → stateIn (stateCode s) ≡ s
+pub state-back : (s : State) → s.number < 65536 → state_in (state_code s) ≡ s
 state-back s fits =
     let a : (s.opening * 65536 + s.number) / 65536 ≡ s.opening = omega (arith, fits) in
     let b : (s.opening * 65536 + s.number) % 65536 ≡ s.number = omega (arith, fits) in
-    ap (λ (k : ℕ). state_of k (stateCode s % 65536)) a ∙ ap (state_of s.opening) b
+    ap (λ (k : ℕ). state_of k (state_code s % 65536)) a ∙ ap (state_of s.opening) b
 
 -- ---- anything with an opening
 
 -- more than four signals fit no table
-many-none : (t : List ℕ) (c : ℕ) → 4 < signalsOf c → countsFit t (signalsOf c) (statesOf c) ≡ false
-many-none t c h = fails (countsTests t (signalsOf c) (statesOf c)) 1 (lt-leb (signalsOf c) 4 h)
+many-none : (t : List ℕ) (c : ℕ) → 4 < signals_of c → counts_fit t (signals_of c) (states_of c) ≡ false
+many-none t c h = fails (counts_tests t (signals_of c) (states_of c)) 1 (lt-leb (signals_of c) 4 h)
 
 -- a refusal as an opening is such a number
-refused-large : 4 < signalsOf (refusalCode WrongTable)
-refused-large = ltb-true 4 (signalsOf (refusalCode WrongTable)) refl
+refused-large : 4 < signals_of (refusal_code WrongTable)
+refused-large = ltb-true 4 (signals_of (refusal_code WrongTable)) refl
 
 -- checking refuses by 14 alone
-large : (t : List ℕ) (x : Refusal) → checkedOf t ≡ Checked.Refused x → 4 < signalsOf (refusalCode x)
-large t x k = go (isTable t) k
+large : (t : List ℕ) (x : Refusal) → checked_of t ≡ Checked.Refused x → 4 < signals_of (refusal_code x)
+large t x k = go (is_table t) k
   where
-    go : (b : Bool) → cond b (Checked.Table (signalsIn t) (statesIn t)) (Checked.Refused WrongTable) ≡ Checked.Refused x → 4 < signalsOf (refusalCode x)
+    go : (b : Bool) → cond b (Checked.Table (signals_in t) (states_in t)) (Checked.Refused WrongTable) ≡ Checked.Refused x → 4 < signals_of (refusal_code x)
     go true q = let z : ◌≡◌ {A = ℕ} 0 1 = cc in absurd (omega arith)
     go false q =
         let e : WrongTable ≡ x = cc in
-        subst (λ (y : Refusal). 4 < signalsOf (refusalCode y)) e refused-large
+        subst (λ (y : Refusal). 4 < signals_of (refusal_code y)) e refused-large
 
 -- what is done with a number over bytes and counts: w where there is no table
-module _ {A : Type 0} (t : List ℕ) (by : ℕ → ℕ → ℕ → A) (w : A) (none : (n P S : ℕ) → countsFit t P S ≡ false → by n P S ≡ w) where
+module _ {A : Type 0} (t : List ℕ) (by : ℕ → ℕ → ℕ → A) (w : A) (none : (n P S : ℕ) → counts_fit t P S ≡ false → by n P S ≡ w) where
   -- the opening that is taken out of a number does as the number says
-  by-opening : (c : ℕ) → by (openingIn c).number (openingIn c).signals (openingIn c).states ≡ by (number_of c) (signalsOf c) (statesOf c)
-  by-opening c = go (ltb 4 (signalsOf c)) refl
+  by-opening : (c : ℕ) → by (opening_in c).number (opening_in c).signals (opening_in c).states ≡ by (number_of c) (signals_of c) (states_of c)
+  by-opening c = go (ltb 4 (signals_of c)) refl
     where
-      go : (b : Bool) → ltb 4 (signalsOf c) ≡ b → by (openingIn c).number (openingIn c).signals (openingIn c).states ≡ by (number_of c) (signalsOf c) (statesOf c)
-      go true h = rw h (none (number_of c) 0 0 refl ∙ sym (none (number_of c) (signalsOf c) (statesOf c) (many-none t c (ltb-true 4 (signalsOf c) h))))
+      go : (b : Bool) → ltb 4 (signals_of c) ≡ b → by (opening_in c).number (opening_in c).signals (opening_in c).states ≡ by (number_of c) (signals_of c) (states_of c)
+      go true h = rw h (none (number_of c) 0 0 refl ∙ sym (none (number_of c) (signals_of c) (states_of c) (many-none t c (ltb-true 4 (signals_of c) h))))
       go false h = rw h
 
   -- and the number that opening the bytes with n answers, whatever the bytes, as the opened table does
-  module _ (n : ℕ) (n-fits : n < 65536) (of : A) (wrong : (x : Refusal) → checkedOf t ≡ Checked.Refused x → of ≡ w) (table : (P S : ℕ) → checkedOf t ≡ Checked.Table P S → by n P S ≡ of) where
-    by-checked : (k : Checked) → checkedOf t ≡ k → by (number_of (openedCode n k)) (signalsOf (openedCode n k)) (statesOf (openedCode n k)) ≡ of
+  module _ (n : ℕ) (n-fits : n < 65536) (of : A) (wrong : (x : Refusal) → checked_of t ≡ Checked.Refused x → of ≡ w) (table : (P S : ℕ) → checked_of t ≡ Checked.Table P S → by n P S ≡ of) where
+    by-checked : (k : Checked) → checked_of t ≡ k → by (number_of (opened_code n k)) (signals_of (opened_code n k)) (states_of (opened_code n k)) ≡ of
     by-checked (Checked.Table P S) k =
         let few : S < 65536 = omega (arith, (found t P S k).states, states-few t (table-header t (found t P S k).table)) in
-        ap (λ (x : ℕ). by x (signalsOf (P * 2 ^ 32 + n * 65536 + S)) (statesOf (P * 2 ^ 32 + n * 65536 + S))) (number-back P n S n-fits few)
-        ∙ ap (λ (x : ℕ). by n x (statesOf (P * 2 ^ 32 + n * 65536 + S))) (signals-back P n S n-fits few)
+        ap (λ (x : ℕ). by x (signals_of (P * 2 ^ 32 + n * 65536 + S)) (states_of (P * 2 ^ 32 + n * 65536 + S))) (number-back P n S n-fits few)
+        ∙ ap (λ (x : ℕ). by n x (states_of (P * 2 ^ 32 + n * 65536 + S))) (signals-back P n S n-fits few)
         ∙ ap (by n P) (states-back P n S n-fits few)
         ∙ table P S k
     by-checked (Checked.Refused x) k =
-        none (number_of (refusalCode x)) (signalsOf (refusalCode x)) (statesOf (refusalCode x)) (many-none t (refusalCode x) (large t x k)) ∙ sym (wrong x k)
+        none (number_of (refusal_code x)) (signals_of (refusal_code x)) (states_of (refusal_code x)) (many-none t (refusal_code x) (large t x k)) ∙ sym (wrong x k)
 
 -- ---- the start
 
 -- the start of the opening that opening a table with n answered is that opening's start
-pub start-checked : (t : List ℕ) (n : ℕ) → n < 65536 → isTable t ≡ true → stateIn (startCode (openedCode n (checkedOf t))) ≡ start_of (opening t n)
+pub start-checked : (t : List ℕ) (n : ℕ) → n < 65536 → is_table t ≡ true → state_in (start_code (opened_code n (checked_of t))) ≡ start_of (opening t n)
 start-checked t n n-fits h =
-    let k : checkedOf t ≡ Checked.Table (signalsIn t) (statesIn t) = rw h in
-    let few : statesIn t < 65536 = omega (arith, states-few t (table-header t h)) in
-    state-back (state_of (number_of (openedCode n (checkedOf t))) 0) (omega arith)
-    ∙ ap (λ (c : Checked). state_of (number_of (openedCode n c)) 0) k
-    ∙ ap (λ (x : ℕ). state_of x 0) (number-back (signalsIn t) n (statesIn t) n-fits few)
+    let k : checked_of t ≡ Checked.Table (signals_in t) (states_in t) = rw h in
+    let few : states_in t < 65536 = omega (arith, states-few t (table-header t h)) in
+    state-back (state_of (number_of (opened_code n (checked_of t))) 0) (omega arith)
+    ∙ ap (λ (c : Checked). state_of (number_of (opened_code n c)) 0) k
+    ∙ ap (λ (x : ℕ). state_of x 0) (number-back (signals_in t) n (states_in t) n-fits few)
 
 -- ---- runs
 
 module _ (t : List ℕ) (s : State) (es : List ℕ) where
-  pub run-opening : (c : ℕ) → runFromIn (openingIn c).number t (openingIn c).signals (openingIn c).states s es ≡ runFromIn (number_of c) t (signalsOf c) (statesOf c) s es
-  run-opening = by-opening t (λ n P S. runFromIn n t P S s es) (Arrived.Refused WrongTable) (λ n. run-from-none n t s es)
+  pub run-opening : (c : ℕ) → run_from_in (opening_in c).number t (opening_in c).signals (opening_in c).states s es ≡ run_from_in (number_of c) t (signals_of c) (states_of c) s es
+  run-opening = by-opening t (λ n P S. run_from_in n t P S s es) (Arrived.Refused WrongTable) (λ n. run-from-none n t s es)
 
 -- a run over the opening in the number c and the state in q, as o and s
-pub run_is : (t : List ℕ) (c q : ℕ) (es : List ℕ) {o : Found} {s : State} {a : Arrived} → o ≡ openingIn c → s ≡ stateIn q
-    → a ≡ runFromIn o.number t o.signals o.states s es → a ≡ run_at t c q es
+pub run_is : (t : List ℕ) (c q : ℕ) (es : List ℕ) {o : Found} {s : State} {a : Arrived} → o ≡ opening_in c → s ≡ state_in q
+    → a ≡ run_from_in o.number t o.signals o.states s es → a ≡ run_at t c q es
 run_is t c q es {s = s} oe se e =
-    e ∙ ap (λ (k : Found). runFromIn k.number t k.signals k.states s es) oe
-    ∙ ap (λ (x : State). runFromIn (openingIn c).number t (openingIn c).signals (openingIn c).states x es) se
-    ∙ run-opening t (stateIn q) es c
+    e ∙ ap (λ (k : Found). run_from_in k.number t k.signals k.states s es) oe
+    ∙ ap (λ (x : State). run_from_in (opening_in c).number t (opening_in c).signals (opening_in c).states x es) se
+    ∙ run-opening t (state_in q) es c
 
 -- with the number that opening the bytes with n answers, whatever the bytes, a run is that of the opened table, and a step one over its event
-pub run-checked : (t : List ℕ) (n : ℕ) → n < 65536 → (s : ℕ) (es : List ℕ) → run_at t (openedCode n (checkedOf t)) s es ≡ run_from (opening t n) (stateIn s) es
+pub run-checked : (t : List ℕ) (n : ℕ) → n < 65536 → (s : ℕ) (es : List ℕ) → run_at t (opened_code n (checked_of t)) s es ≡ run_from (opening t n) (state_in s) es
 run-checked t n n-fits s es =
-    by-checked t (λ n P S. runFromIn n t P S (stateIn s) es) (Arrived.Refused WrongTable) (λ n. run-from-none n t (stateIn s) es)
-    n n-fits (run_from (opening t n) (stateIn s) es) (run-from-refused n t (stateIn s) es) (run-from-table n t (stateIn s) es) (checkedOf t) refl
+    by-checked t (λ n P S. run_from_in n t P S (state_in s) es) (Arrived.Refused WrongTable) (λ n. run-from-none n t (state_in s) es)
+    n n-fits (run_from (opening t n) (state_in s) es) (run-from-refused n t (state_in s) es) (run-from-table n t (state_in s) es) (checked_of t) refl
 
 -- ---- recordings
 
 module _ (t a b : List ℕ) where
-  pub judge-opening : (c : ℕ) → judgedIn t (openingIn c).signals (openingIn c).states a b ≡ judgeAt t c a b
-  judge-opening = by-opening t (λ n P S. judgedIn t P S a b) (Shown.Refused WrongTable) (λ n. judged-none t a b)
+  pub judge-opening : (c : ℕ) → judged_in t (opening_in c).signals (opening_in c).states a b ≡ judge_at t c a b
+  judge-opening = by-opening t (λ n P S. judged_in t P S a b) (Shown.Refused WrongTable) (λ n. judged-none t a b)
 
   -- recordings are judged over the table, whatever its number
-  pub judge-checked : (n : ℕ) → n < 65536 → judgeAt t (openedCode n (checkedOf t)) a b ≡ judgedOf t a b
+  pub judge-checked : (n : ℕ) → n < 65536 → judge_at t (opened_code n (checked_of t)) a b ≡ judged_of t a b
   judge-checked n n-fits =
-      by-checked t (λ n P S. judgedIn t P S a b) (Shown.Refused WrongTable) (λ n. judged-none t a b)
-      n n-fits (judgedOf t a b) (judged-refused t a b) (judged-table t a b) (checkedOf t) refl
+      by-checked t (λ n P S. judged_in t P S a b) (Shown.Refused WrongTable) (λ n. judged-none t a b)
+      n n-fits (judged_of t a b) (judged-refused t a b) (judged-table t a b) (checked_of t) refl
 
 -- ---- a desk
 
 module _ (t : List ℕ) (d : List Watch) where
-  pub served-opening : (r : Request) (c : ℕ) → servedIn t (openingIn c).signals (openingIn c).states r d ≡ servedIn t (signalsOf c) (statesOf c) r d
-  served-opening r = by-opening t (λ n P S. servedIn t P S r d) (refused d WrongTable) (λ n. (served-agrees t d r).none)
+  pub served-opening : (r : Request) (c : ℕ) → served_in t (opening_in c).signals (opening_in c).states r d ≡ served_in t (signals_of c) (states_of c) r d
+  served-opening r = by-opening t (λ n P S. served_in t P S r d) (refused d WrongTable) (λ n. (served-agrees t d r).none)
 
-  pub fresh-opening : (c : ℕ) → freshIn (openingIn c).number t (openingIn c).signals (openingIn c).states d ≡ freshAt t c d
-  fresh-opening = by-opening t (λ n P S. freshIn n t P S d) (refused d WrongTable) (λ n. (fresh-agrees t d n).none)
+  pub fresh-opening : (c : ℕ) → fresh_in (opening_in c).number t (opening_in c).signals (opening_in c).states d ≡ fresh_at t c d
+  fresh-opening = by-opening t (λ n P S. fresh_in n t P S d) (refused d WrongTable) (λ n. (fresh-agrees t d n).none)
 
   module _ (n : ℕ) (n-fits : n < 65536) where
     abbrev opened : ℕ
-    opened = openedCode n (checkedOf t)
+    opened = opened_code n (checked_of t)
 
     -- a post and a turn are those over the opened table; what is asked has the opening's number
-    pub served-checked : (ask : ℕ → Request) → servedIn t (signalsOf opened) (statesOf opened) (ask (number_of opened)) d ≡ servedOf t (ask n) d
+    pub served-checked : (ask : ℕ → Request) → served_in t (signals_of opened) (states_of opened) (ask (number_of opened)) d ≡ served_of t (ask n) d
     served-checked ask =
-        by-checked t (λ n P S. servedIn t P S (ask n) d) (refused d WrongTable) (λ n. (served-agrees t d (ask n)).none)
-        n n-fits (servedOf t (ask n) d) (served-agrees t d (ask n)).wrong (served-agrees t d (ask n)).table (checkedOf t) refl
+        by-checked t (λ n P S. served_in t P S (ask n) d) (refused d WrongTable) (λ n. (served-agrees t d (ask n)).none)
+        n n-fits (served_of t (ask n) d) (served-agrees t d (ask n)).wrong (served-agrees t d (ask n)).table (checked_of t) refl
 
     -- and so is a fresh desk
-    pub fresh-checked : freshAt t opened d ≡ fresh_of (opening t n) d
+    pub fresh-checked : fresh_at t opened d ≡ fresh_of (opening t n) d
     fresh-checked =
-        by-checked t (λ n P S. freshIn n t P S d) (refused d WrongTable) (λ n. (fresh-agrees t d n).none)
-        n n-fits (fresh_of (opening t n) d) (fresh-agrees t d n).wrong (fresh-agrees t d n).table (checkedOf t) refl
+        by-checked t (λ n P S. fresh_in n t P S d) (refused d WrongTable) (λ n. (fresh-agrees t d n).none)
+        n n-fits (fresh_of (opening t n) d) (fresh-agrees t d n).wrong (fresh-agrees t d n).table (checked_of t) refl

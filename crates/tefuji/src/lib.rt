@@ -2,11 +2,11 @@
 // for, or a refusal with its number in the top byte and its place below.
 ghost use Rattle.std.specs.Prelude.{◌≡◌};
 ghost use Rattle.meaning.specs.RuleFiles.{judge};
-ghost use Rattle.meaning.specs.TableFiles.{checkedOf};
-ghost use Rattle.building.specs.Build.{answer_of, outputAfter, Right};
-ghost use Rattle.codes.specs.Codes.{writtenCode, builtCode, openedCode, startCode, arrivedCode, countAfter, run_at, stepAt, shownCode, judgeAt, textCode, servedCode, freshAt, postAt, turnAt};
-ghost use Rattle.rule_text.specs.Writing.{writtenAnswer, writtenAfter};
-ghost use Rattle.table_text.specs.Text.{textAnswer, textAfter};
+ghost use Rattle.meaning.specs.TableFiles.{checked_of};
+ghost use Rattle.building.specs.Build.{answer_of, output_after, Right};
+ghost use Rattle.codes.specs.Codes.{written_code, built_code, opened_code, start_code, arrived_code, count_after, run_at, step_at, shown_code, judge_at, text_code, served_code, fresh_at, post_at, turn_at};
+ghost use Rattle.rule_text.specs.Writing.{written_answer, written_after};
+ghost use Rattle.table_text.specs.Text.{text_answer, text_after};
 ghost use Rattle.tefuji.specs.Writing.{Written};
 
 use codes::{
@@ -20,8 +20,8 @@ use meaning::Watch;
 // Writes the rule file of a text into the front of a buffer. Answers the file's length.
 #[unsafe(no_mangle)]
 pub extern "C" fn tefuji_write(text: &[u8], signals: u8, rule: &mut [u8]) -> u64
-    ensures answer { result ≡ writtenCode (writtenAnswer text.now signals rule.old) }
-    ensures output { rule.new ≡ writtenAfter text.now signals rule.old }
+    ensures answer { result ≡ written_code (written_answer text.now signals rule.old) }
+    ensures output { rule.new ≡ written_after text.now signals rule.old }
     ensures reading { Written text.now signals rule.old result rule.new }
 {
     written_code(rule_text::write(text, signals, rule))
@@ -30,8 +30,8 @@ pub extern "C" fn tefuji_write(text: &[u8], signals: u8, rule: &mut [u8]) -> u64
 // Builds the smallest table of a rule file into the front of a buffer. Answers the table's length.
 #[unsafe(no_mangle)]
 pub extern "C" fn tefuji_build(rule: &[u8], table: &mut [u8]) -> u64
-    ensures answer { result ≡ builtCode (answer_of (judge rule.now) table.old) }
-    ensures output { table.new ≡ outputAfter (judge rule.now) table.old }
+    ensures answer { result ≡ built_code (answer_of (judge rule.now) table.old) }
+    ensures output { table.new ≡ output_after (judge rule.now) table.old }
     ensures demands { Right rule.now table.old table.new (answer_of (judge rule.now) table.old) }
 {
     built_code(monitor::build(rule, table))
@@ -40,7 +40,7 @@ pub extern "C" fn tefuji_build(rule: &[u8], table: &mut [u8]) -> u64
 // Opens a table with a number: checks its bytes. Answers the opening, which what is done with the table takes.
 #[unsafe(no_mangle)]
 pub extern "C" fn tefuji_open(table: &[u8], number: u16) -> u64
-    ensures { result ≡ openedCode number (checkedOf table.now) }
+    ensures { result ≡ opened_code number (checked_of table.now) }
 {
     opened_code(number, table_file::check(table))
 }
@@ -48,7 +48,7 @@ pub extern "C" fn tefuji_open(table: &[u8], number: u16) -> u64
 // The start of an opening: state 0, with its number.
 #[unsafe(no_mangle)]
 pub extern "C" fn tefuji_start(opened: u64) -> u32
-    ensures { result ≡ startCode opened }
+    ensures { result ≡ start_code opened }
 {
     start_code(opened)
 }
@@ -62,8 +62,8 @@ pub extern "C" fn tefuji_run(
     events: &[u8],
     count: &mut u64,
 ) -> u64
-    ensures value { result ≡ arrivedCode (run_at table.now opened state events.now) }
-    ensures count_after { count.new ≡ countAfter (run_at table.now opened state events.now) count.old }
+    ensures value { result ≡ arrived_code (run_at table.now opened state events.now) }
+    ensures count_after { count.new ≡ count_after (run_at table.now opened state events.now) count.old }
 {
     let o = opening_in(opened);
     let from = state_in(state);
@@ -75,7 +75,7 @@ pub extern "C" fn tefuji_run(
 // Reads one event over a table that was opened. Answers the successor and its verdict.
 #[unsafe(no_mangle)]
 pub extern "C" fn tefuji_step(table: &[u8], opened: u64, state: u32, event: u8) -> u64
-    ensures { result ≡ arrivedCode (stepAt table.now opened state event) }
+    ensures { result ≡ arrived_code (step_at table.now opened state event) }
 {
     let o = opening_in(opened);
     let s = state_in(state);
@@ -85,8 +85,8 @@ pub extern "C" fn tefuji_step(table: &[u8], opened: u64, state: u32, event: u8) 
 // Writes a table's text into the front of a buffer of at least 32,768 bytes. Answers the text's length.
 #[unsafe(no_mangle)]
 pub extern "C" fn tefuji_text(table: &[u8], text: &mut [u8]) -> u64
-    ensures value { result ≡ textCode (textAnswer table.now text.old) }
-    ensures text_after { text.new ≡ textAfter table.now text.old }
+    ensures value { result ≡ text_code (text_answer table.now text.old) }
+    ensures text_after { text.new ≡ text_after table.now text.old }
 {
     text_code(table_text::table_text(table, text))
 }
@@ -94,7 +94,7 @@ pub extern "C" fn tefuji_text(table: &[u8], text: &mut [u8]) -> u64
 // Judges two recordings with gaps over a table that was opened, from its start. Answers the verdict.
 #[unsafe(no_mangle)]
 pub extern "C" fn tefuji_judge(table: &[u8], opened: u64, first: &[u8], second: &[u8]) -> u64
-    ensures { result ≡ shownCode (judgeAt table.now opened first.now second.now) }
+    ensures { result ≡ shown_code (judge_at table.now opened first.now second.now) }
 {
     let o = opening_in(opened);
     shown_code(recordings::judge_in(table, o.signals, o.states, first, second))
@@ -105,7 +105,7 @@ pub extern "C" fn tefuji_judge(table: &[u8], opened: u64, first: &[u8], second: 
 // Makes a fresh desk of the row, over a table that was opened. Answers 0.
 #[unsafe(no_mangle)]
 pub extern "C" fn tefuji_fresh<'d, 't>(desk: &'d mut [Watch], table: &'t [u8], opened: u64) -> u64
-    ensures { (result ≡ servedCode (freshAt table.now opened desk.old).answer) × (desk.new ≡ (freshAt table.now opened desk.old).desk) }
+    ensures { (result ≡ served_code (fresh_at table.now opened desk.old).answer) × (desk.new ≡ (fresh_at table.now opened desk.old).desk) }
 {
     let o = opening_in(opened);
     served_code(fresh(desk, table, o.signals, o.states, o.number))
@@ -120,7 +120,7 @@ pub extern "C" fn tefuji_post<'d, 't>(
     number: usize,
     event: u8,
 ) -> u64
-    ensures { (result ≡ servedCode (postAt table.now opened desk.old number event).answer) × (desk.new ≡ (postAt table.now opened desk.old number event).desk) }
+    ensures { (result ≡ served_code (post_at table.now opened desk.old number event).answer) × (desk.new ≡ (post_at table.now opened desk.old number event).desk) }
 {
     let o = opening_in(opened);
     served_code(serve(
@@ -140,7 +140,7 @@ pub extern "C" fn tefuji_turn<'d, 't>(
     opened: u64,
     last: usize,
 ) -> u64
-    ensures { (result ≡ servedCode (turnAt table.now opened desk.old last).answer) × (desk.new ≡ (turnAt table.now opened desk.old last).desk) }
+    ensures { (result ≡ served_code (turn_at table.now opened desk.old last).answer) × (desk.new ≡ (turn_at table.now opened desk.old last).desk) }
 {
     let o = opening_in(opened);
     served_code(serve(

@@ -1,8 +1,8 @@
 // What the programs are given: the writer of rule files a number of signals as its argument and the text on its input,
 // the runner of tables its events as its argument.
 ghost use Rattle.std.specs.Prelude.{◌≡◌, ◌≤◌, length, map};
-ghost use Rattle.text_input.specs.Given.{same, within, isDigit, value_of, isHelp, requestOf, withoutLineEnd};
-ghost use Rattle.text_input.specs.EventDigits.{hexValue, allHex, runRequestOf, eventsIn};
+ghost use Rattle.text_input.specs.Given.{same, within, is_digit, value_of, is_help, request_of, without_line_end};
+ghost use Rattle.text_input.specs.EventDigits.{hex_value, all_hex, run_request_of, events_in};
 
 use wire::wide;
 
@@ -31,7 +31,7 @@ fn same_bytes(a: &[u8], b: &[u8]) -> bool
 }
 
 fn is_help(argument: &[u8]) -> bool
-    ensures { result ≡ isHelp argument.now }
+    ensures { result ≡ is_help argument.now }
 {
     same_bytes(argument, b"-h") | same_bytes(argument, b"--help")
 }
@@ -43,7 +43,7 @@ fn is_within(low: u8, high: u8, b: u8) -> bool
 }
 
 fn is_digit(b: u8) -> bool
-    ensures { result ≡ isDigit b }
+    ensures { result ≡ is_digit b }
 {
     (48 <= b) & (b <= 57)
 }
@@ -67,7 +67,7 @@ fn value(digits: &[u8]) -> usize
 }
 
 pub fn read_argument(argument: &[u8]) -> Request
-    ensures { result ≡ requestOf argument.now }
+    ensures { result ≡ request_of argument.now }
 {
     if is_help(argument) {
         return Request::Help;
@@ -87,7 +87,7 @@ pub fn read_argument(argument: &[u8]) -> Request
 
 // The text with the line end dropped that stands last, if one does.
 pub fn without_line_end(text: &[u8]) -> &[u8]
-    ensures { result.now ≡ withoutLineEnd text.now }
+    ensures { result.now ≡ without_line_end text.now }
 {
     if text.len() < 1 {
         return text;
@@ -111,7 +111,7 @@ pub enum RunRequest {
 
 // The value of a digit, or 16 where the byte is none.
 fn hex_value(b: u8) -> u8
-    ensures { result ≡ hexValue b }
+    ensures { result ≡ hex_value b }
 {
     if is_digit(b) {
         return b - 48;
@@ -126,7 +126,7 @@ fn hex_value(b: u8) -> u8
 }
 
 fn all_hex(bytes: &[u8]) -> bool
-    ensures { result ≡ allHex bytes.now }
+    ensures { result ≡ all_hex bytes.now }
 {
     let mut i: usize = 0;
     while i < bytes.len() {
@@ -140,7 +140,7 @@ fn all_hex(bytes: &[u8]) -> bool
 
 // Puts its value in the place of each byte.
 fn put_values(bytes: &mut [u8])
-    ensures { bytes.new ≡ map hexValue bytes.old }
+    ensures { bytes.new ≡ map hex_value bytes.old }
 {
     let mut i: usize = 0;
     while i < bytes.len() {
@@ -153,8 +153,8 @@ fn put_values(bytes: &mut [u8])
 // Reads the argument of a run. Where it is digits alone, none too, their values are put in their places; any other is
 // kept.
 pub fn read_events(argument: &mut [u8]) -> RunRequest
-    ensures value { result ≡ runRequestOf argument.old }
-    ensures argument_after { argument.new ≡ eventsIn argument.old }
+    ensures value { result ≡ run_request_of argument.old }
+    ensures argument_after { argument.new ≡ events_in argument.old }
 {
     if !all_hex(argument) {
         if is_help(argument) {

@@ -10,17 +10,17 @@ use lib.Seq.{get_or-append-add, get_or-set_same, get_or-set_other, ext_get_or}
 use native.Mathlib.Decide.{dec_lt}
 use borrow.Author.Tests.{lt-ltb, le-ltb, ne_eqb}
 use Rattle.sequences.specs.Tabulate.{tabulate}
-use Rattle.sequences.proofs.Loops.{length-tab, getD-tab}
+use Rattle.sequences.proofs.Loops.{length-tab, get_d-tab}
 use Rattle.meaning.specs.Grammar.{Tree, leaf, pre, bin, Parses, atom, prefix, brackets, tighter, left, right}
-use Rattle.meaning.specs.RuleTexts.{node, kind_of, size, nodesOf}
+use Rattle.meaning.specs.RuleTexts.{node, kind_of, size, nodes_of}
 use Rattle.meaning.specs.declared.Node.{Node}
 use Rattle.grammar.specs.Signs.{Signs}
 use Rattle.grammar.proofs.Trees.{nodes-length}
 use Rattle.grammar.specs.Descent.{Got}
 use Rattle.grammar.specs.Reading.{tree_of}
-use Rattle.descent.specs.Laying.{Laid, put, lay, laidAs, Read}
+use Rattle.descent.specs.Laying.{Laid, put, lay, laid_as, Read}
 use Rattle.descent.specs.declared.Cursor.{Cursor}
-use Rattle.text_nodes.specs.Occurrences.{mark, occurrences, node_of, nodeIn}
+use Rattle.text_nodes.specs.Occurrences.{mark, occurrences, node_of, node_in}
 
 blank : Node
 blank = node 0 0 0
@@ -30,8 +30,8 @@ record Lays (o : List ℕ) (c : ℕ) (ns : List Node) (s : Laid) : Type 0 where
   count : s.count ≡ c + length ns
   root : s.root + 1 ≡ s.count
   size : length s.out ≡ length o
-  before : (i : ℕ) → i < c → nodeIn s.out i ≡ nodeIn o i
-  here : (j : ℕ) → j < length ns → nodeIn s.out (c + j) ≡ get_or ns j blank
+  before : (i : ℕ) → i < c → node_in s.out i ≡ node_in o i
+  here : (j : ℕ) → j < length ns → node_in s.out (c + j) ≡ get_or ns j blank
 
 -- three bytes stored for number c
 stored : List ℕ → ℕ → ℕ → ℕ → ℕ → List ℕ
@@ -91,14 +91,14 @@ lays-then {o} {c} {ns} {s} {ms} {u} p q = record {
   here = λ j l. go j l (dec_lt j (length ns));
 }
   where
-    go : (j : ℕ) → j < length (ns ++ ms) → Dec (j < length ns) → nodeIn u.out (c + j) ≡ get_or (ns ++ ms) j blank
+    go : (j : ℕ) → j < length (ns ++ ms) → Dec (j < length ns) → node_in u.out (c + j) ≡ get_or (ns ++ ms) j blank
     go j l (yes h) = q.before (c + j) (omega (arith, p.count)) ∙ p.here j h ∙ sym (get_or-append ns ms blank j h)
     go j l (no h) =
         let k : ℕ = j - length ns in
         let e : s.count + k ≡ c + j = omega (arith, p.count) in
         let f : length ns + k ≡ j = omega arith in
         let m : j < length ns + length ms = simp length-append at l in
-        subst (λ (i : ℕ). nodeIn u.out i ≡ get_or (ns ++ ms) j blank) e (q.here k (omega arith) ∙ sym (get_or-append-add ns ms k blank) ∙ ap (λ (i : ℕ). get_or (ns ++ ms) i blank) f)
+        subst (λ (i : ℕ). node_in u.out i ≡ get_or (ns ++ ms) j blank) e (q.here k (omega arith) ∙ sym (get_or-append-add ns ms k blank) ∙ ap (λ (i : ℕ). get_or (ns ++ ms) i blank) f)
 
 -- an operator after what was laid, with its operands a and b
 lays-sign : {o : List ℕ} {c : ℕ} {ns : List Node} {s : Laid} (x a b a' b' : ℕ) → Lays o c ns s → 6 ≤ x → a ≡ a' → b ≡ b' → s.count < 64 → 3 * s.count + 3 ≤ length o
@@ -107,8 +107,8 @@ lays-sign {o} {c} {ns} {s} x a b a' b' p l e f m h =
     let n : node_of x a b ≡ node (kind_of x) a' b' = rw (le-ltb x 4 (omega arith), e, f) in
     lays-then p (subst (λ (y : Node). Lays s.out s.count (y ∷ []) (put s.out s.count x a b)) n (lays-put s.out s.count x a b m (omega (arith, p.size))))
 
-lays : (t : Tree) (o : List ℕ) (c : ℕ) → Signs t → c + size t ≤ 64 → 3 * (c + size t) ≤ length o → Lays o c (nodesOf c t) (lay t o c)
-unfolding lay nodesOf size
+lays : (t : Tree) (o : List ℕ) (c : ℕ) → Signs t → c + size t ≤ 64 → 3 * (c + size t) ≤ length o → Lays o c (nodes_of c t) (lay t o c)
+unfolding lay nodes_of size
 lays (leaf x) o c g l h = lays-put o c x 0 0 (omega arith) (omega arith)
 lays (pre x t) o c g l h =
     let p = lays t o c g.2 (omega arith) (omega arith) in
@@ -120,14 +120,14 @@ lays (bin x s t) o c g l h =
     let n = nodes-length (c + size s) t in
     let u = lay s o c in
     let e : u.count ≡ c + size s = omega (arith, p.count) in
-    let q : Lays u.out u.count (nodesOf (c + size s) t) (lay t u.out u.count) =
-    subst (λ (k : ℕ). Lays u.out u.count (nodesOf k t) (lay t u.out u.count)) e (lays t u.out u.count g.3 (omega arith) (omega (arith, p.size))) in
+    let q : Lays u.out u.count (nodes_of (c + size s) t) (lay t u.out u.count) =
+    subst (λ (k : ℕ). Lays u.out u.count (nodes_of k t) (lay t u.out u.count)) e (lays t u.out u.count g.3 (omega arith) (omega (arith, p.size))) in
     lays-sign x u.root (lay t u.out u.count).root (c + size s - 1) (c + size s + size t - 1) (lays-then p q) (omega (arith, g.0)) (omega (arith, p.root)) (omega (arith, q.root, q.count)) (omega (arith, q.count)) (omega (arith, q.count))
 
 -- a tree of at most 64 nodes: as many were laid, and they are its nodes
 pub record Whole (t : Tree) (s : Laid) : Type 0 where
   pub count : s.count ≡ size t
-  pub nodes : tabulate (size t) (nodeIn s.out) ≡ nodesOf 0 t
+  pub nodes : tabulate (size t) (node_in s.out) ≡ nodes_of 0 t
 
 pub whole : (t : Tree) (o : List ℕ) → Signs t → size t ≤ 64 → 192 ≤ length o → Whole t (lay t o 0)
 whole t o g l h =
@@ -135,9 +135,9 @@ whole t o g l h =
     let n = nodes-length 0 t in
     record {
       count = omega (arith, p.count);
-      nodes = ext_get_or blank (tabulate (size t) (nodeIn (lay t o 0).out)) (nodesOf 0 t) (length-tab (size t) (nodeIn (lay t o 0).out) ∙ sym n)
-          (λ i m. let b : i < size t = subst (λ (k : ℕ). i < k) (length-tab (size t) (nodeIn (lay t o 0).out)) m in
-          getD-tab (size t) (nodeIn (lay t o 0).out) i blank b ∙ ap (nodeIn (lay t o 0).out) (omega arith) ∙ p.here i (omega arith));
+      nodes = ext_get_or blank (tabulate (size t) (node_in (lay t o 0).out)) (nodes_of 0 t) (length-tab (size t) (node_in (lay t o 0).out) ∙ sym n)
+          (λ i m. let b : i < size t = subst (λ (k : ℕ). i < k) (length-tab (size t) (node_in (lay t o 0).out)) m in
+          get_d-tab (size t) (node_in (lay t o 0).out) i blank b ∙ ap (node_in (lay t o 0).out) (omega arith) ∙ p.here i (omega arith));
     }
 
 -- ---- as many nodes as occurrences
@@ -175,7 +175,7 @@ size_is (right {n} {us} {vs} f p q) = joined-size n _ _ us vs (size_is p) (size_
 
 pub record Listed (s o : List ℕ) (r : Cursor) : Type 0 where
   pub count : r.count ≡ size (tree_of s)
-  pub nodes : tabulate (size (tree_of s)) (nodeIn o) ≡ nodesOf 0 (tree_of s)
+  pub nodes : tabulate (size (tree_of s)) (node_in o) ≡ nodes_of 0 (tree_of s)
 
 tree-read : {s o o' : List ℕ} {r : Cursor} (p : Read s 6 0 o 0 o' r) → p.tree ≡ tree_of s
 unfolding tree_of
@@ -184,11 +184,11 @@ tree-read {s} p = sym (ap (λ (g : Got). g.tree) (p.level.is (16 * length s + 14
 pub listed : {s o o' : List ℕ} {r : Cursor} → Read s 6 0 o 0 o' r → Signs (tree_of s) → size (tree_of s) ≤ 64 → 192 ≤ length o → Listed s o' r
 listed {s} {o} {o'} {r} p g l h =
     let w = whole (tree_of s) o g l h in
-    let e : lay (tree_of s) o 0 ≡ laidAs o' r = ap (λ (t : Tree). lay t o 0) (sym (tree-read p)) ∙ p.laid in
+    let e : lay (tree_of s) o 0 ≡ laid_as o' r = ap (λ (t : Tree). lay t o 0) (sym (tree-read p)) ∙ p.laid in
     record {
       count = ap (λ (z : Laid). z.count) (sym e) ∙ w.count;
-      nodes = ap (λ (z : Laid). tabulate (size (tree_of s)) (nodeIn z.out)) (sym e) ∙ w.nodes;
+      nodes = ap (λ (z : Laid). tabulate (size (tree_of s)) (node_in z.out)) (sym e) ∙ w.nodes;
     }
 
-pub listed-taken : {s o : List ℕ} {r : Cursor} (ns : List Node) → Listed s o r → take r.count ns ≡ tabulate r.count (nodeIn o) → take (size (tree_of s)) ns ≡ nodesOf 0 (tree_of s)
-listed-taken {s} {o} {r} ns l e = subst (λ (n : ℕ). take n ns ≡ tabulate n (nodeIn o)) l.count e ∙ l.nodes
+pub listed-taken : {s o : List ℕ} {r : Cursor} (ns : List Node) → Listed s o r → take r.count ns ≡ tabulate r.count (node_in o) → take (size (tree_of s)) ns ≡ nodes_of 0 (tree_of s)
+listed-taken {s} {o} {r} ns l e = subst (λ (n : ℕ). take n ns ≡ tabulate n (node_in o)) l.count e ∙ l.nodes

@@ -17,5 +17,5 @@ abbrev pub node_of : ℕ → ℕ → ℕ → Node
 node_of x a b = node (kind_of x) (cond (ltb x 4) x a) b
 
 -- the node of the occurrence that was laid with number i
-abbrev pub nodeIn : List ℕ → ℕ → Node
-nodeIn o i = node_of (get_or o (3 * i) 0) (get_or o (3 * i + 1) 0) (get_or o (3 * i + 2) 0)
+abbrev pub node_in : List ℕ → ℕ → Node
+node_in o i = node_of (get_or o (3 * i) 0) (get_or o (3 * i + 1) 0) (get_or o (3 * i + 2) 0)

@@ -1,10 +1,10 @@
 // From the signs of a text to the nodes of its rule.
 ghost use Rattle.std.specs.Prelude.{◌≡◌, ◌+◌, ◌*◌, ◌≤◌, length, take};
 ghost use Rattle.sequences.specs.Tabulate.{tabulate};
-ghost use Rattle.meaning.specs.RuleTexts.{kind_of, size, nodesOf};
+ghost use Rattle.meaning.specs.RuleTexts.{kind_of, size, nodes_of};
 ghost use Rattle.grammar.specs.Reading.{tree_of};
 ghost use Rattle.grammar.specs.Signs.{Signs};
-ghost use Rattle.text_nodes.specs.Occurrences.{mark, occurrences, node_of, nodeIn};
+ghost use Rattle.text_nodes.specs.Occurrences.{mark, occurrences, node_of, node_in};
 
 use descent::level;
 use meaning::Node;
@@ -76,7 +76,7 @@ fn node_of(sign: u8, a: u8, b: u8) -> Node
 // The nodes of the first `count` occurrences that were laid.
 fn nodes_in(laid: &[u8], count: usize) -> [Node; 64]
     requires { (count ≤ 64) × (3 * count ≤ length laid.now) }
-    ensures { take count result ≡ tabulate count (nodeIn laid.now) }
+    ensures { take count result ≡ tabulate count (node_in laid.now) }
 {
     let mut nodes = [Node {
         kind: 0,
@@ -101,7 +101,7 @@ fn room() -> [u8; 192]
 // The nodes of the signs' tree, of at most 64.
 pub fn nodes(signs: &[u8]) -> [Node; 64]
     requires { Signs (tree_of signs.now) × (size (tree_of signs.now) ≤ 64) }
-    ensures { take (size (tree_of signs.now)) result ≡ nodesOf 0 (tree_of signs.now) }
+    ensures { take (size (tree_of signs.now)) result ≡ nodes_of 0 (tree_of signs.now) }
 {
     let mut laid = room();
     let end = level(signs, 6, 0, &mut laid, 0);

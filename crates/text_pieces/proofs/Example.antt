@@ -3,9 +3,9 @@ use mathlib.Core.Path.{◌≡◌, refl}
 use mathlib.Core.List.{[], ◌∷◌}
 use Rattle.meaning.specs.declared.Refusal.TheVariants.{WrongOperand}
 use Rattle.text_pieces.specs.Decimal.{digits}
-use Rattle.text_pieces.specs.RefusalLine.{refusalText}
+use Rattle.text_pieces.specs.RefusalLine.{refusal_text}
 
 -- "refused 6 at 11"
-pub refused-6 : refusalText (WrongOperand 11) ≡ 114 ∷ 101 ∷ 102 ∷ 117 ∷ 115 ∷ 101 ∷ 100 ∷ 32 ∷ 54 ∷ 32 ∷ 97 ∷ 116 ∷ 32 ∷ 49 ∷ 49 ∷ 10 ∷ []
-unfolding refusalText digits
+pub refused-6 : refusal_text (WrongOperand 11) ≡ 114 ∷ 101 ∷ 102 ∷ 117 ∷ 115 ∷ 101 ∷ 100 ∷ 32 ∷ 54 ∷ 32 ∷ 97 ∷ 116 ∷ 32 ∷ 49 ∷ 49 ∷ 10 ∷ []
+unfolding refusal_text digits
 refused-6 = refl

@@ -11,7 +11,7 @@ use lib.ListN.{length, get_or, set, take, length-append}
 use lib.Seq.{take-suc, take-length}
 use Rattle.sequences.specs.Tabulate.{joined}
 use Rattle.sequences.proofs.Stores.{Stored, stored_more, stored-whole, stored-length}
-use Rattle.text_pieces.specs.Put.{Put, atFront}
+use Rattle.text_pieces.specs.Put.{Put, at_front}
 use Rattle.text_pieces.specs.Decimal.{decimal}
 use Rattle.text_pieces.proofs.Decimal.{decimal-one, decimal-more}
 
@@ -36,7 +36,7 @@ module _ {d : List ℕ} {i : ℕ} {vs s : List ℕ} {j : ℕ} (h : Put d i vs s 
   put_is ws e = subst (λ (l : List ℕ). Put d i l s j) e h
 
 -- put from the front on: the bytes, and what stood past them
-pub put_front : {d vs s : List ℕ} {j : ℕ} → Put d 0 vs s j → j ≤ length d → s ≡ atFront vs d
+pub put_front : {d vs s : List ℕ} {j : ℕ} → Put d 0 vs s j → j ≤ length d → s ≡ at_front vs d
 put_front {d} {vs} h l = stored-whole (length vs) (stored_of h) refl (omega (arith, h.next))
 
 -- one byte more of the bytes bs

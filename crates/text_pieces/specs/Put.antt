@@ -8,5 +8,5 @@ pub record Put (d : List ℕ) (i : ℕ) (vs s : List ℕ) (j : ℕ) : Type 0 whe
   pub next : j ≡ i + length vs
 
 -- the bytes at the front of a buffer, and what stood past them
-abbrev pub atFront : List ℕ → List ℕ → List ℕ
-atFront text out = text ++ drop (length text) out
+abbrev pub at_front : List ℕ → List ℕ → List ℕ
+at_front text out = text ++ drop (length text) out

@@ -3,21 +3,21 @@ use Rattle.std.specs.Prelude.{List, [], ◌∷◌, ◌++◌, cond, ℕ, length, 
 use Rattle.meaning.specs.Refusals.{code_of}
 use Rattle.meaning.specs.declared.Refusal.{Refusal}
 use Rattle.meaning.specs.declared.Refusal.TheVariants.{ShortOutput}
-use Rattle.text_pieces.specs.Put.{atFront}
+use Rattle.text_pieces.specs.Put.{at_front}
 use Rattle.text_pieces.specs.Decimal.{decimal}
 use Rattle.text_pieces.specs.declared.Text.{Text}
 use Rattle.text_pieces.specs.declared.Text.TheVariants as Text
 
 -- "refused 6 at 11"
-unfoldable pub refusalText : Refusal → List ℕ
-refusalText r =
+unfoldable pub refusal_text : Refusal → List ℕ
+refusal_text r =
     (114 ∷ 101 ∷ 102 ∷ 117 ∷ 115 ∷ 101 ∷ 100 ∷ 32 ∷ [])
     ++ decimal (code_of r).0 ++ (32 ∷ 97 ∷ 116 ∷ 32 ∷ []) ++ decimal (code_of r).1 ++ (10 ∷ [])
 
 -- the answer: 10 where the output has fewer than 64 bytes, in which every refusal's line fits
-abbrev pub lineAnswer : Refusal → List ℕ → Text
-lineAnswer r out = cond (leb 64 (length out)) (Text.Written (length (refusalText r))) (Text.Refused ShortOutput)
+abbrev pub line_answer : Refusal → List ℕ → Text
+line_answer r out = cond (leb 64 (length out)) (Text.Written (length (refusal_text r))) (Text.Refused ShortOutput)
 
 -- the output then: on a refusal "Lent buffers keep every byte"
-abbrev pub lineAfter : Refusal → List ℕ → List ℕ
-lineAfter r out = cond (leb 64 (length out)) (atFront (refusalText r) out) out
+abbrev pub line_after : Refusal → List ℕ → List ℕ
+line_after r out = cond (leb 64 (length out)) (at_front (refusal_text r) out) out

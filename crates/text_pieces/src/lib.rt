@@ -2,7 +2,7 @@
 ghost use Rattle.std.specs.Prelude.{◌≡◌, ◌+◌, ◌≤◌, ◌<◌, length};
 ghost use Rattle.text_pieces.specs.Put.{Put};
 ghost use Rattle.text_pieces.specs.Decimal.{decimal};
-ghost use Rattle.text_pieces.specs.RefusalLine.{lineAnswer, lineAfter};
+ghost use Rattle.text_pieces.specs.RefusalLine.{line_answer, line_after};
 
 use meaning::Refusal;
 use wire::wide16;
@@ -63,8 +63,8 @@ pub fn put_number(out: &mut [u8], at: usize, n: u16) -> usize
 // The refusal's line at the front of the output and its length; or 10 where the output has fewer than 64 bytes, and every byte of it as it was.
 // Bytes past the line are kept.
 pub fn refusal_text(refusal: Refusal, out: &mut [u8]) -> Text
-    ensures value { result ≡ lineAnswer refusal out.old }
-    ensures out_after { out.new ≡ lineAfter refusal out.old }
+    ensures value { result ≡ line_answer refusal out.old }
+    ensures out_after { out.new ≡ line_after refusal out.old }
 {
     if out.len() < 64 {
         return Text::Refused(Refusal::ShortOutput);

@@ -2,7 +2,7 @@
 use Rattle.std.specs.Prelude.{◌≡◌, true, false, cond, List, [], ◌∷◌, ◌++◌, ℕ, ◌+◌, ◌≤◌, length, take, drop, get_or, eqb}
 use Rattle.grammar.specs.Machine.{State, operand, operator, digit, within, dead, Move, run, seen, passed}
 use Rattle.text_scan.specs.declared.Step.{Step}
-use Rattle.grammar.specs.Reading.{isEnd}
+use Rattle.grammar.specs.Reading.{is_end}
 use Rattle.text_scan.specs.declared.Scanned.{Scanned}
 use Rattle.text_scan.specs.declared.Scanned.TheVariants.{Signs, Outside}
 
@@ -18,11 +18,11 @@ abbrev pub state_of : ℕ → ℕ → State
 state_of m d = get_or (states d) m dead
 
 -- 255 for none
-abbrev pub signIf : ℕ → List ℕ
-signIf x = cond (eqb x 255) [] (x ∷ [])
+abbrev pub sign_if : ℕ → List ℕ
+sign_if x = cond (eqb x 255) [] (x ∷ [])
 
 abbrev pub move_of : Step → Move
-move_of r = record { state = state_of r.0 r.1; sign = signIf r.2 }
+move_of r = record { state = state_of r.0 r.1; sign = sign_if r.2 }
 
 -- the move m, as the code says it, from a depth
 pub record Moves (m : Move) (d : ℕ) (r : Step) : Type 0 where
@@ -38,13 +38,13 @@ pub record Scanning (s : List ℕ) (i mode deep : ℕ) (found : List ℕ) : Type
 
 -- a text with all its signs at the front of ts
 pub record Whole (s ts : List ℕ) (n : ℕ) : Type 0 where
-  pub ends : isEnd (run (operand 0) s) ≡ true
+  pub ends : is_end (run (operand 0) s) ≡ true
   pub signs : take n ts ≡ seen (operand 0) s
   pub inside : n ≤ length s
 
 -- a text that does not fit
 pub record Fault (s : List ℕ) (p : ℕ) : Type 0 where
-  pub fails : isEnd (run (operand 0) s) ≡ false
+  pub fails : is_end (run (operand 0) s) ≡ false
   pub place : p ≡ passed (operand 0) s
 
 -- what the pass over s finds

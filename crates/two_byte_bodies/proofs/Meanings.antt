@@ -10,11 +10,11 @@ use lib.ListN.{length, get_or, length-map, get_or-map}
 use lib.Dec.{lit<}
 use Rattle.meaning.specs.Traces.{Lasso, at}
 use Rattle.meaning.specs.Bytes.{bit}
-use Rattle.meaning.specs.Formulas.{Formula, falsum, verum, signal, at_least, neg, and, or, implies, iff, xor, next, until, eventually, always, countOn, Until, Sat}
-use Rattle.meaning.specs.RuleFiles.{Rule, formulaOf, formulas, ruleFormula, propertyOf}
+use Rattle.meaning.specs.Formulas.{Formula, falsum, verum, signal, at_least, neg, and, or, implies, iff, xor, next, until, eventually, always, count_on, Until, Sat}
+use Rattle.meaning.specs.RuleFiles.{Rule, formula_of, formulas, rule_formula, property_of}
 use Rattle.meaning.specs.declared.Node.{Node}
-use Rattle.two_byte_bodies.specs.Earlier.{OldSat, oldProperty}
-use Rattle.two_byte_bodies.specs.Kept.{widened, widenedRule}
+use Rattle.two_byte_bodies.specs.Earlier.{OldSat, old_property}
+use Rattle.two_byte_bodies.specs.Kept.{widened, widened_rule}
 
 -- ---- counts
 
@@ -23,7 +23,7 @@ digits-most zero b p q = omega arith
 digits-most (suc zero) b p q = omega arith
 digits-most (suc (suc a)) b p q = absurd (omega arith)
 
-count_most : (n m e : ℕ) → countOn n m e ≤ n
+count_most : (n m e : ℕ) → count_on n m e ≤ n
 count_most zero m e = omega arith
 count_most (suc s) m e = omega (arith, count_most s m e, digits-most (bit s m) (bit s e) (mod-lt (m / 2 ^ s) (lit< tt)) (mod-lt (e / 2 ^ s) (lit< tt)))
 
@@ -98,7 +98,7 @@ upper-only x y n (suc (suc zero)) q = refl
 upper-only x y n (suc (suc (suc zero))) q = rw q
 upper-only x y n (suc (suc (suc (suc k)))) q = refl
 
-formula-wider : (fs : List Formula) (n : Node) → formulaOf (map wider fs) (widened n) ≡ wider (formulaOf fs n)
+formula-wider : (fs : List Formula) (n : Node) → formula_of (map wider fs) (widened n) ≡ wider (formula_of fs n)
 formula-wider fs n =
     upper-only (get_or (map wider fs) n.a falsum) (get_or (map wider fs) n.b falsum) n n.kind refl
     ∙ ap₂ (λ (x y : Formula). get_or (kinds x y n.a n.b 4) n.kind falsum) (get_or-map wider fs n.a falsum) (get_or-map wider fs n.b falsum)
@@ -108,14 +108,14 @@ formulas-wider : (fs : List Formula) (ns : List Node) → formulas (map wider fs
 formulas-wider fs [] = refl
 formulas-wider fs (n ∷ ns) =
     ap (λ (f : Formula). formulas (map wider fs ++ (f ∷ [])) (map widened ns)) (formula-wider fs n)
-    ∙ ap (λ (gs : List Formula). formulas gs (map widened ns)) (sym (map-append wider fs (formulaOf fs n ∷ [])))
-    ∙ formulas-wider (fs ++ (formulaOf fs n ∷ [])) ns
+    ∙ ap (λ (gs : List Formula). formulas gs (map widened ns)) (sym (map-append wider fs (formula_of fs n ∷ [])))
+    ∙ formulas-wider (fs ++ (formula_of fs n ∷ [])) ns
 
-rule-wider : (r : Rule) → ruleFormula (widenedRule r) ≡ wider (ruleFormula r)
+rule-wider : (r : Rule) → rule_formula (widened_rule r) ≡ wider (rule_formula r)
 rule-wider r =
     ap₂ (λ (fs : List Formula) (k : ℕ). get_or fs (k - 1) falsum) (formulas-wider [] r.nodes) (length-map r.nodes widened)
     ∙ get_or-map wider (formulas [] r.nodes) (length r.nodes - 1) falsum
 
-pub property-kept : (r : Rule) (ρ : Lasso) → propertyOf (widenedRule r) ρ ↔ oldProperty r ρ
-unfolding propertyOf oldProperty
-property-kept r ρ = subst (λ (f : Formula). Sat (at ρ) f 0 ↔ OldSat (at ρ) (ruleFormula r) 0) (sym (rule-wider r)) (sat-wider (at ρ) (ruleFormula r) 0)
+pub property-kept : (r : Rule) (ρ : Lasso) → property_of (widened_rule r) ρ ↔ old_property r ρ
+unfolding property_of old_property
+property-kept r ρ = subst (λ (f : Formula). Sat (at ρ) f 0 ↔ OldSat (at ρ) (rule_formula r) 0) (sym (rule-wider r)) (sat-wider (at ρ) (rule_formula r) 0)

@@ -8,8 +8,8 @@ use native.Mathlib.Omega.{arith}
 use lib.ListN.{length, take, length-map}
 use lib.Dec.{ltb, leb, eqb}
 use borrow.Author.Tests.{eqb-true, ne_eqb}
-use Rattle.meaning.specs.Bytes.{u16At}
-use Rattle.meaning.specs.RuleFiles.{bodyLength, lengthFits, temporal, temporals, first_of, frameChecks, headerOf, nodeAt, operandsFit, rangesFit, reading_of, Judgement, Accepted, Refused, mask_of, nodesFrom, bodyFrom, judge}
+use Rattle.meaning.specs.Bytes.{u16_at}
+use Rattle.meaning.specs.RuleFiles.{body_length, length_fits, temporal, temporals, first_of, frame_checks, header_of, node_at, operands_fit, ranges_fit, reading_of, Judgement, Accepted, Refused, mask_of, nodes_from, body_from, judge}
 use Rattle.meaning.specs.declared.Node.{Node}
 use Rattle.meaning.specs.declared.Refusal.{Refusal}
 use Rattle.meaning.specs.declared.Refusal.TheVariants.{WrongLength, WrongOperand, OutOfRange, EighthTemporal, TrailingBytes}
@@ -19,30 +19,30 @@ use Rattle.meaning.specs.declared.MaskReading.{MaskReading}
 use Rattle.meaning.specs.declared.MaskReading.TheVariants as MaskReading
 use Rattle.meaning.specs.declared.Reading.{Reading}
 use Rattle.meaning.specs.declared.Reading.TheVariants as Reading
-use Rattle.two_byte_bodies.specs.Earlier.{oldNodeAt, oldReading, oldNodes, oldBody, oldJudge}
-use Rattle.two_byte_bodies.specs.Kept.{widened, widenedJudgement, ThirdByte}
+use Rattle.two_byte_bodies.specs.Earlier.{old_node_at, old_reading, old_nodes, old_body, old_judge}
+use Rattle.two_byte_bodies.specs.Kept.{widened, widened_judgement, ThirdByte}
 
 abbrev kind_at : List ℕ → ℕ → ℕ
-kind_at b p = u16At b (p + 2)
+kind_at b p = u16_at b (p + 2)
 
 -- the length of the record at p was right
 abbrev WasRight : List ℕ → ℕ → Type 0
-WasRight b p = u16At b p ≡ 2 + bodyLength (kind_at b p)
+WasRight b p = u16_at b p ≡ 2 + body_length (kind_at b p)
 
 -- ---- a node of such a length
 
 -- a two-byte body means an upper count of 4
-upper_is : (b : List ℕ) (p : ℕ) → WasRight b p → (nodeAt b p).upper ≡ (widened (oldNodeAt b p)).upper
+upper_is : (b : List ℕ) (p : ℕ) → WasRight b p → (node_at b p).upper ≡ (widened (old_node_at b p)).upper
 upper_is b p h = go (eqb (kind_at b p) 3) refl
   where
-    go : (t : Bool) → eqb (kind_at b p) 3 ≡ t → (nodeAt b p).upper ≡ (widened (oldNodeAt b p)).upper
+    go : (t : Bool) → eqb (kind_at b p) 3 ≡ t → (node_at b p).upper ≡ (widened (old_node_at b p)).upper
     go true q =
-        let four : u16At b p ≡ 4 = subst (λ (k : ℕ). u16At b p ≡ 2 + bodyLength k) (eqb-true (kind_at b p) 3 q) h in
-        rw (q, ne_eqb (u16At b p) 5 (λ five. omega arith)) (omega arith)
+        let four : u16_at b p ≡ 4 = subst (λ (k : ℕ). u16_at b p ≡ 2 + body_length k) (eqb-true (kind_at b p) 3 q) h in
+        rw (q, ne_eqb (u16_at b p) 5 (λ five. omega arith)) (omega arith)
     go false q = rw q (omega arith)
 
-node-is : (b : List ℕ) (p : ℕ) → WasRight b p → nodeAt b p ≡ widened (oldNodeAt b p)
-node-is b p h = ap {B = Node} (λ (u : ℕ). let n = nodeAt b p in record { kind = n.kind; a = n.a; b = n.b; upper = u }) (upper_is b p h)
+node-is : (b : List ℕ) (p : ℕ) → WasRight b p → node_at b p ≡ widened (old_node_at b p)
+node-is b p h = ap {B = Node} (λ (u : ℕ). let n = node_at b p in record { kind = n.kind; a = n.a; b = n.b; upper = u }) (upper_is b p h)
 
 -- the upper counts, 0 as it was and 4 or 0 as it is, are in range
 upper_fits : (n : Node) → leb (widened n).upper 4 ≡ true
@@ -52,7 +52,7 @@ upper_fits n = go (eqb n.kind 3) refl
     go true q = rw q
     go false q = rw q
 
-ranges-same : (P : ℕ) (n : Node) → leb n.upper 4 ≡ true → rangesFit P (widened n) ≡ rangesFit P n
+ranges-same : (P : ℕ) (n : Node) → leb n.upper 4 ≡ true → ranges_fit P (widened n) ≡ ranges_fit P n
 ranges-same P n h = rw (upper_fits n, h)
 
 temporals-same : (ns : List Node) → temporals (map widened ns) ≡ temporals ns
@@ -64,14 +64,14 @@ abbrev rest : ℕ → ℕ → Node → Bool → Bool → List (Bool × Refusal)
 rest p seen n operands ranges = (not operands, WrongOperand p) ∷ (not ranges, OutOfRange p) ∷ (temporal n.kind && leb 7 seen, EighthTemporal p) ∷ []
 
 abbrev later : ℕ → ℕ → List Node → Node → List (Bool × Refusal)
-later P p earlier n = rest p (temporals earlier) n (operandsFit (length earlier) n) (rangesFit P n)
+later P p earlier n = rest p (temporals earlier) n (operands_fit (length earlier) n) (ranges_fit P n)
 
-later_same : (b : List ℕ) (P p : ℕ) (earlier : List Node) → WasRight b p → later P p (map widened earlier) (nodeAt b p) ≡ later P p earlier (oldNodeAt b p)
+later_same : (b : List ℕ) (P p : ℕ) (earlier : List Node) → WasRight b p → later P p (map widened earlier) (node_at b p) ≡ later P p earlier (old_node_at b p)
 later_same b P p earlier h =
-    let n = oldNodeAt b p in
+    let n = old_node_at b p in
     ap (λ (m : Node). later P p (map widened earlier) m) (node-is b p h)
-    ∙ ap₂ (λ (number seen : ℕ). rest p seen n (operandsFit number n) (rangesFit P (widened n))) (length-map earlier widened) (temporals-same earlier)
-    ∙ ap (λ (t : Bool). rest p (temporals earlier) n (operandsFit (length earlier) n) t) (ranges-same P n refl)
+    ∙ ap₂ (λ (number seen : ℕ). rest p seen n (operands_fit number n) (ranges_fit P (widened n))) (length-map earlier widened) (temporals-same earlier)
+    ∙ ap (λ (t : Bool). rest p (temporals earlier) n (operands_fit (length earlier) n) t) (ranges-same P n refl)
 
 -- ---- the nodes by their checks
 
@@ -90,30 +90,30 @@ after_first f (c ∷ cs) n = go c.0 (after_first f cs n)
 
 -- all the checks of the record at p, as the length fits
 abbrev checks : List ℕ → ℕ → ℕ → Bool → List Node → Node → List (Bool × Refusal)
-checks b P p fits earlier n = frameChecks b p (leb n.kind 13) fits ++ later P p earlier n
+checks b P p fits earlier n = frame_checks b p (leb n.kind 13) fits ++ later P p earlier n
 
 nodes-are : (k : ℕ) (b : List ℕ) (P m p : ℕ) (earlier : List Node)
-    → nodesFrom (suc k) b P m p earlier
-    ≡ first_of Refused (checks b P p (lengthFits (kind_at b p) (u16At b p)) earlier (nodeAt b p)) (nodesFrom k b P m (p + 2 + u16At b p) (earlier ++ (nodeAt b p ∷ [])))
-unfolding nodesFrom reading_of
+    → nodes_from (suc k) b P m p earlier
+    ≡ first_of Refused (checks b P p (length_fits (kind_at b p) (u16_at b p)) earlier (node_at b p)) (nodes_from k b P m (p + 2 + u16_at b p) (earlier ++ (node_at b p ∷ [])))
+unfolding nodes_from reading_of
 nodes-are k b P m p earlier =
-    after_first (λ n. nodesFrom k b P m (p + 2 + u16At b p) (earlier ++ (n ∷ []))) (checks b P p (lengthFits (kind_at b p) (u16At b p)) earlier (nodeAt b p)) (nodeAt b p)
+    after_first (λ n. nodes_from k b P m (p + 2 + u16_at b p) (earlier ++ (n ∷ []))) (checks b P p (length_fits (kind_at b p) (u16_at b p)) earlier (node_at b p)) (node_at b p)
 
 old-nodes-are : (k : ℕ) (b : List ℕ) (P m p : ℕ) (earlier : List Node)
-    → oldNodes (suc k) b P m p earlier
-    ≡ first_of Refused (checks b P p (eqb (u16At b p) (2 + bodyLength (kind_at b p))) earlier (oldNodeAt b p))
-    (oldNodes k b P m (p + 4 + bodyLength (kind_at b p)) (earlier ++ (oldNodeAt b p ∷ [])))
-unfolding oldNodes oldReading
+    → old_nodes (suc k) b P m p earlier
+    ≡ first_of Refused (checks b P p (eqb (u16_at b p) (2 + body_length (kind_at b p))) earlier (old_node_at b p))
+    (old_nodes k b P m (p + 4 + body_length (kind_at b p)) (earlier ++ (old_node_at b p ∷ [])))
+unfolding old_nodes old_reading
 old-nodes-are k b P m p earlier =
-    after_first (λ n. oldNodes k b P m (p + 4 + bodyLength n.kind) (earlier ++ (n ∷ [])))
-    (checks b P p (eqb (u16At b p) (2 + bodyLength (kind_at b p))) earlier (oldNodeAt b p)) (oldNodeAt b p)
+    after_first (λ n. old_nodes k b P m (p + 4 + body_length n.kind) (earlier ++ (n ∷ [])))
+    (checks b P p (eqb (u16_at b p) (2 + body_length (kind_at b p))) earlier (old_node_at b p)) (old_node_at b p)
 
 -- ---- the judgement
 
 module _ (b : List ℕ) where
   -- a judgement as it was; or, if what it was is that of the file, the file has a third byte
   abbrev Alike : Judgement → Judgement → Type 0
-  Alike new old = (new ≡ widenedJudgement old) ⊎ (oldJudge b ≡ old → ThirdByte b)
+  Alike new old = (new ≡ widened_judgement old) ⊎ (old_judge b ≡ old → ThirdByte b)
 
   -- after the same checks
   first_alike : (cs : List (Bool × Refusal)) (new old : Judgement) → Alike new old → Alike (first_of Refused cs new) (first_of Refused cs old)
@@ -127,61 +127,61 @@ module _ (b : List ℕ) where
 
   -- after the two checks of the length at p, where those that follow are the same if the length was right
   length-alike : (p : ℕ) (cs cs' : List (Bool × Refusal)) (new old : Judgement) → (WasRight b p → (cs ≡ cs') × Alike new old)
-      → Alike (first_of Refused ((not (lengthFits (kind_at b p) (u16At b p)), WrongLength p) ∷ cs) new)
-      (first_of Refused ((not (eqb (u16At b p) (2 + bodyLength (kind_at b p))), WrongLength p) ∷ cs') old)
-  length-alike p cs cs' new old h = go (eqb l (2 + bodyLength k)) (eqb k 3) (eqb l (2 + 3)) refl refl refl
+      → Alike (first_of Refused ((not (length_fits (kind_at b p) (u16_at b p)), WrongLength p) ∷ cs) new)
+      (first_of Refused ((not (eqb (u16_at b p) (2 + body_length (kind_at b p))), WrongLength p) ∷ cs') old)
+  length-alike p cs cs' new old h = go (eqb l (2 + body_length k)) (eqb k 3) (eqb l (2 + 3)) refl refl refl
     where
       k : ℕ
       k = kind_at b p
 
       l : ℕ
-      l = u16At b p
+      l = u16_at b p
 
-      go : (fits three five : Bool) → eqb l (2 + bodyLength k) ≡ fits → eqb k 3 ≡ three → eqb l (2 + 3) ≡ five
+      go : (fits three five : Bool) → eqb l (2 + body_length k) ≡ fits → eqb k 3 ≡ three → eqb l (2 + 3) ≡ five
           → Alike (cond (not (fits || (three && five))) (Refused (WrongLength p)) (first_of Refused cs new))
           (cond (not fits) (Refused (WrongLength p)) (first_of Refused cs' old))
       go true three five e q r =
-          let same = h (eqb-true l (2 + bodyLength k) e) in
+          let same = h (eqb-true l (2 + body_length k) e) in
           subst (λ (ds : List (Bool × Refusal)). Alike (first_of Refused cs new) (first_of Refused ds old)) same.0 (first_alike cs new old same.1)
       go false false five e q r = inl refl
       go false true false e q r = inl refl
       go false true true e q r =
           inr (λ was. record { place = p; was = was; kind = omega (arith, eqb-true k 3 q); length = omega (arith, eqb-true l (2 + 3) r) })
 
-  nodes-alike : (k P m p : ℕ) (earlier : List Node) → Alike (nodesFrom k b P m p (map widened earlier)) (oldNodes k b P m p earlier)
-  unfolding nodesFrom oldNodes
+  nodes-alike : (k P m p : ℕ) (earlier : List Node) → Alike (nodes_from k b P m p (map widened earlier)) (old_nodes k b P m p earlier)
+  unfolding nodes_from old_nodes
   nodes-alike zero P m p earlier =
       first_alike ((ltb p (length b), TrailingBytes p) ∷ [])
       (Accepted (record { signals = P; mask = m; nodes = map widened earlier })) (Accepted (record { signals = P; mask = m; nodes = earlier })) (inl refl)
   nodes-alike (suc k) P m p earlier =
-      let n = oldNodeAt b p in
-      let old = oldNodes k b P m (p + 4 + bodyLength n.kind) (earlier ++ (n ∷ [])) in
-      let new = nodesFrom k b P m (p + 2 + u16At b p) (map widened earlier ++ (nodeAt b p ∷ [])) in
+      let n = old_node_at b p in
+      let old = old_nodes k b P m (p + 4 + body_length n.kind) (earlier ++ (n ∷ [])) in
+      let new = nodes_from k b P m (p + 2 + u16_at b p) (map widened earlier ++ (node_at b p ∷ [])) in
       subst₂ Alike (sym (nodes-are k b P m p (map widened earlier))) (sym (old-nodes-are k b P m p earlier))
-      (first_alike (take 4 (frameChecks b p (leb n.kind 13) true)) _ _
+      (first_alike (take 4 (frame_checks b p (leb n.kind 13) true)) _ _
       (length-alike p _ _ new old (λ h. (
         later_same b P p earlier h,
-        subst₂ (λ (q : ℕ) (ns : List Node). Alike (nodesFrom k b P m q ns) old) (omega arith)
+        subst₂ (λ (q : ℕ) (ns : List Node). Alike (nodes_from k b P m q ns) old) (omega arith)
             (map-append widened earlier (n ∷ []) ∙ ap (λ (m : Node). map widened earlier ++ (m ∷ [])) (sym (node-is b p h)))
-            (nodes-alike k P m (p + 4 + bodyLength n.kind) (earlier ++ (n ∷ []))),
+            (nodes-alike k P m (p + 4 + body_length n.kind) (earlier ++ (n ∷ []))),
       ))))
 
-  body_alike : (k P : ℕ) → Alike (bodyFrom k b P) (oldBody k b P)
-  unfolding bodyFrom oldBody
+  body_alike : (k P : ℕ) → Alike (body_from k b P) (old_body k b P)
+  unfolding body_from old_body
   body_alike k P = go (mask_of b P)
     where
       go : (x : MaskReading)
-          → Alike (elim x as (λ _. Judgement) [ MaskReading.Mask m p ↦ nodesFrom k b P m p [] | MaskReading.Refused r ↦ Refused r ])
-          (elim x as (λ _. Judgement) [ MaskReading.Mask m p ↦ oldNodes k b P m p [] | MaskReading.Refused r ↦ Refused r ])
+          → Alike (elim x as (λ _. Judgement) [ MaskReading.Mask m p ↦ nodes_from k b P m p [] | MaskReading.Refused r ↦ Refused r ])
+          (elim x as (λ _. Judgement) [ MaskReading.Mask m p ↦ old_nodes k b P m p [] | MaskReading.Refused r ↦ Refused r ])
       go (MaskReading.Mask m p) = nodes-alike k P m p []
       go (MaskReading.Refused r) = inl refl
 
-pub readings : (file : List ℕ) → (judge file ≡ widenedJudgement (oldJudge file)) ⊎ ThirdByte file
-unfolding judge oldJudge
-readings file = elim (go (headerOf file)) [ inl q ↦ inl q | inr third ↦ inr (third refl) ]
+pub readings : (file : List ℕ) → (judge file ≡ widened_judgement (old_judge file)) ⊎ ThirdByte file
+unfolding judge old_judge
+readings file = elim (go (header_of file)) [ inl q ↦ inl q | inr third ↦ inr (third refl) ]
   where
     go : (x : HeaderReading)
-        → Alike file (elim x as (λ _. Judgement) [ HeaderReading.Header h ↦ bodyFrom h.nodes file h.signals | HeaderReading.Refused r ↦ Refused r ])
-        (elim x as (λ _. Judgement) [ HeaderReading.Header h ↦ oldBody h.nodes file h.signals | HeaderReading.Refused r ↦ Refused r ])
+        → Alike file (elim x as (λ _. Judgement) [ HeaderReading.Header h ↦ body_from h.nodes file h.signals | HeaderReading.Refused r ↦ Refused r ])
+        (elim x as (λ _. Judgement) [ HeaderReading.Header h ↦ old_body h.nodes file h.signals | HeaderReading.Refused r ↦ Refused r ])
     go (HeaderReading.Header h) = body_alike file h.nodes h.signals
     go (HeaderReading.Refused r) = inl refl

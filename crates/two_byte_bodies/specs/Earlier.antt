@@ -1,11 +1,11 @@
 -- Rule files without C-12, by document 01: what they meant, and how they were read. A node of that time is one whose upper count is 0, which the
 -- check of ranges always lets pass and nothing else looks at. What C-12 leaves alone, the mask of a later request too, is taken from meaning.
 use Rattle.std.specs.Prelude.{List, [], ◌∷◌, ◌++◌, cond, not, ◌&&◌, ◌⊎◌, ◌↔◌, ◌≡◌, ℕ, zero, suc, ◌+◌, ◌≤◌, length, get_or, ltb, leb, eqb}
-use Rattle.meaning.specs.Bytes.{bit, u16At}
+use Rattle.meaning.specs.Bytes.{bit, u16_at}
 use Rattle.meaning.specs.Traces.{at}
-use Rattle.meaning.specs.Formulas.{Formula, falsum, verum, signal, at_least, neg, and, or, implies, iff, xor, next, until, eventually, always, countOn, Until, Eventually}
+use Rattle.meaning.specs.Formulas.{Formula, falsum, verum, signal, at_least, neg, and, or, implies, iff, xor, next, until, eventually, always, count_on, Until, Eventually}
 use Rattle.meaning.specs.Verdicts.{Property}
-use Rattle.meaning.specs.RuleFiles.{Rule, ruleFormula, bodyLength, temporal, temporals, operandsFit, rangesFit, first_of, frameChecks, headerOf, mask_of, Judgement, Accepted, Refused}
+use Rattle.meaning.specs.RuleFiles.{Rule, rule_formula, body_length, temporal, temporals, operands_fit, ranges_fit, first_of, frame_checks, header_of, mask_of, Judgement, Accepted, Refused}
 use Rattle.meaning.specs.RuleTexts.{node}
 use Rattle.meaning.specs.declared.Node.{Node}
 use Rattle.meaning.specs.declared.Refusal.TheVariants.{WrongOperand, OutOfRange, EighthTemporal, TrailingBytes}
@@ -21,7 +21,7 @@ abbrev pub OldSat : (ℕ → ℕ) → Formula → ℕ → Type 0
 OldSat w falsum i = ⊥
 OldSat w verum i = Unit {0}
 OldSat w (signal s) i = bit s (w i) ≡ 1
-OldSat w (at_least m k unused) i = k ≤ countOn 4 m (w i)
+OldSat w (at_least m k unused) i = k ≤ count_on 4 m (w i)
 OldSat w (neg a) i = ¬ OldSat w a i
 OldSat w (and a b) i = OldSat w a i × OldSat w b i
 OldSat w (or a b) i = OldSat w a i ⊎ OldSat w b i
@@ -33,47 +33,47 @@ OldSat w (until a b) i = Until (λ k. OldSat w a k) (λ k. OldSat w b k) i
 OldSat w (eventually a) i = Eventually (λ k. OldSat w a k) i
 OldSat w (always a) i = ¬ Eventually (λ k. ¬ OldSat w a k) i
 
-unfoldable pub oldProperty : Rule → Property
-oldProperty r ρ = OldSat (at ρ) (ruleFormula r) 0
+unfoldable pub old_property : Rule → Property
+old_property r ρ = OldSat (at ρ) (rule_formula r) 0
 
 -- ---- judgement
 
 -- the node whose record is at p: its kind, and the bytes of its body
-abbrev pub oldNodeAt : List ℕ → ℕ → Node
-oldNodeAt b p =
-    let k = u16At b (p + 2) in
-    node k (cond (leb 1 (bodyLength k)) (get_or b (p + 4) 0) 0) (cond (leb 2 (bodyLength k)) (get_or b (p + 5) 0) 0)
+abbrev pub old_node_at : List ℕ → ℕ → Node
+old_node_at b p =
+    let k = u16_at b (p + 2) in
+    node k (cond (leb 1 (body_length k)) (get_or b (p + 4) 0) 0) (cond (leb 2 (body_length k)) (get_or b (p + 5) 0) 0)
 
 -- the record at p: each kind had one length
-unfoldable pub oldReading : List ℕ → ℕ → ℕ → ℕ → ℕ → Reading
-oldReading b P p number seen =
-    let n = oldNodeAt b p in
+unfoldable pub old_reading : List ℕ → ℕ → ℕ → ℕ → ℕ → Reading
+old_reading b P p number seen =
+    let n = old_node_at b p in
     first_of Reading.Refused
-    (frameChecks b p (leb n.kind 13) (eqb (u16At b p) (2 + bodyLength n.kind))
-    ++ ((not (operandsFit number n), WrongOperand p)
-    ∷ (not (rangesFit P n), OutOfRange p)
+    (frame_checks b p (leb n.kind 13) (eqb (u16_at b p) (2 + body_length n.kind))
+    ++ ((not (operands_fit number n), WrongOperand p)
+    ∷ (not (ranges_fit P n), OutOfRange p)
     ∷ (temporal n.kind && leb 7 seen, EighthTemporal p)
     ∷ []))
     (Reading.Node n)
 
-unfoldable pub oldNodes : ℕ → List ℕ → ℕ → ℕ → ℕ → List Node → Judgement
-oldNodes zero b P m p earlier = cond (ltb p (length b)) (Refused (TrailingBytes p)) (Accepted (record { signals = P; mask = m; nodes = earlier }))
-oldNodes (suc k) b P m p earlier =
-    elim (oldReading b P p (length earlier) (temporals earlier)) [
-      | Reading.Node n ↦ oldNodes k b P m (p + 4 + bodyLength n.kind) (earlier ++ (n ∷ []))
+unfoldable pub old_nodes : ℕ → List ℕ → ℕ → ℕ → ℕ → List Node → Judgement
+old_nodes zero b P m p earlier = cond (ltb p (length b)) (Refused (TrailingBytes p)) (Accepted (record { signals = P; mask = m; nodes = earlier }))
+old_nodes (suc k) b P m p earlier =
+    elim (old_reading b P p (length earlier) (temporals earlier)) [
+      | Reading.Node n ↦ old_nodes k b P m (p + 4 + body_length n.kind) (earlier ++ (n ∷ []))
       | Reading.Refused r ↦ Refused r
     ]
 
-unfoldable pub oldBody : ℕ → List ℕ → ℕ → Judgement
-oldBody k b P =
+unfoldable pub old_body : ℕ → List ℕ → ℕ → Judgement
+old_body k b P =
     elim (mask_of b P) [
-      | MaskReading.Mask m p ↦ oldNodes k b P m p []
+      | MaskReading.Mask m p ↦ old_nodes k b P m p []
       | MaskReading.Refused r ↦ Refused r
     ]
 
-unfoldable pub oldJudge : List ℕ → Judgement
-oldJudge b =
-    elim (headerOf b) [
-      | HeaderReading.Header h ↦ oldBody h.nodes b h.signals
+unfoldable pub old_judge : List ℕ → Judgement
+old_judge b =
+    elim (header_of b) [
+      | HeaderReading.Header h ↦ old_body h.nodes b h.signals
       | HeaderReading.Refused r ↦ Refused r
     ]

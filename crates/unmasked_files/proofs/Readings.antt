@@ -8,9 +8,9 @@ use native.Mathlib.Omega.{arith}
 use lib.ListN.{length}
 use lib.Dec.{ltb, leb, eqb}
 use borrow.Author.Tests.{eqb-true}
-use Rattle.meaning.specs.Bytes.{u16At}
-use Rattle.meaning.specs.Traces.{fullMask}
-use Rattle.meaning.specs.RuleFiles.{lengthFits, operandsFit, rangesFit, temporal, nodeAt, first_of, headerOf, mask_of, reading_of, nodesFrom, bodyFrom, Judgement, Refused, judge}
+use Rattle.meaning.specs.Bytes.{u16_at}
+use Rattle.meaning.specs.Traces.{full_mask}
+use Rattle.meaning.specs.RuleFiles.{length_fits, operands_fit, ranges_fit, temporal, node_at, first_of, header_of, mask_of, reading_of, nodes_from, body_from, Judgement, Refused, judge}
 use Rattle.meaning.specs.declared.Node.{Node}
 use Rattle.meaning.specs.declared.Refusal.{Refusal}
 use Rattle.meaning.specs.declared.Refusal.TheVariants.{Truncated, WrongLength, WrongKind, WrongOperand, OutOfRange, EighthTemporal, NoEvent}
@@ -21,15 +21,15 @@ use Rattle.meaning.specs.declared.MaskReading.TheVariants as MaskReading
 use Rattle.meaning.specs.declared.Reading.{Reading}
 use Rattle.meaning.specs.declared.Reading.TheVariants as Reading
 use Rattle.smallest.proofs.Accepted.{header-counts}
-use Rattle.unmasked_files.specs.Earlier.{oldJudge}
+use Rattle.unmasked_files.specs.Earlier.{old_judge}
 use Rattle.unmasked_files.specs.Kept.{MaskSecond}
 
 -- a refusal, or what follows what was read
-abbrev afterNode : (Node → Judgement) → Reading → Judgement
-afterNode f x = elim x as (λ _. Judgement) [ Reading.Node n ↦ f n | Reading.Refused r ↦ Refused r ]
+abbrev after_node : (Node → Judgement) → Reading → Judgement
+after_node f x = elim x as (λ _. Judgement) [ Reading.Node n ↦ f n | Reading.Refused r ↦ Refused r ]
 
-abbrev afterMask : (ℕ → ℕ → Judgement) → MaskReading → Judgement
-afterMask f x = elim x as (λ _. Judgement) [ MaskReading.Mask m p ↦ f m p | MaskReading.Refused r ↦ Refused r ]
+abbrev after_mask : (ℕ → ℕ → Judgement) → MaskReading → Judgement
+after_mask f x = elim x as (λ _. Judgement) [ MaskReading.Mask m p ↦ f m p | MaskReading.Refused r ↦ Refused r ]
 
 -- the first three checks of a record
 abbrev three : Bool → Bool → Bool → List (Bool × Refusal)
@@ -37,8 +37,8 @@ three c₁ c₂ c₃ = (c₁, Truncated 6) ∷ (c₂, WrongLength 6) ∷ (c₃, 
 
 -- they are the same for a mask and for a node, whose kind is wrong where it is a mask's
 frames : (c₁ c₂ c₃ : Bool) (f : Node → Judgement) (g : ℕ → ℕ → Judgement) (y : MaskReading)
-    → (afterMask g (first_of MaskReading.Refused (three c₁ c₂ c₃) y) ≡ afterNode f (first_of Reading.Refused (three c₁ c₂ c₃) (Reading.Refused (WrongKind 6))))
-    ⊎ (afterNode f (first_of Reading.Refused (three c₁ c₂ c₃) (Reading.Refused (WrongKind 6))) ≡ Refused (WrongKind 6))
+    → (after_mask g (first_of MaskReading.Refused (three c₁ c₂ c₃) y) ≡ after_node f (first_of Reading.Refused (three c₁ c₂ c₃) (Reading.Refused (WrongKind 6))))
+    ⊎ (after_node f (first_of Reading.Refused (three c₁ c₂ c₃) (Reading.Refused (WrongKind 6))) ≡ Refused (WrongKind 6))
 frames true c₂ c₃ f g y = inl refl
 frames false true c₃ f g y = inl refl
 frames false false true f g y = inl refl
@@ -47,72 +47,72 @@ frames false false false f g y = inr refl
 module _ (b : List ℕ) (k P : ℕ) where
   -- the judgement as it was, of at least one node
   abbrev old : Judgement
-  old = nodesFrom (suc k) b P (fullMask P) 6 []
+  old = nodes_from (suc k) b P (full_mask P) 6 []
 
   -- what follows the three checks of a mask
   abbrev rest : MaskReading
   rest =
       first_of MaskReading.Refused
-      ((not (eqb (u16At b 6) (2 + 2)), WrongLength 6)
-      ∷ (leb (2 ^ 2 ^ P) (u16At b 10), OutOfRange 6)
-      ∷ (eqb (u16At b 10) 0, NoEvent 6)
+      ((not (eqb (u16_at b 6) (2 + 2)), WrongLength 6)
+      ∷ (leb (2 ^ 2 ^ P) (u16_at b 10), OutOfRange 6)
+      ∷ (eqb (u16_at b 10) 0, NoEvent 6)
       ∷ [])
-      (MaskReading.Mask (u16At b 10) 12)
+      (MaskReading.Mask (u16_at b 10) 12)
 
   abbrev c₁ : Bool
   c₁ = ltb (length b - 6) 2
 
   abbrev c₂ : Bool
-  c₂ = ltb (u16At b 6) 2
+  c₂ = ltb (u16_at b 6) 2
 
   abbrev c₃ : Bool
-  c₃ = ltb (length b - 6) (2 + u16At b 6)
+  c₃ = ltb (length b - 6) (2 + u16_at b 6)
 
   abbrev f : Node → Judgement
-  f n = nodesFrom k b P (fullMask P) (6 + 2 + u16At b 6) (n ∷ [])
+  f n = nodes_from k b P (full_mask P) (6 + 2 + u16_at b 6) (n ∷ [])
 
   abbrev g : ℕ → ℕ → Judgement
-  g m p = nodesFrom (suc k) b P m p []
+  g m p = nodes_from (suc k) b P m p []
 
-  new_is : (t : Bool) → eqb (u16At b 8) 257 ≡ t → bodyFrom (suc k) b P ≡ afterMask g (cond t (first_of MaskReading.Refused (three c₁ c₂ c₃) rest) (MaskReading.Mask (fullMask P) 6))
-  unfolding bodyFrom mask_of
-  new_is t q = ap (λ (t : Bool). afterMask g (cond t (first_of MaskReading.Refused (three c₁ c₂ c₃) rest) (MaskReading.Mask (fullMask P) 6))) q
+  new_is : (t : Bool) → eqb (u16_at b 8) 257 ≡ t → body_from (suc k) b P ≡ after_mask g (cond t (first_of MaskReading.Refused (three c₁ c₂ c₃) rest) (MaskReading.Mask (full_mask P) 6))
+  unfolding body_from mask_of
+  new_is t q = ap (λ (t : Bool). after_mask g (cond t (first_of MaskReading.Refused (three c₁ c₂ c₃) rest) (MaskReading.Mask (full_mask P) 6))) q
 
-  old-is : u16At b 8 ≡ 257 → old ≡ afterNode f (first_of Reading.Refused (three c₁ c₂ c₃) (Reading.Refused (WrongKind 6)))
-  unfolding nodesFrom reading_of
-  old-is q = ap (λ (k : ℕ). afterNode f (first_of Reading.Refused (three c₁ c₂ c₃) (cond (not (leb k 13)) (Reading.Refused (WrongKind 6)) later))) q
+  old-is : u16_at b 8 ≡ 257 → old ≡ after_node f (first_of Reading.Refused (three c₁ c₂ c₃) (Reading.Refused (WrongKind 6)))
+  unfolding nodes_from reading_of
+  old-is q = ap (λ (k : ℕ). after_node f (first_of Reading.Refused (three c₁ c₂ c₃) (cond (not (leb k 13)) (Reading.Refused (WrongKind 6)) later))) q
     where
       later : Reading
       later =
           first_of Reading.Refused
-          ((not (lengthFits (u16At b 8) (u16At b 6)), WrongLength 6)
-          ∷ (not (operandsFit 0 (nodeAt b 6)), WrongOperand 6)
-          ∷ (not (rangesFit P (nodeAt b 6)), OutOfRange 6)
-          ∷ (temporal (u16At b 8) && leb 7 0, EighthTemporal 6)
+          ((not (length_fits (u16_at b 8) (u16_at b 6)), WrongLength 6)
+          ∷ (not (operands_fit 0 (node_at b 6)), WrongOperand 6)
+          ∷ (not (ranges_fit P (node_at b 6)), OutOfRange 6)
+          ∷ (temporal (u16_at b 8) && leb 7 0, EighthTemporal 6)
           ∷ [])
-          (Reading.Node (nodeAt b 6))
+          (Reading.Node (node_at b 6))
 
-  second : (bodyFrom (suc k) b P ≡ old) ⊎ ((old ≡ Refused (WrongKind 6)) × (u16At b 8 ≡ 257))
-  second = go (eqb (u16At b 8) 257) refl
+  second : (body_from (suc k) b P ≡ old) ⊎ ((old ≡ Refused (WrongKind 6)) × (u16_at b 8 ≡ 257))
+  second = go (eqb (u16_at b 8) 257) refl
     where
-      go : (t : Bool) → eqb (u16At b 8) 257 ≡ t → (bodyFrom (suc k) b P ≡ old) ⊎ ((old ≡ Refused (WrongKind 6)) × (u16At b 8 ≡ 257))
+      go : (t : Bool) → eqb (u16_at b 8) 257 ≡ t → (body_from (suc k) b P ≡ old) ⊎ ((old ≡ Refused (WrongKind 6)) × (u16_at b 8 ≡ 257))
       go false q = inl (new_is false q)
       go true q =
-          let kind : u16At b 8 ≡ 257 = eqb-true (u16At b 8) 257 q in
+          let kind : u16_at b 8 ≡ 257 = eqb-true (u16_at b 8) 257 q in
           elim (frames c₁ c₂ c₃ f g rest) [ inl e ↦ inl (new_is true q ∙ e ∙ sym (old-is kind)) | inr e ↦ inr (old-is kind ∙ e, kind) ]
 
 -- the judgement by the first record, as it is and as it was
 abbrev new : List ℕ → HeaderReading → Judgement
-new file x = elim x as (λ _. Judgement) [ HeaderReading.Header h ↦ bodyFrom h.nodes file h.signals | HeaderReading.Refused r ↦ Refused r ]
+new file x = elim x as (λ _. Judgement) [ HeaderReading.Header h ↦ body_from h.nodes file h.signals | HeaderReading.Refused r ↦ Refused r ]
 
 abbrev was : List ℕ → HeaderReading → Judgement
-was file x = elim x as (λ _. Judgement) [ HeaderReading.Header h ↦ nodesFrom h.nodes file h.signals (fullMask h.signals) 6 [] | HeaderReading.Refused r ↦ Refused r ]
+was file x = elim x as (λ _. Judgement) [ HeaderReading.Header h ↦ nodes_from h.nodes file h.signals (full_mask h.signals) 6 [] | HeaderReading.Refused r ↦ Refused r ]
 
-pub readings : (file : List ℕ) → (judge file ≡ oldJudge file) ⊎ MaskSecond file
-unfolding judge oldJudge
-readings file = go (headerOf file) refl
+pub readings : (file : List ℕ) → (judge file ≡ old_judge file) ⊎ MaskSecond file
+unfolding judge old_judge
+readings file = go (header_of file) refl
   where
-    body : (P n : ℕ) → 1 ≤ n → headerOf file ≡ HeaderReading.Header (record { signals = P; nodes = n }) → (new file (headerOf file) ≡ was file (headerOf file)) ⊎ MaskSecond file
+    body : (P n : ℕ) → 1 ≤ n → header_of file ≡ HeaderReading.Header (record { signals = P; nodes = n }) → (new file (header_of file) ≡ was file (header_of file)) ⊎ MaskSecond file
     body P zero l q = absurd (omega arith)
     body P (suc k) l q =
         elim (second file k P) [
@@ -120,6 +120,6 @@ readings file = go (headerOf file) refl
           | inr e ↦ inr (record { was = ap (was file) q ∙ e.0; kind = e.1 })
         ]
 
-    go : (x : HeaderReading) → headerOf file ≡ x → (new file (headerOf file) ≡ was file (headerOf file)) ⊎ MaskSecond file
+    go : (x : HeaderReading) → header_of file ≡ x → (new file (header_of file) ≡ was file (header_of file)) ⊎ MaskSecond file
     go (HeaderReading.Header h) q = body h.signals h.nodes (header-counts file h q).some q
     go (HeaderReading.Refused r) q = inl (ap (new file) q ∙ sym (ap (was file) q))

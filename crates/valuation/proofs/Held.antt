@@ -12,7 +12,7 @@ use Rattle.meaning.specs.declared.Node.{Node}
 use Rattle.ltl.specs.Sets.{on, put}
 use Rattle.ltl.specs.Nodes.{Split, plain, temporal, split}
 use Rattle.ltl.specs.Valuation as ltl
-use Rattle.ltl.specs.Valuation.{plainValue, temporalValue, labelBit, fairBit, value, none}
+use Rattle.ltl.specs.Valuation.{plain_value, temporal_value, label_bit, fair_bit, value, none}
 use Rattle.ltl.proofs.Sets.{on-zero, put-lt, put-here, put_other}
 use Rattle.node_words.specs.declared.Words.{Words}
 use Rattle.node_words.specs.Bits.{Bits, bits_of}
@@ -53,16 +53,16 @@ pub held_none : (values label fairs : List ℕ) → zeros values ≡ true → ze
 held_none values label fairs p q r = record {
   state = λ l. record { count = refl; temporals = refl; values = omega arith; label = omega arith; fairs = omega arith };
   of_values = planes-none values p;
-  of-label = planes-none label q;
-  of-fairs = planes-none fairs r;
+  of_label = planes-none label q;
+  of_fairs = planes-none fairs r;
 }
 
 pub held_same : {i m : ℕ} {s t : ℕ → ltl.Valued} {values label fairs : List ℕ} → ((l : ℕ) → s l ≡ t l) → Held i m s values label fairs → Held i m t values label fairs
 held_same {i} {m} q h = record {
   state = λ l. subst (State i m) (q l) (h.state l);
   of_values = planes-same (λ l. ap (λ (v : ltl.Valued). v.values) (q l)) h.of_values;
-  of-label = planes-same (λ l. ap (λ (v : ltl.Valued). v.label) (q l)) h.of-label;
-  of-fairs = planes-same (λ l. ap (λ (v : ltl.Valued). v.fairs) (q l)) h.of-fairs;
+  of_label = planes-same (λ l. ap (λ (v : ltl.Valued). v.label) (q l)) h.of_label;
+  of_fairs = planes-same (λ l. ap (λ (v : ltl.Valued). v.fairs) (q l)) h.of_fairs;
 }
 
 put-size : (c k : ℕ) (b : Bool) (A : ℕ) → c ≡ k → A < 2 ^ k → put c b A < 2 ^ (k + 1)
@@ -84,16 +84,16 @@ module _ (e : ℕ) (high : Bool) (i m x : ℕ) (w : Words) (bits : LabelBits hig
     state = λ l. record {
       count = omega (arith, (h.state l).count);
       temporals = omega (arith, (h.state l).temporals);
-      values = put-size (s l).count i (temporalValue (s l).values (on (label_of high l) (s l).temporals) n) (s l).values (h.state l).count (h.state l).values;
-      label = put-size (s l).temporals m (labelBit (s l).values (on (label_of high l) (s l).temporals) n) (s l).label (h.state l).temporals (h.state l).label;
-      fairs = put-size (s l).temporals m (fairBit (s l).values (on (label_of high l) (s l).temporals) n) (s l).fairs (h.state l).temporals (h.state l).fairs;
+      values = put-size (s l).count i (temporal_value (s l).values (on (label_of high l) (s l).temporals) n) (s l).values (h.state l).count (h.state l).values;
+      label = put-size (s l).temporals m (label_bit (s l).values (on (label_of high l) (s l).temporals) n) (s l).label (h.state l).temporals (h.state l).label;
+      fairs = put-size (s l).temporals m (fair_bit (s l).values (on (label_of high l) (s l).temporals) n) (s l).fairs (h.state l).temporals (h.state l).fairs;
     };
-    of_values = planes-put i w.value (λ l. (s l).count) (λ l. (h.state l).count) (λ l. temporalValue (s l).values (on (label_of high l) (s l).temporals) n) values a (λ l. (h.state l).values)
-        (λ l k. ap (λ (z : Bits). z.value) (said l k) ∙ ap (λ (y : Bool). temporalValue (s l).values y n) (next_bit l k)) h.of_values;
-    of-label = planes-put m w.label (λ l. (s l).temporals) (λ l. (h.state l).temporals) (λ l. labelBit (s l).values (on (label_of high l) (s l).temporals) n) label b (λ l. (h.state l).label)
-        (λ l k. ap (λ (z : Bits). z.label) (said l k) ∙ ap (λ (y : Bool). labelBit (s l).values y n) (next_bit l k)) h.of-label;
-    of-fairs = planes-put m w.fair (λ l. (s l).temporals) (λ l. (h.state l).temporals) (λ l. fairBit (s l).values (on (label_of high l) (s l).temporals) n) fairs c (λ l. (h.state l).fairs)
-        (λ l k. ap (λ (z : Bits). z.fair) (said l k) ∙ ap (λ (y : Bool). fairBit (s l).values y n) (next_bit l k)) h.of-fairs;
+    of_values = planes-put i w.value (λ l. (s l).count) (λ l. (h.state l).count) (λ l. temporal_value (s l).values (on (label_of high l) (s l).temporals) n) values a (λ l. (h.state l).values)
+        (λ l k. ap (λ (z : Bits). z.value) (said l k) ∙ ap (λ (y : Bool). temporal_value (s l).values y n) (next_bit l k)) h.of_values;
+    of_label = planes-put m w.label (λ l. (s l).temporals) (λ l. (h.state l).temporals) (λ l. label_bit (s l).values (on (label_of high l) (s l).temporals) n) label b (λ l. (h.state l).label)
+        (λ l k. ap (λ (z : Bits). z.label) (said l k) ∙ ap (λ (y : Bool). label_bit (s l).values y n) (next_bit l k)) h.of_label;
+    of_fairs = planes-put m w.fair (λ l. (s l).temporals) (λ l. (h.state l).temporals) (λ l. fair_bit (s l).values (on (label_of high l) (s l).temporals) n) fairs c (λ l. (h.state l).fairs)
+        (λ l k. ap (λ (z : Bits). z.fair) (said l k) ∙ ap (λ (y : Bool). fair_bit (s l).values y n) (next_bit l k)) h.of_fairs;
   }
 
   held_plain : (n : Split) → Said n → w.temporal ≡ false → i < length values
@@ -103,14 +103,14 @@ module _ (e : ℕ) (high : Bool) (i m x : ℕ) (w : Words) (bits : LabelBits hig
     state = λ l. record {
       count = omega (arith, (h.state l).count);
       temporals = (h.state l).temporals;
-      values = put-size (s l).count i (plainValue (s l).values e p) (s l).values (h.state l).count (h.state l).values;
+      values = put-size (s l).count i (plain_value (s l).values e p) (s l).values (h.state l).count (h.state l).values;
       label = (h.state l).label;
       fairs = (h.state l).fairs;
     };
-    of_values = planes-put i w.value (λ l. (s l).count) (λ l. (h.state l).count) (λ l. plainValue (s l).values e p) values a (λ l. (h.state l).values)
+    of_values = planes-put i w.value (λ l. (s l).count) (λ l. (h.state l).count) (λ l. plain_value (s l).values e p) values a (λ l. (h.state l).values)
         (λ l k. ap (λ (z : Bits). z.value) (said l k)) h.of_values;
-    of-label = h.of-label;
-    of-fairs = h.of-fairs;
+    of_label = h.of_label;
+    of_fairs = h.of_fairs;
   }
 
 module _ (e : ℕ) (high : Bool) (i m : ℕ) (n : Node) (values label fairs : List ℕ) (a b x : ℕ) (w : Words) (p : a ≡ get_or values n.a 0) (q : b ≡ get_or values n.b 0)

@@ -13,11 +13,11 @@ use Rattle.meaning.specs.declared.Node.{Node}
 use Rattle.ltl.specs.Sets.{on}
 use Rattle.ltl.specs.Nodes.{Split, plain, temporal, split, splits, temporals}
 use Rattle.ltl.specs.Valuation as ltl
-use Rattle.ltl.specs.Valuation.{value, valueAll, valued, none}
+use Rattle.ltl.specs.Valuation.{value, value_all, valued, none}
 use Rattle.ltl.proofs.Sets.{same_set}
 use Rattle.ltl.proofs.Valuation.{sized-none, sized-all}
 use Rattle.ltl.proofs.Labels.{valued-temporals}
-use Rattle.valuation.specs.Valued.{Valuable, profileAt, fairsAt}
+use Rattle.valuation.specs.Valued.{Valuable, profile_at, fairs_at}
 use Rattle.node_words.specs.Words.{label_of}
 use Rattle.valuation.specs.Columns.{Planes, Held, Byte}
 use Rattle.valuation.proofs.Numbers.{profile-fits}
@@ -25,7 +25,7 @@ use Rattle.valuation.specs.Entries.{Entries}
 use Rattle.valuation.proofs.Entries.{entries-more, entries-to}
 use Rattle.valuation.proofs.Held.{planes-put, held_same}
 
-value-snoc : (e y : ℕ) (s : ltl.Valued) (ns : List Split) (n : Split) → valueAll e y s (ns ++ (n ∷ [])) ≡ value e y (valueAll e y s ns) n
+value-snoc : (e y : ℕ) (s : ltl.Valued) (ns : List Split) (n : Split) → value_all e y s (ns ++ (n ∷ [])) ≡ value e y (value_all e y s ns) n
 value-snoc e y s [] n = refl
 value-snoc e y s (m ∷ ns) n = value-snoc e y (value e y s m) ns n
 
@@ -83,10 +83,10 @@ module _ (e : ℕ) (high : Bool) (nodes : List Node) (count : ℕ) where
   s l = valued e (label_of high l) (splits (take count nodes))
 
   pub prefix-profiles : (m : ℕ) {values label fairs : List ℕ} → Prefix e high nodes count m values label fairs → m < length label
-      → Planes (λ l. profileAt count nodes e (label_of high l)) (set label m (get_or values (count - 1) 0))
+      → Planes (λ l. profile_at count nodes e (label_of high l)) (set label m (get_or values (count - 1) 0))
   prefix-profiles m {values} {label} h r =
       planes-put m (get_or values (count - 1) 0) (λ l. (s l).temporals) (λ l. (h.state l).temporals) (λ l. on (s l).values ((s l).count - 1)) label r (λ l. (h.state l).label)
-      (λ l q. h.of_values.plane l (count - 1) q ∙ ap (λ (k : ℕ). on (s l).values (k - 1)) (sym (h.state l).count)) h.of-label
+      (λ l q. h.of_values.plane l (count - 1) q ∙ ap (λ (k : ℕ). on (s l).values (k - 1)) (sym (h.state l).count)) h.of_label
 
 -- ---- bytes
 
@@ -94,10 +94,10 @@ module _ {count : ℕ} {nodes : List Node} (v : Valuable count nodes) (e y : ℕ
   few : (valued e y (splits (take count nodes))).temporals ≤ 7
   few = omega (arith, valued-temporals e y (splits (take count nodes)), v.temporal)
 
-  pub profile-size : profileAt count nodes e y < 256
+  pub profile-size : profile_at count nodes e y < 256
   profile-size = profile-fits (valued e y (splits (take count nodes))).temporals (on (valued e y (splits (take count nodes))).values ((valued e y (splits (take count nodes))).count - 1)) (valued e y (splits (take count nodes))).label few (sized-all e y sized-none (splits (take count nodes))).label-lt
 
-  pub fairs-size : fairsAt count nodes e y < 256
+  pub fairs-size : fairs_at count nodes e y < 256
   fairs-size = omega (arith, (sized-all e y sized-none (splits (take count nodes))).fairs-lt, few, pow_mono {i = (valued e y (splits (take count nodes))).temporals} {j = 7} few)
 
 label_at : (high : Bool) (from y : ℕ) → from ≡ label_of high 0 → from ≤ y → label_of high (y - from) ≡ y

@@ -22,8 +22,8 @@ pub record State (i m : ℕ) (s : ltl.Valued) : Type 0 where
 pub record Held (i m : ℕ) (s : ℕ → ltl.Valued) (values label fairs : List ℕ) : Type 0 where
   pub state : (l : ℕ) → State i m (s l)
   pub of_values : Planes (λ l. (s l).values) values
-  pub of-label : Planes (λ l. (s l).label) label
-  pub of-fairs : Planes (λ l. (s l).fairs) fairs
+  pub of_label : Planes (λ l. (s l).label) label
+  pub of_fairs : Planes (λ l. (s l).fairs) fairs
 
 -- where the arrays hold valuations before, they hold those of one node more after
 pub record Advanced (e : ℕ) (high : Bool) (i m : ℕ) (n : Node) (k : ℕ) (values label fairs values' label' fairs' : List ℕ) : Type 0 where

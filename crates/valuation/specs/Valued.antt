@@ -11,8 +11,8 @@ pub record Valuable (count : ℕ) (nodes : List Node) : Type 0 where
   pub temporal : temporals (splits (take count nodes)) ≤ 7
 
 -- what the nodes give by event and next label
-abbrev pub profileAt : ℕ → List Node → ℕ → ℕ → ℕ
-profileAt count nodes e y = ltl.profileOf (ltl.valued e y (splits (take count nodes)))
+abbrev pub profile_at : ℕ → List Node → ℕ → ℕ → ℕ
+profile_at count nodes e y = ltl.profile_of (ltl.valued e y (splits (take count nodes)))
 
-abbrev pub fairsAt : ℕ → List Node → ℕ → ℕ → ℕ
-fairsAt count nodes e y = (ltl.valued e y (splits (take count nodes))).fairs
+abbrev pub fairs_at : ℕ → List Node → ℕ → ℕ → ℕ
+fairs_at count nodes e y = (ltl.valued e y (splits (take count nodes))).fairs

@@ -5,7 +5,7 @@ ghost use Rattle.ltl.specs.Sets.{put};
 ghost use Rattle.ltl.specs.Nodes.{split, splits, temporals};
 ghost use Rattle.node_words.specs.Words.{label_of};
 ghost use Rattle.valuation.specs.Columns.{Advanced, Planes, Byte};
-ghost use Rattle.valuation.specs.Valued.{Valuable, profileAt, fairsAt};
+ghost use Rattle.valuation.specs.Valued.{Valuable, profile_at, fairs_at};
 ghost use Rattle.valuation.specs.Entries.{Entries, Table};
 
 use meaning::Node;
@@ -72,8 +72,8 @@ fn value_node(
 fn value_nodes(event: u8, high: bool, count: usize, nodes: [Node; 64]) -> Columns
     requires { Valuable count nodes }
     ensures temporals_value { result.temporals ≡ temporals (splits (take count nodes)) }
-    ensures planes { Planes (λ l. profileAt count nodes event (label_of high l)) result.profiles }
-    ensures planes_2 { Planes (λ l. fairsAt count nodes event (label_of high l)) result.fairs }
+    ensures planes { Planes (λ l. profile_at count nodes event (label_of high l)) result.profiles }
+    ensures planes_2 { Planes (λ l. fairs_at count nodes event (label_of high l)) result.fairs }
 {
     let mut values = [0u64; 64];
     let mut label = [0u64; 8];
@@ -144,10 +144,10 @@ fn fill_half(
 )
     requires valuable { Valuable count nodes }
     requires from_value { (from ≡ label_of high 0) × (from ≤ to) × (to ≤ from + 64) × (to ≤ 128) }
-    requires profiles_len { (length profiles.old ≡ 128) × Entries from (profileAt count nodes event) 0 profiles.old }
-    requires fairs_len { (length fairs.old ≡ 128) × Entries from (fairsAt count nodes event) 0 fairs.old }
-    ensures profiles_len_2 { (length profiles.new ≡ 128) × Entries to (profileAt count nodes event) 0 profiles.new }
-    ensures fairs_len_2 { (length fairs.new ≡ 128) × Entries to (fairsAt count nodes event) 0 fairs.new }
+    requires profiles_len { (length profiles.old ≡ 128) × Entries from (profile_at count nodes event) 0 profiles.old }
+    requires fairs_len { (length fairs.old ≡ 128) × Entries from (fairs_at count nodes event) 0 fairs.old }
+    ensures profiles_len_2 { (length profiles.new ≡ 128) × Entries to (profile_at count nodes event) 0 profiles.new }
+    ensures fairs_len_2 { (length fairs.new ≡ 128) × Entries to (fairs_at count nodes event) 0 fairs.new }
 {
     let columns = value_nodes(event, high, count, nodes);
     let p = columns.profiles;
@@ -164,8 +164,8 @@ fn fill_half(
 fn value_rows(event: u8, labels: usize, count: usize, nodes: [Node; 64]) -> Rows
     requires valuable { Valuable count nodes }
     requires labels_bound { labels ≤ 128 }
-    ensures entries { Entries labels (profileAt count nodes event) 0 result.profiles }
-    ensures entries_2 { Entries labels (fairsAt count nodes event) 0 result.fairs }
+    ensures entries { Entries labels (profile_at count nodes event) 0 result.profiles }
+    ensures entries_2 { Entries labels (fairs_at count nodes event) 0 result.fairs }
 {
     let mut profiles = [0u8; 128];
     let mut fairs = [0u8; 128];
@@ -208,8 +208,8 @@ pub fn value_tables(
     requires valuable { Valuable count nodes }
     requires events_bound { (events ≤ 16) × (labels ≤ 128) }
     requires profiles_len { (length {A = List ℕ} profiles.old ≡ 16) × (length {A = List ℕ} fairs.old ≡ 16) }
-    ensures profiles_len_2 { (length {A = List ℕ} profiles.new ≡ 16) × Table events labels (profileAt count nodes) profiles.new }
-    ensures fairs_len { (length {A = List ℕ} fairs.new ≡ 16) × Table events labels (fairsAt count nodes) fairs.new }
+    ensures profiles_len_2 { (length {A = List ℕ} profiles.new ≡ 16) × Table events labels (profile_at count nodes) profiles.new }
+    ensures fairs_len { (length {A = List ℕ} fairs.new ≡ 16) × Table events labels (fairs_at count nodes) fairs.new }
 {
     let mut e: usize = 0;
     while e < events {

@@ -11,14 +11,14 @@ use Rattle.meaning.specs.Verdicts.{Property, SameResidual, MoreThan}
 use Rattle.meaning.specs.Monitors.{follow}
 use Rattle.meaning.specs.declared.Verdict.TheVariants.{Undecided}
 use Rattle.residuals.specs.System.{System}
-use Rattle.walk.specs.Explore.{monitorWith}
+use Rattle.walk.specs.Explore.{monitor_with}
 use Rattle.walk.proofs.Residual.{same-sym, same-trans}
 use Rattle.walk.proofs.Closed.{Closed, stands-in, stands_same}
 
 module _ {Σ : Alphabet} {L : Property} (S : System Σ L) {limit : ℕ} {keys : List S.Key} {rows : List (List ℕ)} (C : Closed S limit keys rows) where
   -- where the monitor stands after a word; no verdict matters
   stand : List ℕ → ℕ
-  stand w = follow (monitorWith rows (λ _. Undecided)) 0 w
+  stand w = follow (monitor_with rows (λ _. Undecided)) 0 w
 
   -- the lists end on different states
   apart : (n : ℕ) (M : MoreThan Σ L n) → Injective (suc n) (length keys) (λ i. stand (M.list i))

@@ -8,10 +8,10 @@ use native.Mathlib.Omega.{arith}
 use borrow.Author.Tests.{ltb-true, ltb-false}
 use lib.ListN.{length, get_or}
 use lib.Dec.{T, ltb}
-use Rattle.sequences.specs.Tabulate.{leastBelow}
+use Rattle.sequences.specs.Tabulate.{least_below}
 use Rattle.sequences.proofs.Pigeonhole.{Least, least-below}
 use Rattle.meaning.specs.Traces.{Alphabet}
-use Rattle.walk.specs.Explore.{Explored, within, beyond, locate, enter, visit, expand_from, expand, exploreFrom, explore}
+use Rattle.walk.specs.Explore.{Explored, within, beyond, locate, enter, visit, expand_from, expand, explore_from, explore}
 use Rattle.walk.proofs.Snoc.{snoc-length, snoc_old}
 
 -- the row of state `length rows` is begun, and its next event, `length row`, can happen
@@ -42,7 +42,7 @@ module _ {Key : Type 0} (same : Key → Key → Bool) (step : Key → ℕ → Ke
       n = length keys
 
       i : ℕ
-      i = leastBelow n p
+      i = least_below n p
 
       least : Least n p i
       least = least-below n p
@@ -130,23 +130,23 @@ module _ {Key : Type 0} (same : Key → Key → Bool) (step : Key → ℕ → Ke
           go (beyond keys' k) h ih = h
 
       turns-end : (turns i : ℕ) (keys : List Key) (rows : List (List ℕ)) → I keys rows → length rows ≡ i → i ≤ length keys → length keys ≤ limit → turns + i ≡ limit
-          → Ended (exploreFrom same step start Σ limit turns i keys rows)
-      unfolding exploreFrom expand
+          → Ended (explore_from same step start Σ limit turns i keys rows)
+      unfolding explore_from expand
       turns-end zero i keys rows h q l m t = record { inv = h; all = omega arith; few = m }
       turns-end (suc turns) i keys rows h q l m t = go (ltb i (length keys)) refl (λ keys' rows'. turns-end turns (suc i) keys' rows')
         where
           Next : Type 0
           Next = (keys' : List Key) (rows' : List (List ℕ)) → I keys' rows' → length rows' ≡ suc i → suc i ≤ length keys' → length keys' ≤ limit → turns + suc i ≡ limit
-              → Ended (exploreFrom same step start Σ limit turns (suc i) keys' rows')
+              → Ended (explore_from same step start Σ limit turns (suc i) keys' rows')
 
           on : Next → (v : Explored Key (List ℕ)) → Expanded (get_or keys i start) rows v
-              → Ended (elim v [ within keys' row ↦ exploreFrom same step start Σ limit turns (suc i) keys' (rows ++ (row ∷ [])) | beyond keys' k ↦ beyond keys' k ])
+              → Ended (elim v [ within keys' row ↦ explore_from same step start Σ limit turns (suc i) keys' (rows ++ (row ∷ [])) | beyond keys' k ↦ beyond keys' k ])
           on ih (within keys' row) (d, w) = ih keys' (rows ++ (row ∷ [])) (K.close_row d.inv w) (rw snoc-length (omega arith)) (omega (arith, d.state)) d.few (omega arith)
           on ih (beyond keys' k) f = f
 
           go : (b : Bool) → ltb i (length keys) ≡ b → Next
               → Ended (elim b [
-                | true ↦ elim (expand same step start Σ limit (get_or keys i start) keys) [ within keys' row ↦ exploreFrom same step start Σ limit turns (suc i) keys' (rows ++ (row ∷ [])) | beyond keys' k ↦ beyond keys' k ]
+                | true ↦ elim (expand same step start Σ limit (get_or keys i start) keys) [ within keys' row ↦ explore_from same step start Σ limit turns (suc i) keys' (rows ++ (row ∷ [])) | beyond keys' k ↦ beyond keys' k ]
                 | false ↦ within keys rows
               ])
           go true e ih =

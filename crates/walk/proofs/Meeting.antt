@@ -10,7 +10,7 @@ use lib.ListN.{length, get_or}
 use lib.Dec.{eqb}
 use Rattle.sequences.specs.Tabulate.{tabulate, up_to}
 use Rattle.sequences.proofs.Loops.{tabulate-snoc}
-use Rattle.meaning.specs.Monitors.{member, newlyMet, keep}
+use Rattle.meaning.specs.Monitors.{member, newly_met, keep}
 
 member-in : (t n : ℕ) (f : ℕ → ℕ) (i : ℕ) → i < n → t ≡ f i → member t (tabulate n f) ≡ true
 member-in t zero f i l q = absurd (not-suc-le-zero l)
@@ -29,7 +29,7 @@ member-out t (suc n) f h = rw (ne_eqb t (f zero) (h zero (omega arith))) (member
 abbrev meet : List ℕ → ℕ → List ℕ
 meet met t = cond (member t met) met (met ++ (t ∷ []))
 
-met-snoc : (met ts : List ℕ) (t : ℕ) → met ++ newlyMet met (ts ++ (t ∷ [])) ≡ meet (met ++ newlyMet met ts) t
+met-snoc : (met ts : List ℕ) (t : ℕ) → met ++ newly_met met (ts ++ (t ∷ [])) ≡ meet (met ++ newly_met met ts) t
 met-snoc met [] t = rw append-nil (go (member t met))
   where
     go : (b : Bool) → met ++ cond b [] (t ∷ []) ≡ cond b met (met ++ (t ∷ []))
@@ -37,15 +37,15 @@ met-snoc met [] t = rw append-nil (go (member t met))
     go false = refl
 met-snoc met (x ∷ ts) t = go (member x met) (met-snoc met ts t) (met-snoc (met ++ (x ∷ [])) ts t)
   where
-    go : (b : Bool) → met ++ newlyMet met (ts ++ (t ∷ [])) ≡ meet (met ++ newlyMet met ts) t
-        → (met ++ (x ∷ [])) ++ newlyMet (met ++ (x ∷ [])) (ts ++ (t ∷ [])) ≡ meet ((met ++ (x ∷ [])) ++ newlyMet (met ++ (x ∷ [])) ts) t
-        → met ++ cond b (newlyMet met (ts ++ (t ∷ []))) (x ∷ newlyMet (met ++ (x ∷ [])) (ts ++ (t ∷ []))) ≡ meet (met ++ cond b (newlyMet met ts) (x ∷ newlyMet (met ++ (x ∷ [])) ts)) t
+    go : (b : Bool) → met ++ newly_met met (ts ++ (t ∷ [])) ≡ meet (met ++ newly_met met ts) t
+        → (met ++ (x ∷ [])) ++ newly_met (met ++ (x ∷ [])) (ts ++ (t ∷ [])) ≡ meet ((met ++ (x ∷ [])) ++ newly_met (met ++ (x ∷ [])) ts) t
+        → met ++ cond b (newly_met met (ts ++ (t ∷ []))) (x ∷ newly_met (met ++ (x ∷ [])) (ts ++ (t ∷ []))) ≡ meet (met ++ cond b (newly_met met ts) (x ∷ newly_met (met ++ (x ∷ [])) ts)) t
     go true h k = h
-    go false h k = sym (append_assoc met (x ∷ []) (newlyMet (met ++ (x ∷ [])) (ts ++ (t ∷ [])))) ∙ k ∙ ap (λ (l : List ℕ). meet l t) (append_assoc met (x ∷ []) (newlyMet (met ++ (x ∷ [])) ts))
+    go false h k = sym (append_assoc met (x ∷ []) (newly_met (met ++ (x ∷ [])) (ts ++ (t ∷ [])))) ∙ k ∙ ap (λ (l : List ℕ). meet l t) (append_assoc met (x ∷ []) (newly_met (met ++ (x ∷ [])) ts))
 
 -- from the states below n on, the successors ts meet those below n' in order
 pub record Meets (n : ℕ) (ts : List ℕ) (n' : ℕ) : Type 0 where
-  pub is : up_to n ++ newlyMet (up_to n) ts ≡ up_to n'
+  pub is : up_to n ++ newly_met (up_to n) ts ≡ up_to n'
 
 pub meets-none : {n : ℕ} → Meets n [] n
 meets-none {n} = record { is = append-nil (up_to n) }

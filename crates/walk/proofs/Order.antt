@@ -9,12 +9,12 @@ use lib.ListN.{length, get_or, drop}
 use lib.Seq.{drop-cons, drop-append-le, get_or-append_seam}
 use lib.Dec.{T}
 use Rattle.sequences.specs.Tabulate.{up_to}
-use Rattle.sequences.proofs.Loops.{length-tab, getD-tab}
+use Rattle.sequences.proofs.Loops.{length-tab, get_d-tab}
 use Rattle.sequences.proofs.Pointwise.{is_true, is_false}
 use Rattle.meaning.specs.Traces.{Alphabet}
-use Rattle.meaning.specs.Monitors.{Monitor, newlyMet, events, walk, BreadthFirst}
+use Rattle.meaning.specs.Monitors.{Monitor, newly_met, events, walk, BreadthFirst}
 use Rattle.meaning.specs.declared.Verdict.{Verdict}
-use Rattle.walk.specs.Explore.{monitorWith}
+use Rattle.walk.specs.Explore.{monitor_with}
 use Rattle.walk.proofs.Snoc.{snoc-length, snoc_old}
 use Rattle.walk.proofs.Invariant.{Kept}
 use Rattle.walk.proofs.Meeting.{Meets, meets-none, meets-old, meets-new, admitted, admitted-snoc, admitted-are}
@@ -24,15 +24,15 @@ module _ (Σ : Alphabet) where
   walk_turn : (m : Monitor) (row : List ℕ) (i n n' k : ℕ) → i < n → length row ≡ Σ.width → ((e : ℕ) → e < length row → m.next i e ≡ get_or row e 0)
       → Meets n (admitted Σ.possible row) n' → walk Σ m (suc k) (drop i (up_to n)) (up_to n) ≡ walk Σ m k (drop (suc i) (up_to n')) (up_to n')
   walk_turn m row i n n' k l q a h =
-      ap (λ (queue : List ℕ). walk Σ m (suc k) queue (up_to n)) (drop-cons (up_to n) i 0 in-range ∙ ap (λ (s : ℕ). s ∷ drop (suc i) (up_to n)) (getD-tab n (λ j. j) i 0 l))
-      ∙ ap (λ (ts : List ℕ). walk Σ m k (drop (suc i) (up_to n) ++ newlyMet (up_to n) ts) (up_to n ++ newlyMet (up_to n) ts)) successors
-      ∙ ap₂ (λ (queue met : List ℕ). walk Σ m k queue met) (sym (drop-append-le (suc i) (up_to n) new in-range) ∙ ap (λ (met : List ℕ). drop (suc i) met) h.is) h.is
+      ap (λ (queue : List ℕ). walk Σ m (suc k) queue (up_to n)) (drop-cons (up_to n) i 0 in_range ∙ ap (λ (s : ℕ). s ∷ drop (suc i) (up_to n)) (get_d-tab n (λ j. j) i 0 l))
+      ∙ ap (λ (ts : List ℕ). walk Σ m k (drop (suc i) (up_to n) ++ newly_met (up_to n) ts) (up_to n ++ newly_met (up_to n) ts)) successors
+      ∙ ap₂ (λ (queue met : List ℕ). walk Σ m k queue met) (sym (drop-append-le (suc i) (up_to n) new in_range) ∙ ap (λ (met : List ℕ). drop (suc i) met) h.is) h.is
     where
       new : List ℕ
-      new = newlyMet (up_to n) (admitted Σ.possible row)
+      new = newly_met (up_to n) (admitted Σ.possible row)
 
-      in-range : i < length (up_to n)
-      in-range = rw (length-tab n (λ j. j)) l
+      in_range : i < length (up_to n)
+      in_range = rw (length-tab n (λ j. j)) l
 
       successors : map (m.next i) (events Σ) ≡ admitted Σ.possible row
       successors = rw (← q) (admitted-are Σ.possible (m.next i) row (λ j. j) a)
@@ -87,8 +87,8 @@ module _ (Σ : Alphabet) where
     close_row = λ h q. walked_more h q;
   }
 
-  pub breadth-first : {c : ℕ} {rows : List (List ℕ)} → Walked c rows → length rows ≡ c → (verdict : ℕ → Verdict) → BreadthFirst Σ (monitorWith rows verdict)
+  pub breadth-first : {c : ℕ} {rows : List (List ℕ)} → Walked c rows → length rows ≡ c → (verdict : ℕ → Verdict) → BreadthFirst Σ (monitor_with rows verdict)
   unfolding BreadthFirst
   breadth-first {c} {rows} h q verdict =
-      let m : Monitor = monitorWith rows verdict in
+      let m : Monitor = monitor_with rows verdict in
       ap (λ (j : ℕ). walk Σ m j (0 ∷ []) (0 ∷ [])) (sym (add-zero (length rows))) ∙ h.after m (record { next = λ s e l. refl }) 0 ∙ ap (λ (n : ℕ). up_to n) (sym q)

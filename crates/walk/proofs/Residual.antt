@@ -9,13 +9,13 @@ use Rattle.meaning.specs.Verdicts.{Property, NoneSatisfies, AllSatisfy, NeverDec
 use Rattle.meaning.specs.Runs.{decides}
 use Rattle.meaning.specs.declared.Verdict.{Verdict}
 use Rattle.meaning.specs.declared.Verdict.TheVariants.{Undecided, Satisfied, Violated, Moot}
-use Rattle.residuals.specs.System.{keyAfter}
+use Rattle.residuals.specs.System.{key_after}
 
 pub word-append : (Σ : Alphabet) (u v : List ℕ) → Word Σ u → Word Σ v → Word Σ (u ++ v)
 word-append Σ [] v a b = b
 word-append Σ (e ∷ u) v a b = (a.0, word-append Σ u v a.1 b)
 
-pub key-append {ℓ} : {Key : Type ℓ} (step : Key → ℕ → Key) (k : Key) (u v : List ℕ) → keyAfter step k (u ++ v) ≡ keyAfter step (keyAfter step k u) v
+pub key-append {ℓ} : {Key : Type ℓ} (step : Key → ℕ → Key) (k : Key) (u v : List ℕ) → key_after step k (u ++ v) ≡ key_after step (key_after step k u) v
 key-append step k [] v = refl
 key-append step k (e ∷ u) v = key-append step (step k e) u v
 
@@ -26,7 +26,7 @@ prepended Σ (e ∷ z) ρ a c zero = a.0
 prepended Σ (e ∷ z) ρ a c (suc i) = prepended Σ z ρ a.1 c i
 
 prepend-twice : (u z : List ℕ) (ρ : Lasso) → prepend (u ++ z) ρ ≡ prepend u (prepend z ρ)
-prepend-twice u z ρ = λ i. record { stem = append_assoc u z ρ.stem i; loop = ρ.loop; nonEmpty = ρ.nonEmpty }
+prepend-twice u z ρ = λ i. record { stem = append_assoc u z ρ.stem i; loop = ρ.loop; non_empty = ρ.non_empty }
 
 module _ (Σ : Alphabet) (L : Property) where
   pub same_refl : (w : List ℕ) → SameResidual Σ L w w

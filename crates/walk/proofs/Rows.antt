@@ -11,7 +11,7 @@ use lib.Seq.{get_or-append_seam}
 use lib.Dec.{T}
 use Rattle.meaning.specs.Traces.{Alphabet, Word}
 use Rattle.meaning.specs.Verdicts.{Property, SameResidual}
-use Rattle.residuals.specs.System.{keyAfter, System}
+use Rattle.residuals.specs.System.{key_after, System}
 use Rattle.walk.proofs.Residual.{word-append, key-append, same_refl, same-sym}
 use Rattle.walk.proofs.Snoc.{snoc-length, snoc_old, snoc-each}
 use Rattle.walk.proofs.Invariant.{Going, reached, New, Kept}
@@ -60,23 +60,23 @@ module _ (Σ : Alphabet) (L : Property) where
 module _ {Σ : Alphabet} {L : Property} (S : System Σ L) where
   pub record Led (keys : List S.Key) (rows : List (List ℕ)) (row : List ℕ) : Type 0 where
     pub words : List (List ℕ)
-    pub keys-are : keys ≡ map (keyAfter S.step S.start) words
+    pub keys-are : keys ≡ map (key_after S.step S.start) words
     pub words_are : Words Σ L words
     pub rows_are : (s : ℕ) → s < length rows → Row Σ L words s (get_or rows s [])
     pub row_is : Entries Σ L words (length rows) row
 
   module _ {keys : List S.Key} {rows : List (List ℕ)} {row : List ℕ} (h : Led keys rows row) where
     pub led-count : length keys ≡ length h.words
-    led-count = ap length h.keys-are ∙ length-map h.words (keyAfter S.step S.start)
+    led-count = ap length h.keys-are ∙ length-map h.words (key_after S.step S.start)
 
-    pub led-key : (i : ℕ) → get_or keys i S.start ≡ keyAfter S.step S.start (get_or h.words i [])
-    led-key i = rw h.keys-are (get_or-map (keyAfter S.step S.start) h.words i [])
+    pub led-key : (i : ℕ) → get_or keys i S.start ≡ key_after S.step S.start (get_or h.words i [])
+    led-key i = rw h.keys-are (get_or-map (key_after S.step S.start) h.words i [])
 
     -- the word of the state whose row is begun, with the row's next event
     abbrev pub next_word : List ℕ
     next_word = get_or h.words (length rows) [] ++ (length row ∷ [])
 
-    next-key : reached S.step S.start keys rows row ≡ keyAfter S.step S.start next_word
+    next-key : reached S.step S.start keys rows row ≡ key_after S.step S.start next_word
     next-key = ap (λ (k : S.Key). S.step k (length row)) (led-key (length rows)) ∙ sym (key-append S.step S.start (get_or h.words (length rows) []) (length row ∷ []))
 
     module _ (g : Going Σ keys rows row) where
@@ -88,7 +88,7 @@ module _ {Σ : Alphabet} {L : Property} (S : System Σ L) where
 
       -- the key to which the event leads is the same as that of state i exactly if the remaining properties are
       next-same : (i : ℕ) → i < length keys → T (S.same (get_or keys i S.start) (reached S.step S.start keys rows row)) ↔ SameResidual Σ L (get_or h.words i []) next_word
-      next-same i l = rw (led-key i, next-key) (S.same-is (get_or h.words i []) next_word (h.words_are.word i (subst (λ (n : ℕ). i < n) led-count l)) next-is-word)
+      next-same i l = rw (led-key i, next-key) (S.same_is (get_or h.words i []) next_word (h.words_are.word i (subst (λ (n : ℕ). i < n) led-count l)) next-is-word)
 
       -- a new key makes one word more
       pub led-new : New S.same S.start keys (reached S.step S.start keys rows row) → Words Σ L (h.words ++ (next_word ∷ []))
@@ -115,7 +115,7 @@ module _ {Σ : Alphabet} {L : Property} (S : System Σ L) where
       → Led (keys ++ (reached S.step S.start keys rows row ∷ [])) rows (row ++ (length keys ∷ []))
   adds {keys} {rows} {row} h g n = record {
     words = words ++ (w ∷ []);
-    keys-are = ap₂ (λ (l : List S.Key) (k : S.Key). l ++ (k ∷ [])) h.keys-are (next-key h) ∙ sym (map-append (keyAfter S.step S.start) words (w ∷ []));
+    keys-are = ap₂ (λ (l : List S.Key) (k : S.Key). l ++ (k ∷ [])) h.keys-are (next-key h) ∙ sym (map-append (key_after S.step S.start) words (w ∷ []));
     words_are = led-new h g n;
     rows_are = λ s l. let r = h.rows_are s l in record { width = r.width; entries = entries-more Σ L w (omega (arith, state-in h g)) r.entries };
     row_is = entries_next Σ L (entries-more Σ L w (state-in h g) h.row_is) (record { inside = rw (snoc-length words w) (omega (arith, led-count h)); leads = λ _. last });

@@ -6,7 +6,7 @@ use Prim.Native.Nat.{ℕ, zero, suc, ◌≤◌, ◌<◌}
 use borrow.Author.Tests.{lt-ltb, le-ltb}
 use lib.ListN.{length, get_or}
 use Rattle.meaning.specs.Traces.{Alphabet}
-use Rattle.walk.specs.Explore.{within, beyond, locate, enter, visit, expand_from, expand, exploreFrom}
+use Rattle.walk.specs.Explore.{within, beyond, locate, enter, visit, expand_from, expand, explore_from}
 
 module _ {Key : Type 0} (same : Key → Key → Bool) (start : Key) (limit : ℕ) (keys : List Key) (k : Key) where
   pub enter-met : locate same start keys k < length keys → enter same start limit keys k ≡ within keys (locate same start keys k)
@@ -42,16 +42,16 @@ module _ {Key : Type 0} (same : Key → Key → Bool) (step : Key → ℕ → Ke
 
   pub explore-next : (turns i : ℕ) (keys : List Key) (rows : List (List ℕ)) {keys' : List Key} {row : List ℕ} → i < length keys
       → expand same step start Σ limit (get_or keys i start) keys ≡ within keys' row
-      → exploreFrom same step start Σ limit (suc turns) i keys rows ≡ exploreFrom same step start Σ limit turns (suc i) keys' (rows ++ (row ∷ []))
-  unfolding exploreFrom
-  explore-next turns i keys rows l q = rw (lt-ltb i (length keys) l, q, exploreFrom)
+      → explore_from same step start Σ limit (suc turns) i keys rows ≡ explore_from same step start Σ limit turns (suc i) keys' (rows ++ (row ∷ []))
+  unfolding explore_from
+  explore-next turns i keys rows l q = rw (lt-ltb i (length keys) l, q, explore_from)
 
   pub explore-over : (turns i : ℕ) (keys : List Key) (rows : List (List ℕ)) {keys' : List Key} {k : Key} → i < length keys
-      → expand same step start Σ limit (get_or keys i start) keys ≡ beyond keys' k → exploreFrom same step start Σ limit (suc turns) i keys rows ≡ beyond keys' k
-  unfolding exploreFrom
-  explore-over turns i keys rows l q = rw (lt-ltb i (length keys) l, q, exploreFrom)
+      → expand same step start Σ limit (get_or keys i start) keys ≡ beyond keys' k → explore_from same step start Σ limit (suc turns) i keys rows ≡ beyond keys' k
+  unfolding explore_from
+  explore-over turns i keys rows l q = rw (lt-ltb i (length keys) l, q, explore_from)
 
-  pub explore-end : (turns i : ℕ) (keys : List Key) (rows : List (List ℕ)) → length keys ≤ i → exploreFrom same step start Σ limit turns i keys rows ≡ within keys rows
-  unfolding exploreFrom
+  pub explore-end : (turns i : ℕ) (keys : List Key) (rows : List (List ℕ)) → length keys ≤ i → explore_from same step start Σ limit turns i keys rows ≡ within keys rows
+  unfolding explore_from
   explore-end zero i keys rows l = refl
-  explore-end (suc turns) i keys rows l = rw (le-ltb i (length keys) l, exploreFrom)
+  explore-end (suc turns) i keys rows l = rw (le-ltb i (length keys) l, explore_from)

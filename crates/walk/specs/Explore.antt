@@ -1,7 +1,7 @@
 -- The breadth-first walk over the keys of residuals, with a limit on their number, as it is computed. Each key is a state, numbered in the
 -- order in which it is met; a state's row has the number of its successor for each event from 0 upward, and 0 for an event that cannot happen.
 use Rattle.std.specs.Prelude.{List, [], ◌∷◌, ◌++◌, Bool, true, false, ℕ, zero, suc, length, get_or, ltb}
-use Rattle.sequences.specs.Tabulate.{leastBelow}
+use Rattle.sequences.specs.Tabulate.{least_below}
 use Rattle.meaning.specs.Traces.{Alphabet}
 use Rattle.meaning.specs.Monitors.{Monitor}
 use Rattle.meaning.specs.declared.Verdict.{Verdict}
@@ -14,7 +14,7 @@ pub data Explored (Key A : Type 0) : Type 0 where
 module _ {Key : Type 0} (same : Key → Key → Bool) (start : Key) where
   -- the number of the first key that is the same as k, and how many keys there are if none is
   unfoldable pub locate : List Key → Key → ℕ
-  locate keys k = leastBelow (length keys) (λ i. same (get_or keys i start) k)
+  locate keys k = least_below (length keys) (λ i. same (get_or keys i start) k)
 
   -- the number of k, which is added at the end if it is new
   unfoldable pub enter : ℕ → List Key → Key → Explored Key ℕ
@@ -38,18 +38,18 @@ module _ {Key : Type 0} (same : Key → Key → Bool) (step : Key → ℕ → Ke
   expand from keys = expand_from Σ.width 0 from keys []
 
   -- the rows of at most `turns` states, from state i on
-  unfoldable pub exploreFrom : ℕ → ℕ → List Key → List (List ℕ) → Explored Key (List (List ℕ))
-  exploreFrom zero i keys rows = within keys rows
-  exploreFrom (suc turns) i keys rows =
+  unfoldable pub explore_from : ℕ → ℕ → List Key → List (List ℕ) → Explored Key (List (List ℕ))
+  explore_from zero i keys rows = within keys rows
+  explore_from (suc turns) i keys rows =
       elim (ltb i (length keys)) [
-        | true ↦ elim (expand (get_or keys i start) keys) [ within keys' row ↦ exploreFrom turns (suc i) keys' (rows ++ (row ∷ [])) | beyond keys' k ↦ beyond keys' k ]
+        | true ↦ elim (expand (get_or keys i start) keys) [ within keys' row ↦ explore_from turns (suc i) keys' (rows ++ (row ∷ [])) | beyond keys' k ↦ beyond keys' k ]
         | false ↦ within keys rows
       ]
 
   -- all: as many turns as there can be keys are enough
   unfoldable pub explore : Explored Key (List (List ℕ))
-  explore = exploreFrom limit 0 (start ∷ []) []
+  explore = explore_from limit 0 (start ∷ []) []
 
 -- the monitor that has these rows
-abbrev pub monitorWith : List (List ℕ) → (ℕ → Verdict) → Monitor
-monitorWith rows verdict = record { states = length rows; start = 0; verdict = verdict; next = λ s e. get_or (get_or rows s []) e 0 }
+abbrev pub monitor_with : List (List ℕ) → (ℕ → Verdict) → Monitor
+monitor_with rows verdict = record { states = length rows; start = 0; verdict = verdict; next = λ s e. get_or (get_or rows s []) e 0 }

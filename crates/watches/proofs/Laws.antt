@@ -18,8 +18,8 @@ use Rattle.sequences.proofs.Tests.{last}
 use Rattle.meaning.specs.Bytes.{bit}
 use Rattle.meaning.specs.Desks.{queue, counted, oldest}
 use Rattle.meaning.specs.declared.Watch.{Watch}
-use Rattle.event_lists.specs.Masks.{allIn}
-use Rattle.watches.specs.Fitting.{fitsIn, numbersFit, shifted}
+use Rattle.event_lists.specs.Masks.{all_in}
+use Rattle.watches.specs.Fitting.{fits_in, numbers_fit, shifted}
 
 listed : (q : List ℕ) (n : ℕ) → length q ≡ n → q ≡ tabulate n (λ k. get_or q k 0)
 listed [] zero e = refl
@@ -45,37 +45,37 @@ few-by true false c h = absurd (false≢true h)
 few-by false b c h = absurd (false≢true h)
 
 module _ (S : ℕ) (w : Watch) where
-  pub few : {r : Bool} → r ≡ numbersFit S w → not r ≡ false → w.waiting ≤ 32
+  pub few : {r : Bool} → r ≡ numbers_fit S w → not r ≡ false → w.waiting ≤ 32
   few {r = true} e n = leb-true w.waiting 32 (few-by (ltb w.state S) (leb w.waiting 32) (leb (counted w) 4294967295) (sym e))
   few {r = false} e n = absurd (true≢false n)
 
 module _ (m S : ℕ) (w : Watch) where
-  fits-is : fitsIn m S w ≡ cond (numbersFit S w) (allIn m (queue w)) false
-  fits-is = tests (ltb w.state S) (leb w.waiting 32) (leb (counted w) 4294967295) (allIn m (queue w))
+  fits-is : fits_in m S w ≡ cond (numbers_fit S w) (all_in m (queue w)) false
+  fits-is = tests (ltb w.state S) (leb w.waiting 32) (leb (counted w) 4294967295) (all_in m (queue w))
 
-  pub fits_not : {r : Bool} → r ≡ numbersFit S w → not r ≡ true → false ≡ fitsIn m S w
+  pub fits_not : {r : Bool} → r ≡ numbers_fit S w → not r ≡ true → false ≡ fits_in m S w
   fits_not {r = true} e n = absurd (false≢true n)
   fits_not {r = false} e n = sym (fits-is ∙ rw (sym e))
 
-  pub fits-so : {r q : Bool} → r ≡ numbersFit S w → not r ≡ false → q ≡ allIn m (queue w) → q ≡ fitsIn m S w
+  pub fits-so : {r q : Bool} → r ≡ numbers_fit S w → not r ≡ false → q ≡ all_in m (queue w) → q ≡ fits_in m S w
   fits-so {r = true} e n h = h ∙ sym (fits-is ∙ rw (sym e))
   fits-so {r = false} e n h = absurd (true≢false n)
 
 -- ---- the events that wait
 
-one_in : (m : ℕ) (q : List ℕ) → length q ≡ 32 → allIn m (take 1 q) ≡ eqb (bit (get_or q 0 0) m) 1
+one_in : (m : ℕ) (q : List ℕ) → length q ≡ 32 → all_in m (take 1 q) ≡ eqb (bit (get_or q 0 0) m) 1
 one_in m [] h = absurd (omega arith)
 one_in m (e ∷ q) h = sym (last (eqb (bit e m) 1))
 
 module _ (m : ℕ) (w : Watch) where
-  pub none_in : w.waiting ≡ 0 → true ≡ allIn m (queue w)
+  pub none_in : w.waiting ≡ 0 → true ≡ all_in m (queue w)
   none_in e = rw e
 
-  pub first-in : {e x : ℕ} {r : Bool} → w.waiting ≡ 1 → length w.events ≡ 32 → e ≡ oldest w → x ≡ e → r ≡ eqb (bit x m) 1 → r ≡ allIn m (queue w)
+  pub first-in : {e x : ℕ} {r : Bool} → w.waiting ≡ 1 → length w.events ≡ 32 → e ≡ oldest w → x ≡ e → r ≡ eqb (bit x m) 1 → r ≡ all_in m (queue w)
   first-in n h p q k = rw n (k ∙ ap (λ (y : ℕ). eqb (bit y m) 1) (q ∙ p) ∙ sym (one_in m w.events h))
 
-  pub all_of : (n : ℕ) {r : Bool} → n ≡ w.waiting → r ≡ allIn m (take (n - 0) (drop 0 w.events)) → r ≡ allIn m (queue w)
-  all_of n e h = let so : n - 0 ≡ w.waiting = omega (arith, e) in h ∙ ap (λ (j : ℕ). allIn m (take j w.events)) so
+  pub all_of : (n : ℕ) {r : Bool} → n ≡ w.waiting → r ≡ all_in m (take (n - 0) (drop 0 w.events)) → r ≡ all_in m (queue w)
+  all_of n e h = let so : n - 0 ≡ w.waiting = omega (arith, e) in h ∙ ap (λ (j : ℕ). all_in m (take j w.events)) so
 
 pub in-slots : (n k : ℕ) (q : List ℕ) → n ≡ k → k ≤ 32 → length q ≡ 32 → n ≤ length q
 in-slots n k q e l h = omega arith

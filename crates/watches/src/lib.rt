@@ -1,9 +1,9 @@
 // One watch: whether it fits its table, and what a posted and a heard event make of it. How many watches a row has.
 ghost use Rattle.std.specs.Prelude.{◌≡◌, cond, ◌&&◌, ◌+◌, ◌-◌, ◌≤◌, ◌<◌, leb, eqb};
 ghost use Rattle.meaning.specs.Runs.{decides};
-ghost use Rattle.meaning.specs.Desks.{queue, freshWatch, noWatch, oldest, withEvent, withoutOldest};
-ghost use Rattle.event_lists.specs.Masks.{allIn};
-ghost use Rattle.watches.specs.Fitting.{numbersFit, fitsIn, shifted};
+ghost use Rattle.meaning.specs.Desks.{queue, fresh_watch, no_watch, oldest, with_event, without_oldest};
+ghost use Rattle.event_lists.specs.Masks.{all_in};
+ghost use Rattle.watches.specs.Fitting.{numbers_fit, fits_in, shifted};
 
 use event_lists::{all_in, each_in};
 use events::can_happen;
@@ -12,7 +12,7 @@ use wire::{wide, wide16, wide32};
 
 // Whether the mask has all the events. A few are looked at one by one, which is faster for these.
 fn slots_fit(mask: u16, events: &[u8]) -> bool
-    ensures { result ≡ allIn mask events.now }
+    ensures { result ≡ all_in mask events.now }
 {
     if events.len() < 4 {
         return each_in(mask, events);
@@ -29,7 +29,7 @@ pub fn count_of(heard: u32, waiting: u16) -> usize
 
 // Whether the state is one of a table's, at most 32 events wait, and with those heard they are at most 4,294,967,295.
 fn numbers_fit(w: Watch, states: u16) -> bool
-    ensures { result ≡ numbersFit states w }
+    ensures { result ≡ numbers_fit states w }
 {
     let waiting = w.waiting;
     let count = count_of(w.heard, waiting);
@@ -39,7 +39,7 @@ fn numbers_fit(w: Watch, states: u16) -> bool
 // Whether each event that waits can happen, by the table's mask.
 fn queue_fits(w: Watch, mask: u16) -> bool
     requires { w.waiting ≤ 32 }
-    ensures { result ≡ allIn mask (queue w) }
+    ensures { result ≡ all_in mask (queue w) }
 {
     let waiting = w.waiting;
     if waiting < 1 {
@@ -55,7 +55,7 @@ fn queue_fits(w: Watch, mask: u16) -> bool
 
 // Whether a watch fits a table of so many states and with this mask.
 pub fn fits(w: Watch, mask: u16, states: u16) -> bool
-    ensures { result ≡ fitsIn mask states w }
+    ensures { result ≡ fits_in mask states w }
 {
     if !numbers_fit(w, states) {
         return false;
@@ -106,7 +106,7 @@ fn filled_if(chosen: bool, before: u16) -> u16
 
 // A watch in state 0, which has this verdict, of the opening with a number, with nothing heard and nothing waiting.
 pub fn fresh_watch(opening: u16, verdict: Verdict) -> Watch
-    ensures { result ≡ freshWatch opening verdict }
+    ensures { result ≡ fresh_watch opening verdict }
 {
     let filled = filled_if(is_decided(verdict), 0);
     Watch {
@@ -122,7 +122,7 @@ pub fn fresh_watch(opening: u16, verdict: Verdict) -> Watch
 
 // What is read past a row's end.
 pub fn no_watch() -> Watch
-    ensures { result ≡ noWatch }
+    ensures { result ≡ no_watch }
 {
     fresh_watch(0, Verdict::Undecided)
 }
@@ -130,7 +130,7 @@ pub fn no_watch() -> Watch
 // The watch with one event more, in the first free slot.
 pub fn with_event(w: Watch, event: u8) -> Watch
     requires { w.waiting < 32 }
-    ensures { result ≡ withEvent w event }
+    ensures { result ≡ with_event w event }
 {
     let waiting = w.waiting;
     let mut events = w.events;
@@ -187,7 +187,7 @@ fn fills_at(filled: u16, verdict: Verdict) -> bool
 // The watch without its oldest event, which was heard and led to this state with this verdict.
 pub fn without_oldest(w: Watch, state: u16, verdict: Verdict) -> Watch
     requires { w.heard < 4294967295 }
-    ensures { result ≡ withoutOldest w state verdict }
+    ensures { result ≡ without_oldest w state verdict }
 {
     let opening = w.opening;
     let filled = w.filled;

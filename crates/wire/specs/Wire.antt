@@ -2,5 +2,5 @@
 use Rattle.std.specs.Prelude.{List, [], ◌∷◌, ℕ, ◌/◌, ◌%◌}
 
 -- "two bytes, low byte first"
-abbrev pub u16Bytes : ℕ → List ℕ
-u16Bytes n = n % 256 ∷ n / 256 ∷ []
+abbrev pub u16_bytes : ℕ → List ℕ
+u16_bytes n = n % 256 ∷ n / 256 ∷ []

@@ -1,8 +1,8 @@
 // Numbers, and numbers in files: two bytes, low byte first. Past the end of the bytes there are zeros, so reading is total.
 ghost use Rattle.std.specs.Prelude.{◌≡◌, ◌+◌, ◌*◌, ◌≤◌, ◌<◌, length, get_or};
 ghost use Rattle.std.proofs.lemmas.List.Edits.{sets};
-ghost use Rattle.meaning.specs.Bytes.{u16At};
-ghost use Rattle.wire.specs.Wire.{u16Bytes};
+ghost use Rattle.meaning.specs.Bytes.{u16_at};
+ghost use Rattle.wire.specs.Wire.{u16_bytes};
 
 pub fn wide(x: u8) -> usize
     ensures { (result ≡ x) × (result < 256) }
@@ -41,7 +41,7 @@ pub fn byte_at(b: &[u8], i: usize) -> u8
 // The number at a place.
 pub fn u16_at(b: &[u8], i: usize) -> u16
     requires { i < 4294967296 }
-    ensures { result ≡ u16At b.now i }
+    ensures { result ≡ u16_at b.now i }
 {
     if i + 1 < b.len() {
         return half(b[i]) + 256 * half(b[i + 1]);
@@ -52,7 +52,7 @@ pub fn u16_at(b: &[u8], i: usize) -> u16
 // Stores a number at a place.
 pub fn put_u16(out: &mut [u8], i: usize, x: u16)
     requires { i + 2 ≤ length out.old }
-    ensures { out.new ≡ sets out.old i (u16Bytes x) }
+    ensures { out.new ≡ sets out.old i (u16_bytes x) }
 {
     out[i] = (x % 256) as u8;
     out[i + 1] = (x / 256) as u8;

@@ -1,7 +1,7 @@
 -- `codes::arrived_code` meets its contract.
 use borrow.Author.Rules.{rules}
 use mathlib.Core.Path.{sym, ap, ◌∙◌}
-use Rattle.codes.specs.Codes.{arrivedCode}
+use Rattle.codes.specs.Codes.{arrived_code}
 use Rattle.codes.proofs.arrived_code.Statement.{statement}
 use Rattle.codes.proofs.arrived_code.Tie as tie
 
@@ -30,7 +30,7 @@ returns : tie.Need-returns
 returns c = rw (c.before.verdict-number.ensures.0, c.state-code.ensures.0, c.before.before.before.arrived.given.1)
 
 returns-2 : tie.Need-returns-2
-returns-2 c = c.refusal-code.ensures ∙ sym (ap arrivedCode c.before.before.arrived2.given.1)
+returns-2 c = c.refusal-code.ensures ∙ sym (ap arrived_code c.before.before.arrived2.given.1)
 
 pub arrived-code-spec : {M : Type 1} → statement M
 arrived-code-spec =

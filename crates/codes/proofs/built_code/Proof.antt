@@ -1,7 +1,7 @@
 -- `codes::built_code` meets its contract.
 use borrow.Author.Rules.{rules}
 use mathlib.Core.Path.{sym, ap, ◌∙◌}
-use Rattle.codes.specs.Codes.{builtCode}
+use Rattle.codes.specs.Codes.{built_code}
 use Rattle.codes.proofs.built_code.Statement.{statement}
 use Rattle.codes.proofs.built_code.Tie as tie
 
@@ -18,7 +18,7 @@ returns : tie.Need-returns
 returns c = search rules
 
 returns-2 : tie.Need-returns-2
-returns-2 c = c.refusal-code.ensures ∙ sym (ap builtCode c.before.before.built2.given.1)
+returns-2 c = c.refusal-code.ensures ∙ sym (ap built_code c.before.before.built2.given.1)
 
 pub built-code-spec : {M : Type 1} → statement M
 built-code-spec = tie.close (tie.spec enum-known-built enum-known-built-2 refusal-code-requires returns returns-2)

@@ -2,7 +2,7 @@
 use borrow.Author.Rules.{rules}
 use mathlib.Core.Path.{sym, ap, ◌∙◌}
 use Rattle.meaning.specs.declared.Arrived.{Arrived}
-use Rattle.codes.specs.Codes.{countAfter}
+use Rattle.codes.specs.Codes.{count_after}
 use Rattle.codes.proofs.count_after.Statement.{statement}
 use Rattle.codes.proofs.count_after.Tie as tie
 
@@ -16,7 +16,7 @@ enum_told : tie.Need-enum-told
 enum_told c = search rules
 
 returns : tie.Need-returns
-returns c = c.count_code.ensures ∙ sym (ap (λ (r : Arrived). countAfter r c.before.before.before.before.args.was) c.before.before.arrived.given.1)
+returns c = c.count_code.ensures ∙ sym (ap (λ (r : Arrived). count_after r c.before.before.before.before.args.was) c.before.before.arrived.given.1)
 
 returns-2 : tie.Need-returns-2
 returns-2 c = search rules

@@ -1,7 +1,7 @@
 -- `codes::opened_code` meets its contract.
 use borrow.Author.Rules.{rules}
 use mathlib.Core.Path.{sym, ap, ◌∙◌}
-use Rattle.codes.specs.Codes.{openedCode}
+use Rattle.codes.specs.Codes.{opened_code}
 use Rattle.codes.proofs.opened_code.Statement.{statement}
 use Rattle.codes.proofs.opened_code.Tie as tie
 
@@ -33,10 +33,10 @@ refusal-code-requires : tie.Need-refusal-code-requires
 refusal-code-requires c κs = search rules
 
 returns : tie.Need-returns
-returns c = sym (ap (openedCode c.before.before.before.args.number) c.before.checked.given.1)
+returns c = sym (ap (opened_code c.before.before.before.args.number) c.before.checked.given.1)
 
 returns-2 : tie.Need-returns-2
-returns-2 c = c.refusal-code.ensures ∙ sym (ap (openedCode c.before.before.before.before.args.number) c.before.before.checked2.given.1)
+returns-2 c = c.refusal-code.ensures ∙ sym (ap (opened_code c.before.before.before.before.args.number) c.before.before.checked2.given.1)
 
 pub opened-code-spec : {M : Type 1} → statement M
 opened-code-spec =

@@ -1,7 +1,7 @@
 -- `codes::served_code` meets its contract.
 use borrow.Author.Rules.{rules}
 use mathlib.Core.Path.{sym, ap, ◌∙◌}
-use Rattle.codes.specs.Codes.{servedCode}
+use Rattle.codes.specs.Codes.{served_code}
 use Rattle.codes.proofs.served_code.Statement.{statement}
 use Rattle.codes.proofs.served_code.Tie as tie
 
@@ -27,13 +27,13 @@ returns : tie.Need-returns
 returns c = search rules
 
 returns-2 : tie.Need-returns-2
-returns-2 c = c.heard-code.ensures ∙ sym (ap servedCode c.before.before.served.given.1)
+returns-2 c = c.heard-code.ensures ∙ sym (ap served_code c.before.before.served.given.1)
 
 returns-3 : tie.Need-returns-3
 returns-3 c = search rules
 
 returns-4 : tie.Need-returns-4
-returns-4 c = c.refusal-code.ensures ∙ sym (ap servedCode c.before.before.served2.given.1)
+returns-4 c = c.refusal-code.ensures ∙ sym (ap served_code c.before.before.served2.given.1)
 
 pub served-code-spec : {M : Type 1} → statement M
 served-code-spec =

@@ -1,7 +1,7 @@
 -- `codes::shown_code` meets its contract.
 use borrow.Author.Rules.{rules}
 use mathlib.Core.Path.{sym, ap, ◌∙◌}
-use Rattle.codes.specs.Codes.{shownCode}
+use Rattle.codes.specs.Codes.{shown_code}
 use Rattle.codes.proofs.shown_code.Statement.{statement}
 use Rattle.codes.proofs.shown_code.Tie as tie
 
@@ -24,7 +24,7 @@ returns : tie.Need-returns
 returns c = rw (c.verdict-number.ensures.0, c.before.before.shown.given.1)
 
 returns-2 : tie.Need-returns-2
-returns-2 c = c.refusal-code.ensures ∙ sym (ap shownCode c.before.before.shown2.given.1)
+returns-2 c = c.refusal-code.ensures ∙ sym (ap shown_code c.before.before.shown2.given.1)
 
 pub shown-code-spec : {M : Type 1} → statement M
 shown-code-spec =

@@ -1,7 +1,7 @@
 -- `codes::written_code` meets its contract.
 use borrow.Author.Rules.{rules}
 use mathlib.Core.Path.{sym, ap, ◌∙◌}
-use Rattle.codes.specs.Codes.{writtenCode}
+use Rattle.codes.specs.Codes.{written_code}
 use Rattle.codes.proofs.written_code.Statement.{statement}
 use Rattle.codes.proofs.written_code.Tie as tie
 
@@ -18,7 +18,7 @@ returns : tie.Need-returns
 returns c = search rules
 
 returns-2 : tie.Need-returns-2
-returns-2 c = c.refusal-code.ensures ∙ sym (ap writtenCode c.before.before.written2.given.1)
+returns-2 c = c.refusal-code.ensures ∙ sym (ap written_code c.before.before.written2.given.1)
 
 pub written-code-spec : {M : Type 1} → statement M
 written-code-spec = tie.close (tie.spec enum-known-written enum-known-written-2 refusal-code-requires returns returns-2)

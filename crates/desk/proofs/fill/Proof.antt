@@ -44,7 +44,7 @@ use denote.Triple.Table.{entered}
 use denote.Triple.Walked.{says, needs, Stays, stay_none, stay_slice, walk_of, Goes-none, Goes-slice, Walks, ends_at, walked, walk_Meets}
 use denote.Exit.{yes}
 use Rattle.meaning.specs.declared.Watch.{Watch}
-use Rattle.meaning.specs.Desks.{noWatch}
+use Rattle.meaning.specs.Desks.{no_watch}
 use Rattle.meaning.specs.contracts.Watch as T
 use Rattle.meaning.proofs.Watch.TheLaws as T'
 use Rattle.desk_survey.proofs.Walking.{type_at, scaled}
@@ -183,7 +183,7 @@ module _ {M : Type 1} {𝓤 : Ura M} (𝓛 : Logic 𝓤) (mem : Memory → SProp
         assigns ! (bin ! (load ! (from ! (stop !)) (look ! 6 refl)) (lit ! tt) (record { fits = scaled j n in_row gn.1 })) (from ! (stop !)) (init ! 2 refl (tt, record { fits = scaled j n in_row gn.1 })) $
         assigns ! (bin ! (load ! (from ! (fld ! refl (stop !))) (look_in ! 12 (sub ! 0 refl (whole !)))) (load ! (from ! (stop !)) (look ! 2 refl)) tt) (from ! (stop !)) (init ! 0 refl (tt, tt)) $
         rewrite ! 0 (λ (p : ℕ). ‵ (fat full_share ty_ptr l₇ 0 (vptr b p))) (sym (place_is 48 o j)) refl $
-        move ! (16 ∷ []) $ elem_out ! T.the_row (Is T.the_row) (shows 𝓛 T.the_row) (LL.vals T.the_type T'.the_laws) (LL.tells T.the_type T'.the_laws) full_share x.zs j noWatch b o in_list (λ g.
+        move ! (16 ∷ []) $ elem_out ! T.the_row (Is T.the_row) (shows 𝓛 T.the_row) (LL.vals T.the_type T'.the_laws) (LL.tells T.the_type T'.the_laws) full_share x.zs j no_watch b o in_list (λ g.
         -- [desk[i]; what it owns; the others; _7; …]
         assigns_last ! (of_opd ! (load ! (from ! (stop !)) (look ! 11 refl))) (from ! (hop ! (look ! 3 refl) (stop !))) (store_raw ! 0 refl ((LL.lawful T.the_type T'.the_laws 𝓛).typed w _ is).0) $
         move ! (1 ∷ []) $ drop ! $ owned ! T.the_row (Is T.the_row) (LL.makes T.the_type T'.the_plain 𝓛) w _ is $ move ! (1 ∷ 0 ∷ []) $ elem_put ! T.the_row full_share x.zs j w (low w ∷ []) b o in_list $

@@ -45,7 +45,7 @@ use Rattle.meaning.specs.contracts.Watch as T
 use Rattle.meaning.proofs.Watch.TheLaws as T'
 use Rattle.desk_survey.proofs.Walking.{type_at}
 use Rattle.desk.specs.declared.Filling.{Filling}
-use Rattle.desk.specs.Filling.{fillingOf, filled}
+use Rattle.desk.specs.Filling.{filling_of, filled}
 use Rattle.desk.proofs.Laws.{upto-in, fresh-is}
 use Rattle.desk.proofs.Values.{first_of}
 use Rattle.desk.specs.contracts.Filling as U
@@ -128,8 +128,8 @@ module _ {M : Type 1} {𝓤 : Ura M} (𝓛 : Logic 𝓤) (mem : Memory → SProp
   goes-filling : ent 𝓤 (⋆ 𝓛 (‵ (flft κ' q') ∷ ‵ asks-filling ∷ [])) ((FillingOf 𝓛 mem run).pre to-filling)
   goes-filling = qed 𝓛 (‵ (flft κ' q') ∷ ‵ asks-filling ∷ []) ∵ nothing ! $ move ! (1 ∷ 0 ∷ []) $ join ! $ join ! $ frame ! $ done !
 
-  said-filling : (f : Filling) → ent 𝓤 (ensured 𝓛 filling.ended (filling.clauses 𝓛 mem run) (κ', tt) asked tt f) (fact 𝓤 (f ≡ fillingOf j t.now p k n))
-  said-filling f = ex_e 𝓤 _ (λ zs. snd∗ 𝓤 (sem 𝓛 (lasts filling.ended (κ', tt) asked zs)) (fact 𝓤 (f ≡ fillingOf j t.now p k n)))
+  said-filling : (f : Filling) → ent 𝓤 (ensured 𝓛 filling.ended (filling.clauses 𝓛 mem run) (κ', tt) asked tt f) (fact 𝓤 (f ≡ filling_of j t.now p k n))
+  said-filling f = ex_e 𝓤 _ (λ zs. snd∗ 𝓤 (sem 𝓛 (lasts filling.ended (κ', tt) asked zs)) (fact 𝓤 (f ≡ filling_of j t.now p k n)))
 
   -- the call of `fill`, with the number and the watch of a filling
   abbrev fills : Filling → Bor (List Watch) × (ℕ × (Watch × Unit {0}))
@@ -139,7 +139,7 @@ module _ {M : Type 1} {𝓤 : Ura M} (𝓛 : Logic 𝓤) (mem : Memory → SProp
   to_fill f = (((κ, tt), (q, tt), tt, fills f, (s ∷ [], (vint w64 f.upto ∷ [], (low f.watch ∷ [], tt)))), tt)
 
   -- what `fill` requires: no more watches are filled than the desk has
-  inside : (f : Filling) → f ≡ fillingOf j t.now p k n → f.upto ≤ n
+  inside : (f : Filling) → f ≡ filling_of j t.now p k n → f.upto ≤ n
   inside f e = subst (λ (g : Filling). g.upto ≤ n) (sym e) (upto-in j t.now p k n)
 
   goes-fill : (f : Filling) → f.upto ≤ n → f.upto < 2 ^ 64 → Is T.the_row f.watch (low f.watch ∷ []) → ent 𝓤 (⋆ 𝓛 (‵ (flft κ q) ∷ ‵ ((MutSlice (named 0) κ T.the_row).own_val x (s ∷ [])) ∷ [])) ((Fill 𝓛 mem run).pre (to_fill f))
@@ -148,7 +148,7 @@ module _ {M : Type 1} {𝓤 : Ura M} (𝓛 : Logic 𝓤) (mem : Memory → SProp
       nothing ! $ owned ! T.the_row (Is T.the_row) (LL.makes T.the_type T'.the_plain 𝓛) f.watch _ is $ fjoin ! $ owned ! usize (Is usize) (uint_Makes 𝓛 w64) f.upto _ (refl, g) $ fjoin ! $
       move ! (2 ∷ 0 ∷ []) $ fjoin ! $ nothing ! $ move ! (2 ∷ 0 ∷ []) $ join ! $ frame ! $ done !
 
-  exits : (f : Filling) → Is S.the_row f.answer (EL.val S.the_type S'.the_laws f.answer ∷ []) → f ≡ fillingOf j t.now p k n → (l : List Watch) → l ≡ filled f.watch ys f.upto → length l ≡ n
+  exits : (f : Filling) → Is S.the_row f.answer (EL.val S.the_type S'.the_laws f.answer ∷ []) → f ≡ filling_of j t.now p k n → (l : List Watch) → l ≡ filled f.watch ys f.upto → length l ≡ n
       → ent 𝓤 (⋆ 𝓛 ((‵ (flft κ q) ⊛ ‵ ftrue) ∷ ‵ (finally T.the_row γ l) ∷ (‵ (flft κ' q') ⊛ ‵ ftrue) ∷ ‵ OwnT ∷ [])) (Post (EL.val S.the_type S'.the_laws f.answer))
   exits f is e l le len =
       qed 𝓛 ((‵ (flft κ q) ⊛ ‵ ftrue) ∷ ‵ (finally T.the_row γ l) ∷ (‵ (flft κ' q') ⊛ ‵ ftrue) ∷ ‵ OwnT ∷ []) ∵
@@ -175,7 +175,7 @@ module _ {M : Type 1} {𝓤 : Ura M} (𝓛 : Logic 𝓤) (mem : Memory → SProp
         -- [the call's; the bytes'; the token of 'd; the desk's; _10; …]
         calls_at ! fm (FillingOf 𝓛 mem run) known-filling to-filling (and_then ! (load ! (from ! (stop !)) (look ! 20 refl)) (and_then ! (load ! (from ! (stop !)) (look ! 18 refl)) (and_then ! (load ! (from ! (stop !)) (look ! 16 refl)) (and_then ! (load ! (from ! (stop !)) (look ! 14 refl)) (and_then ! (load ! (from ! (stop !)) (look ! 10 refl)) (no_more !)))))) (λ u.
         use1 𝓛 (later (some (λ (f : Filling). ((‵ (flft κ' q') ⊛ ‵ ftrue) ⊛ ‵ ((U.the_row).own_val f (u ∷ []))) ⊛ raw (ensured 𝓛 filling.ended (filling.clauses 𝓛 mem run) (κ', tt) asked tt f)))) (id⊢ 𝓤 _) $ await ! tt $ pick ! (λ f.
-        split ! $ move ! (1 ∷ []) $ use1 𝓛 (raw (fact 𝓤 (f ≡ fillingOf j t.now p k n))) (said-filling f) $ heard ! (f ≡ fillingOf j t.now p k n) (λ e. split ! $ move ! (1 ∷ []) $
+        split ! $ move ! (1 ∷ []) $ use1 𝓛 (raw (fact 𝓤 (f ≡ filling_of j t.now p k n))) (said-filling f) $ heard ! (f ≡ filling_of j t.now p k n) (λ e. split ! $ move ! (1 ∷ []) $
         -- [the filling's; the token of 't; the bytes'; the token of 'd; the desk's; _10; …]
         peeks ! U.the_row (Is U.the_row) (shows 𝓛 U.the_row) f (u ∷ []) (λ is.
         land ! (from ! (stop !)) (init ! 13 refl ((LL.lawful U.the_type U'.the_laws 𝓛).typed f _ is).0) $

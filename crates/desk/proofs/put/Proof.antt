@@ -39,7 +39,7 @@ use denote.Triple.Table.{entered}
 use denote.Triple.Walked.{says, Stays, stay_none, stay_slice, walk_of, Goes-none, Goes-slice, Walks, ends_at, walked, walk_Meets}
 use denote.Exit.{yes}
 use Rattle.meaning.specs.declared.Watch.{Watch}
-use Rattle.meaning.specs.Desks.{noWatch}
+use Rattle.meaning.specs.Desks.{no_watch}
 use Rattle.meaning.specs.contracts.Watch as T
 use Rattle.meaning.proofs.Watch.TheLaws as T'
 use Rattle.desk_survey.proofs.Walking.{type_at, scaled}
@@ -110,7 +110,7 @@ module _ {M : Type 1} {𝓤 : Ura M} (𝓛 : Logic 𝓤) (mem : Memory → SProp
         assigns ! (bin ! (load ! (from ! (fld ! refl (stop !))) (look_in ! 12 (sub ! 0 refl (whole !)))) (load ! (from ! (stop !)) (look ! 2 refl)) tt) (from ! (stop !)) (init ! 0 refl (tt, tt)) $
         rewrite ! 0 (λ (p : ℕ). ‵ (fat full_share ty_ptr l₇ 0 (vptr b p))) (sym (place_is 48 o i)) refl $
         move ! (17 ∷ []) $ fsplit ! $ fsplit ! $ move ! (1 ∷ []) $ fsplit ! $ move ! (20 ∷ []) $ split ! $ move ! (2 ∷ 3 ∷ 0 ∷ []) $
-        opens_slice ! tt T.the_row ys b o $ elem_out ! T.the_row (Is T.the_row) (shows 𝓛 T.the_row) (LL.vals T.the_type T'.the_laws) (LL.tells T.the_type T'.the_laws) full_share ys i noWatch b o l (λ g.
+        opens_slice ! tt T.the_row ys b o $ elem_out ! T.the_row (Is T.the_row) (shows 𝓛 T.the_row) (LL.vals T.the_type T'.the_laws) (LL.tells T.the_type T'.the_laws) full_share ys i no_watch b o l (λ g.
         -- [desk[number]; what it owns; the others; the open borrow; obs; auth; true; desk's fact; number's and watch's; _7; …]
         assigns_last ! (of_opd ! (load ! (from ! (stop !)) (look ! 17 refl))) (from ! (hop ! (look ! 9 refl) (stop !))) (store_raw ! 0 refl ((LL.lawful T.the_type T'.the_laws 𝓛).typed w _ is).0) $
         exec ! C Λ (En l₀ l₁ l₂ l₃ l₄ l₅ l₆ l₇) body.t-4 (at_ret (En l₀ l₁ l₂ l₃ l₄ l₅ l₆ l₇) Post) $

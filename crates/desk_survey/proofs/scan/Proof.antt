@@ -45,11 +45,11 @@ use denote.Triple.Walked.{says, needs, Stays, stay_none, stay_none_slice, walk_o
 use denote.Exit.{yes}
 use denote.Triple.Clauses.{ensured, lasts}
 use Rattle.meaning.specs.declared.Watch.{Watch}
-use Rattle.meaning.specs.Desks.{noWatch, watchAt}
+use Rattle.meaning.specs.Desks.{no_watch, watch_at}
 use Rattle.meaning.specs.contracts.Watch as T
 use Rattle.meaning.proofs.Watch.TheLaws as T'
 use Rattle.desk_tasks.specs.declared.Task.{Task}
-use Rattle.desk_tasks.specs.Tasks.{look_of, passOver}
+use Rattle.desk_tasks.specs.Tasks.{look_of, pass_over}
 use Rattle.desk_tasks.specs.contracts.Task as U
 use Rattle.desk_tasks.proofs.Task.TheLaws as U'
 use Rattle.desk_tasks.specs.contracts.look as inner
@@ -76,13 +76,13 @@ low s = LL.val U.the_type U'.the_laws s
 
 -- ---- a look passes from the watches below i to those below i - 1, and below 0 there is none
 module _ (ys : List Watch) (s : Task) (i : ℕ) where
-  pass_on : (k : ℕ) → i ≡ suc k → (r : Task) → r ≡ look_of s (watchAt ys k) k → passOver ys k r ≡ passOver ys i s
-  unfolding passOver
-  pass_on k e r re = ap (λ (x : Task). passOver ys k x) re ∙ ap (λ (j : ℕ). passOver ys j s) (sym e)
+  pass_on : (k : ℕ) → i ≡ suc k → (r : Task) → r ≡ look_of s (watch_at ys k) k → pass_over ys k r ≡ pass_over ys i s
+  unfolding pass_over
+  pass_on k e r re = ap (λ (x : Task). pass_over ys k x) re ∙ ap (λ (j : ℕ). pass_over ys j s) (sym e)
 
-  pass-end : i ≡ 0 → s ≡ passOver ys i s
-  unfolding passOver
-  pass-end e = ap (λ (j : ℕ). passOver ys j s) (sym e)
+  pass-end : i ≡ 0 → s ≡ pass_over ys i s
+  unfolding pass_over
+  pass-end e = ap (λ (j : ℕ). pass_over ys j s) (sym e)
 
 module _ {M : Type 1} {𝓤 : Ura M} (𝓛 : Logic 𝓤) (mem : Memory → SProp 𝓤) (run : Routine → Fun 𝓤) where
   -- the contract that the proof cites
@@ -122,7 +122,7 @@ module _ {M : Type 1} {𝓤 : Ura M} (𝓛 : Logic 𝓤) (mem : Memory → SProp
     i : ℕ
     is-s : Is U.the_row s (low s ∷ [])
     inside : i ≤ n
-    same : passOver ys i s ≡ passOver ys task.upto task
+    same : pass_over ys i s ≡ pass_over ys task.upto task
 
   abbrev Nearer : St → St → Type 0
   Nearer x z = x.i < z.i
@@ -130,7 +130,7 @@ module _ {M : Type 1} {𝓤 : Ura M} (𝓛 : Logic 𝓤) (mem : Memory → SProp
   Nearer-wf : WellFounded Nearer
   Nearer-wf = InvImage.wf (λ (x : St). x.i) lt-wf_rel.wf
 
-  exits : (r : Task) → Is U.the_row r (low r ∷ []) → r ≡ passOver ys task.upto task → ent 𝓤 (⋆ 𝓛 (‵ (flft κ q) ∷ ‵ Own ∷ [])) (Post (low r))
+  exits : (r : Task) → Is U.the_row r (low r ∷ []) → r ≡ pass_over ys task.upto task → ent 𝓤 (⋆ 𝓛 (‵ (flft κ q) ∷ ‵ Own ∷ [])) (Post (low r))
   exits r g e =
       qed 𝓛 (‵ (flft κ q) ∷ ‵ Own ∷ []) ∵
       suffices ! _ (ends_at 𝓛 outer.ended stayed (outer.clauses 𝓛 mem run) y (low r) r (tt, (tt, tt)) (tt, (tt, tt))) $ says ! e $
@@ -140,22 +140,22 @@ module _ {M : Type 1} {𝓤 : Ura M} (𝓛 : Logic 𝓤) (mem : Memory → SProp
 
   -- the call of `look` at a task and the watch k
   abbrev low-at : ℕ → Val
-  low-at k = LL.val T.the_type T'.the_laws (watchAt ys k)
+  low-at k = LL.val T.the_type T'.the_laws (watch_at ys k)
 
   abbrev to-look : Task → ℕ → (Inner 𝓛 mem run).Ghost
-  to-look s k = ((tt, tt, tt, (s, (watchAt ys k, (k, tt))), (low s ∷ [], (low-at k ∷ [], (vint w64 k ∷ [], tt)))), tt)
+  to-look s k = ((tt, tt, tt, (s, (watch_at ys k, (k, tt))), (low s ∷ [], (low-at k ∷ [], (vint w64 k ∷ [], tt)))), tt)
 
   abbrev asks-look : Task → ℕ → Fml
-  asks-look s k = owns (U.the_row ∷ T.the_row ∷ usize ∷ []) (s, (watchAt ys k, (k, tt))) (low s ∷ [], (low-at k ∷ [], (vint w64 k ∷ [], tt)))
+  asks-look s k = owns (U.the_row ∷ T.the_row ∷ usize ∷ []) (s, (watch_at ys k, (k, tt))) (low s ∷ [], (low-at k ∷ [], (vint w64 k ∷ [], tt)))
 
   goes-look : (s : Task) (k : ℕ) → ent 𝓤 (⋆ 𝓛 (‵ ftrue ∷ ‵ (asks-look s k) ∷ [])) ((Inner 𝓛 mem run).pre (to-look s k))
   goes-look s k = qed 𝓛 (‵ ftrue ∷ ‵ (asks-look s k) ∷ []) ∵ join ! $ frame ! $ done !
 
-  said-look : (s : Task) (k : ℕ) (r : Task) → ent 𝓤 (ensured 𝓛 inner.ended (inner.clauses 𝓛 mem run) tt (s, (watchAt ys k, (k, tt))) tt r) (fact 𝓤 (r ≡ look_of s (watchAt ys k) k))
-  said-look s k r = ex_e 𝓤 _ (λ zs. snd∗ 𝓤 (sem 𝓛 (lasts inner.ended tt (s, (watchAt ys k, (k, tt))) zs)) (fact 𝓤 (r ≡ look_of s (watchAt ys k) k)))
+  said-look : (s : Task) (k : ℕ) (r : Task) → ent 𝓤 (ensured 𝓛 inner.ended (inner.clauses 𝓛 mem run) tt (s, (watch_at ys k, (k, tt))) tt r) (fact 𝓤 (r ≡ look_of s (watch_at ys k) k))
+  said-look s k r = ex_e 𝓤 _ (λ zs. snd∗ 𝓤 (sem 𝓛 (lasts inner.ended tt (s, (watch_at ys k, (k, tt))) zs)) (fact 𝓤 (r ≡ look_of s (watch_at ys k) k)))
 
   -- what is known after a turn
-  abbrev onward : (x : St) (k : ℕ) → x.i ≡ suc k → (r : Task) → r ≡ look_of x.s (watchAt ys k) k → Is U.the_row r (low r ∷ []) → St
+  abbrev onward : (x : St) (k : ℕ) → x.i ≡ suc k → (r : Task) → r ≡ look_of x.s (watch_at ys k) k → Is U.the_row r (low r ∷ []) → St
   onward x k e r re g = record { s = r; i = k; is-s = g; inside = omega (arith, e, x.inside); same = pass_on ys x.s x.i k e r re ∙ x.same }
 
   start : St
@@ -219,19 +219,19 @@ module _ {M : Type 1} {𝓤 : Ura M} (𝓛 : Logic 𝓤) (mem : Memory → SProp
         fsplit ! $ move ! (1 ∷ []) $ fsplit ! $ move ! (1 ∷ 22 ∷ 3 ∷ []) $
         -- [the fractured borrow; the token; what desk owns; res; the copy's fact; _8; …]
         looks_slice ! tt T.the_row (Is T.the_row) (shows 𝓛 T.the_row) (LL.vals T.the_type T'.the_laws) (LL.tells T.the_type T'.the_laws) (LL.copy T.the_type T'.the_copy 𝓛) ys b o (λ q'.
-        elem_out ! T.the_row (Is T.the_row) (shows 𝓛 T.the_row) (LL.vals T.the_type T'.the_laws) (LL.tells T.the_type T'.the_laws) q' ys k noWatch b o l (λ g.
+        elem_out ! T.the_row (Is T.the_row) (shows 𝓛 T.the_row) (LL.vals T.the_type T'.the_laws) (LL.tells T.the_type T'.the_laws) q' ys k no_watch b o l (λ g.
         -- [desk[i]; what it owns; the others; what shuts; the fractured borrow; what desk owns; res; the copy's fact; _8; …]
-        assigns ! (of_opd ! (load ! (from ! (hop ! (look ! 10 refl) (stop !))) (look_raw ! 0 refl))) (from ! (stop !)) (init ! 8 refl ((LL.lawful T.the_type T'.the_laws 𝓛).typed (watchAt ys k) _ g).0) $
-        elem_back ! T.the_row q' ys k noWatch (LL.vals T.the_type T'.the_laws (watchAt ys k)) b o l $ shuts_slice ! tt T.the_row q' ys b o $
+        assigns ! (of_opd ! (load ! (from ! (hop ! (look ! 10 refl) (stop !))) (look_raw ! 0 refl))) (from ! (stop !)) (init ! 8 refl ((LL.lawful T.the_type T'.the_laws 𝓛).typed (watch_at ys k) _ g).0) $
+        elem_back ! T.the_row q' ys k no_watch (LL.vals T.the_type T'.the_laws (watch_at ys k)) b o l $ shuts_slice ! tt T.the_row q' ys b o $
         -- [the token; the fractured borrow; what desk owns; res; the copy's fact; _8; …]
         move ! (1 ∷ 3 ∷ 4 ∷ []) $ drop ! $ drop ! $ drop ! $
-        nothing ! $ owned ! usize (Is usize) (uint_Makes 𝓛 w64) k _ (refl, k-fits) $ fjoin ! $ owned ! T.the_row (Is T.the_row) (LL.makes T.the_type T'.the_plain 𝓛) (watchAt ys k) _ g $ fjoin ! $
+        nothing ! $ owned ! usize (Is usize) (uint_Makes 𝓛 w64) k _ (refl, k-fits) $ fjoin ! $ owned ! T.the_row (Is T.the_row) (LL.makes T.the_type T'.the_plain 𝓛) (watch_at ys k) _ g $ fjoin ! $
         owned ! U.the_row (Is U.the_row) (LL.makes U.the_type U'.the_plain 𝓛) x.s _ x.is-s $ fjoin ! $
         nothing ! $ use2 𝓛 (raw ((Inner 𝓛 mem run).pre (to-look x.s k))) (goes-look x.s k) $
         -- [the call's; the token; what desk owns; _8; …]
         calls_at_last ! fm (Inner 𝓛 mem run) known (to-look x.s k) (and_then ! (load ! (from ! (stop !)) (look ! 13 refl)) (and_then ! (load ! (from ! (stop !)) (look ! 3 refl)) (and_then ! (load ! (from ! (stop !)) (look ! 11 refl)) (no_more !)))) (λ w.
-        use1 𝓛 (later (some (λ (r : Task). (‵ ftrue ⊛ ‵ ((U.the_row).own_val r (w ∷ []))) ⊛ raw (ensured 𝓛 inner.ended (inner.clauses 𝓛 mem run) tt (x.s, (watchAt ys k, (k, tt))) tt r)))) (id⊢ 𝓤 _) $ await ! tt $ pick ! (λ r.
-        split ! $ move ! (1 ∷ []) $ use1 𝓛 (raw (fact 𝓤 (r ≡ look_of x.s (watchAt ys k) k))) (said-look x.s k r) $ heard ! (r ≡ look_of x.s (watchAt ys k) k) (λ re. split ! $ drop ! $
+        use1 𝓛 (later (some (λ (r : Task). (‵ ftrue ⊛ ‵ ((U.the_row).own_val r (w ∷ []))) ⊛ raw (ensured 𝓛 inner.ended (inner.clauses 𝓛 mem run) tt (x.s, (watch_at ys k, (k, tt))) tt r)))) (id⊢ 𝓤 _) $ await ! tt $ pick ! (λ r.
+        split ! $ move ! (1 ∷ []) $ use1 𝓛 (raw (fact 𝓤 (r ≡ look_of x.s (watch_at ys k) k))) (said-look x.s k r) $ heard ! (r ≡ look_of x.s (watch_at ys k) k) (λ re. split ! $ drop ! $
         -- [what the task owns; the token; what desk owns; _8; …]
         peeks ! U.the_row (Is U.the_row) (shows 𝓛 U.the_row) r (w ∷ []) (λ is.
         land_last ! (from ! (stop !)) (store ! 13 refl ((LL.lawful U.the_type U'.the_laws 𝓛).typed r _ is).0) $

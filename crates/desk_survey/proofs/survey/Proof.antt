@@ -39,13 +39,13 @@ use denote.Triple.Walked.{says, Stays, stay_none, stay_none_slice, walk_of, Goes
 use denote.Exit.{yes}
 use denote.Triple.Clauses.{ensured, lasts}
 use Rattle.meaning.specs.declared.Watch.{Watch}
-use Rattle.meaning.specs.Desks.{watchAt}
+use Rattle.meaning.specs.Desks.{watch_at}
 use Rattle.meaning.specs.contracts.Watch as T
 use Rattle.meaning.proofs.Watch.TheLaws as T'
 use Rattle.desk_tasks.specs.declared.Request.{Request}
 use Rattle.desk_tasks.specs.declared.Task.{Task}
 use Rattle.desk_tasks.specs.declared.Service.{Service}
-use Rattle.desk_tasks.specs.Tasks.{Begun, passOver, wantedOf, decidedOf}
+use Rattle.desk_tasks.specs.Tasks.{Begun, pass_over, wanted_of, decided_of}
 use Rattle.desk_tasks.specs.Surveys.{Surveyed}
 use Rattle.desk_tasks.proofs.Surveys.{begun-upto, surveyed}
 use Rattle.desk_tasks.specs.contracts.Request as Q
@@ -106,8 +106,8 @@ module _ {M : Type 1} {𝓤 : Ura M} (𝓛 : Logic 𝓤) (mem : Memory → SProp
   goes-wanted : (s : Task) (u : Val) → ent 𝓤 (⋆ 𝓛 (‵ ftrue ∷ ‵ (owns (U.the_row ∷ []) (s, tt) (u ∷ [], tt)) ∷ [])) (Wanted.pre (to-wanted s u))
   goes-wanted s u = qed 𝓛 (‵ ftrue ∷ ‵ (owns (U.the_row ∷ []) (s, tt) (u ∷ [], tt)) ∷ []) ∵ join ! $ frame ! $ done !
 
-  said-wanted : (s : Task) (i : ℕ) → ent 𝓤 (ensured 𝓛 wanted.ended (wanted.clauses 𝓛 mem run) tt (s, tt) tt i) (fact 𝓤 (i ≡ wantedOf s))
-  said-wanted s i = ex_e 𝓤 _ (λ zs. snd∗ 𝓤 (sem 𝓛 (lasts wanted.ended tt (s, tt) zs)) (fact 𝓤 (i ≡ wantedOf s)))
+  said-wanted : (s : Task) (i : ℕ) → ent 𝓤 (ensured 𝓛 wanted.ended (wanted.clauses 𝓛 mem run) tt (s, tt) tt i) (fact 𝓤 (i ≡ wanted_of s))
+  said-wanted s i = ex_e 𝓤 _ (λ zs. snd∗ 𝓤 (sem 𝓛 (lasts wanted.ended tt (s, tt) zs)) (fact 𝓤 (i ≡ wanted_of s)))
 
 module _ {M : Type 1} {𝓤 : Ura M} (𝓛 : Logic 𝓤) (mem : Memory → SProp 𝓤) (run : Routine → Fun 𝓤) (κ κ' : Lft) (q q' : Share) (bounds : AllOutlive 2 (outer.signature).outlives (κ, (κ', tt)))
     (d : Bor (List Watch)) (t : Bor (List ℕ)) (m k : ℕ) (rq : Request) (m-fits : m < 2 ^ 8) (k-fits : k < 2 ^ 16) (is-rq : Is Q.the_row rq (EL.val Q.the_type Q'.the_laws rq ∷ [])) where
@@ -177,8 +177,8 @@ module _ {M : Type 1} {𝓤 : Ura M} (𝓛 : Logic 𝓤) (mem : Memory → SProp
   goes-scan : (s₀ : Task) (u : Val) → s₀.upto ≤ n → ent 𝓤 (⋆ 𝓛 (‵ (flft κ q) ∷ ‵ (asks-scan s₀ u) ∷ [])) ((Scan 𝓛 mem run).pre (to-scan s₀ u))
   goes-scan s₀ u l = qed 𝓛 (‵ (flft κ q) ∷ ‵ (asks-scan s₀ u) ∷ []) ∵ says ! l $ nothing ! $ move ! (1 ∷ 0 ∷ []) $ join ! $ frame ! $ done !
 
-  said-scan : (s₀ s : Task) → ent 𝓤 (ensured 𝓛 scan.ended (scan.clauses 𝓛 mem run) (κ, tt) (d, (s₀, tt)) tt s) (fact 𝓤 (s ≡ passOver d.now s₀.upto s₀))
-  said-scan s₀ s = ex_e 𝓤 _ (λ zs. snd∗ 𝓤 (sem 𝓛 (lasts scan.ended (κ, tt) (d, (s₀, tt)) zs)) (fact 𝓤 (s ≡ passOver d.now s₀.upto s₀)))
+  said-scan : (s₀ s : Task) → ent 𝓤 (ensured 𝓛 scan.ended (scan.clauses 𝓛 mem run) (κ, tt) (d, (s₀, tt)) tt s) (fact 𝓤 (s ≡ pass_over d.now s₀.upto s₀))
+  said-scan s₀ s = ex_e 𝓤 _ (λ zs. snd∗ 𝓤 (sem 𝓛 (lasts scan.ended (κ, tt) (d, (s₀, tt)) zs)) (fact 𝓤 (s ≡ pass_over d.now s₀.upto s₀)))
 
   -- the call of `watch_at`
   abbrev to-watch : ℕ → Val → (WatchAt 𝓛 mem run).Ghost
@@ -190,8 +190,8 @@ module _ {M : Type 1} {𝓤 : Ura M} (𝓛 : Logic 𝓤) (mem : Memory → SProp
   goes-watch : (i : ℕ) (u : Val) → ent 𝓤 (⋆ 𝓛 (‵ (flft κ q) ∷ ‵ (asks-watch i u) ∷ [])) ((WatchAt 𝓛 mem run).pre (to-watch i u))
   goes-watch i u = qed 𝓛 (‵ (flft κ q) ∷ ‵ (asks-watch i u) ∷ []) ∵ nothing ! $ move ! (1 ∷ 0 ∷ []) $ join ! $ join ! $ frame ! $ done !
 
-  said-watch : (i : ℕ) (w : Watch) → ent 𝓤 (ensured 𝓛 watch.ended (watch.clauses 𝓛 mem run) (κ, tt) (d, (i, tt)) tt w) (fact 𝓤 (w ≡ watchAt d.now i))
-  said-watch i w = ex_e 𝓤 _ (λ zs. snd∗ 𝓤 (sem 𝓛 (lasts watch.ended (κ, tt) (d, (i, tt)) zs)) (fact 𝓤 (w ≡ watchAt d.now i)))
+  said-watch : (i : ℕ) (w : Watch) → ent 𝓤 (ensured 𝓛 watch.ended (watch.clauses 𝓛 mem run) (κ, tt) (d, (i, tt)) tt w) (fact 𝓤 (w ≡ watch_at d.now i))
+  said-watch i w = ex_e 𝓤 _ (λ zs. snd∗ 𝓤 (sem 𝓛 (lasts watch.ended (κ, tt) (d, (i, tt)) zs)) (fact 𝓤 (w ≡ watch_at d.now i)))
 
   -- the call of `decide`
   abbrev to-decide : Task → Val → Watch → Val → (Decide 𝓛 mem run).Ghost
@@ -203,8 +203,8 @@ module _ {M : Type 1} {𝓤 : Ura M} (𝓛 : Logic 𝓤) (mem : Memory → SProp
   goes-decide : (s : Task) (u : Val) (w : Watch) (u' : Val) → ent 𝓤 (⋆ 𝓛 (‵ (flft κ' q') ∷ ‵ (asks-decide s u w u') ∷ [])) ((Decide 𝓛 mem run).pre (to-decide s u w u'))
   goes-decide s u w u' = qed 𝓛 (‵ (flft κ' q') ∷ ‵ (asks-decide s u w u') ∷ []) ∵ nothing ! $ move ! (1 ∷ 0 ∷ []) $ join ! $ join ! $ frame ! $ done !
 
-  said-decide : (s : Task) (w : Watch) (r : Service) → ent 𝓤 (ensured 𝓛 decide.ended (decide.clauses 𝓛 mem run) (κ', tt) (t, (s, (w, tt))) tt r) (fact 𝓤 (r ≡ decidedOf t.now s w))
-  said-decide s w r = ex_e 𝓤 _ (λ zs. snd∗ 𝓤 (sem 𝓛 (lasts decide.ended (κ', tt) (t, (s, (w, tt))) zs)) (fact 𝓤 (r ≡ decidedOf t.now s w)))
+  said-decide : (s : Task) (w : Watch) (r : Service) → ent 𝓤 (ensured 𝓛 decide.ended (decide.clauses 𝓛 mem run) (κ', tt) (t, (s, (w, tt))) tt r) (fact 𝓤 (r ≡ decided_of t.now s w))
+  said-decide s w r = ex_e 𝓤 _ (λ zs. snd∗ 𝓤 (sem 𝓛 (lasts decide.ended (κ', tt) (t, (s, (w, tt))) zs)) (fact 𝓤 (r ≡ decided_of t.now s w)))
 
   module _ (C : Calls 𝓤 H) (Λ : Loops 𝓤 H) (fm : FmC 𝓤 H 𝓛.laws C) (known-begin : Triple 𝓤 (C #desk-tasks·begin) (Begin 𝓛 mem run)) (known-scan : Triple 𝓤 (C #desk-survey·scan) (Scan 𝓛 mem run))
       (known-wanted : Triple 𝓤 (C #desk-tasks·wanted) (Wanted 𝓛 mem run)) (known-watch : Triple 𝓤 (C #desk-survey·watch-at) (WatchAt 𝓛 mem run)) (known-decide : Triple 𝓤 (C #desk-tasks·decide) (Decide 𝓛 mem run)) where
@@ -235,7 +235,7 @@ module _ {M : Type 1} {𝓤 : Ura M} (𝓛 : Logic 𝓤) (mem : Memory → SProp
         -- [the call's; what desk owns; the token of 't; what t owns; _9; …]
         calls_at ! fm (Scan 𝓛 mem run) known-scan (to-scan s₀ u₀) (and_then ! (load ! (from ! (stop !)) (look ! 20 refl)) (and_then ! (load ! (from ! (stop !)) (look ! 6 refl)) (no_more !))) (λ u₁.
         use1 𝓛 (later (some (λ (s : Task). ((‵ (flft κ q) ⊛ ‵ ftrue) ⊛ ‵ ((U.the_row).own_val s (u₁ ∷ []))) ⊛ raw (ensured 𝓛 scan.ended (scan.clauses 𝓛 mem run) (κ, tt) (d, (s₀, tt)) tt s)))) (id⊢ 𝓤 _) $ await ! tt $ pick ! (λ s.
-        split ! $ move ! (1 ∷ []) $ use1 𝓛 (raw (fact 𝓤 (s ≡ passOver d.now s₀.upto s₀))) (said-scan s₀ s) $ heard ! (s ≡ passOver d.now s₀.upto s₀) (λ pass. split ! $ split ! $ move ! (1 ∷ []) $ drop ! $ move ! (1 ∷ []) $
+        split ! $ move ! (1 ∷ []) $ use1 𝓛 (raw (fact 𝓤 (s ≡ pass_over d.now s₀.upto s₀))) (said-scan s₀ s) $ heard ! (s ≡ pass_over d.now s₀.upto s₀) (λ pass. split ! $ split ! $ move ! (1 ∷ []) $ drop ! $ move ! (1 ∷ []) $
         -- [what the task owns; the token of 'd; what desk owns; the token of 't; what t owns; _9; …]
         peeks ! U.the_row (Is U.the_row) (shows 𝓛 U.the_row) s (u₁ ∷ []) (λ is₁.
         land ! (from ! (stop !)) (init ! 11 refl ((LL.lawful U.the_type U'.the_laws 𝓛).typed s _ is₁).0) $
@@ -243,7 +243,7 @@ module _ {M : Type 1} {𝓤 : Ura M} (𝓛 : Logic 𝓤) (mem : Memory → SProp
         -- [the call's; the token of 'd; what desk owns; the token of 't; what t owns; _9; …]
         calls_at ! fm (Wanted 𝓛 mem run) known-wanted (to-wanted 𝓛 mem run s u₁) (and_then ! (load ! (from ! (stop !)) (look ! 11 refl)) (no_more !)) (λ u₂.
         use1 𝓛 (later (some (λ (i : ℕ). (‵ ftrue ⊛ ‵ (usize.own_val i (u₂ ∷ []))) ⊛ raw (ensured 𝓛 wanted.ended (wanted.clauses 𝓛 mem run) tt (s, tt) tt i)))) (id⊢ 𝓤 _) $ await ! tt $ pick ! (λ i.
-        split ! $ move ! (1 ∷ []) $ use1 𝓛 (raw (fact 𝓤 (i ≡ wantedOf s))) (said-wanted 𝓛 mem run s i) $ heard ! (i ≡ wantedOf s) (λ number. split ! $ drop ! $
+        split ! $ move ! (1 ∷ []) $ use1 𝓛 (raw (fact 𝓤 (i ≡ wanted_of s))) (said-wanted 𝓛 mem run s i) $ heard ! (i ≡ wanted_of s) (λ number. split ! $ drop ! $
         -- [the number's; the token of 'd; what desk owns; the token of 't; what t owns; _9; …]
         peeks ! usize (Is usize) (shows 𝓛 usize) i (u₂ ∷ []) (λ is₂.
         land ! (from ! (stop !)) (store ! 5 refl ((uint_Lawful 𝓛 w64).typed i _ is₂).0) $
@@ -252,7 +252,7 @@ module _ {M : Type 1} {𝓤 : Ura M} (𝓛 : Logic 𝓤) (mem : Memory → SProp
         -- [the call's; what desk owns; the token of 't; what t owns; _9; …]
         calls_at ! fm (WatchAt 𝓛 mem run) known-watch (to-watch i u₂) (and_then ! (load ! (from ! (stop !)) (look ! 20 refl)) (and_then ! (load ! (from ! (stop !)) (look ! 4 refl)) (no_more !))) (λ u₃.
         use1 𝓛 (later (some (λ (w : Watch). ((‵ (flft κ q) ⊛ ‵ ftrue) ⊛ ‵ ((T.the_row).own_val w (u₃ ∷ []))) ⊛ raw (ensured 𝓛 watch.ended (watch.clauses 𝓛 mem run) (κ, tt) (d, (i, tt)) tt w)))) (id⊢ 𝓤 _) $ await ! tt $ pick ! (λ w.
-        split ! $ move ! (1 ∷ []) $ use1 𝓛 (raw (fact 𝓤 (w ≡ watchAt d.now i))) (said-watch i w) $ heard ! (w ≡ watchAt d.now i) (λ found. split ! $ split ! $ move ! (1 ∷ []) $ drop ! $ move ! (1 ∷ []) $
+        split ! $ move ! (1 ∷ []) $ use1 𝓛 (raw (fact 𝓤 (w ≡ watch_at d.now i))) (said-watch i w) $ heard ! (w ≡ watch_at d.now i) (λ found. split ! $ split ! $ move ! (1 ∷ []) $ drop ! $ move ! (1 ∷ []) $
         -- [what the watch owns; the token of 'd; what desk owns; the token of 't; what t owns; _9; …]
         peeks ! T.the_row (Is T.the_row) (shows 𝓛 T.the_row) w (u₃ ∷ []) (λ is₃.
         land ! (from ! (stop !)) (init ! 9 refl ((LL.lawful T.the_type T'.the_laws 𝓛).typed w _ is₃).0) $
@@ -262,7 +262,7 @@ module _ {M : Type 1} {𝓤 : Ura M} (𝓛 : Logic 𝓤) (mem : Memory → SProp
         -- [the call's; what t owns; the token of 'd; what desk owns; _9; …]
         calls_at ! fm (Decide 𝓛 mem run) known-decide (to-decide s u₁ w u₃) (and_then ! (load ! (from ! (stop !)) (look ! 18 refl)) (and_then ! (load ! (from ! (stop !)) (look ! 10 refl)) (and_then ! (load ! (from ! (stop !)) (look ! 8 refl)) (no_more !)))) (λ u₄.
         use1 𝓛 (later (some (λ (r : Service). ((‵ (flft κ' q') ⊛ ‵ ftrue) ⊛ ‵ ((S.the_row).own_val r (u₄ ∷ []))) ⊛ raw (ensured 𝓛 decide.ended (decide.clauses 𝓛 mem run) (κ', tt) (t, (s, (w, tt))) tt r)))) (id⊢ 𝓤 _) $ await ! tt $ pick ! (λ r.
-        split ! $ move ! (1 ∷ []) $ use1 𝓛 (raw (fact 𝓤 (r ≡ decidedOf t.now s w))) (said-decide s w r) $ heard ! (r ≡ decidedOf t.now s w) (λ decided. split ! $ split ! $ move ! (1 ∷ []) $ drop ! $ move ! (1 ∷ []) $
+        split ! $ move ! (1 ∷ []) $ use1 𝓛 (raw (fact 𝓤 (r ≡ decided_of t.now s w))) (said-decide s w r) $ heard ! (r ≡ decided_of t.now s w) (λ decided. split ! $ split ! $ move ! (1 ∷ []) $ drop ! $ move ! (1 ∷ []) $
         -- [what the service owns; the token of 't; what t owns; the token of 'd; what desk owns; _9; …]
         peeks ! S.the_row (Is S.the_row) (shows 𝓛 S.the_row) r (u₄ ∷ []) (λ is₄.
         land ! (from ! (stop !)) (init ! 23 refl ((LL.lawful S.the_type S'.the_laws 𝓛).typed r _ is₄).0) $

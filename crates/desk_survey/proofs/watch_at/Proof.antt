@@ -39,7 +39,7 @@ use denote.Triple.Walked.{says, Stays, stay_none, stay_none_slice, walk_of, Goes
 use denote.Exit.{yes}
 use denote.Triple.Clauses.{ensured, lasts}
 use Rattle.meaning.specs.declared.Watch.{Watch}
-use Rattle.meaning.specs.Desks.{noWatch, watchAt}
+use Rattle.meaning.specs.Desks.{no_watch, watch_at}
 use Rattle.meaning.specs.contracts.Watch as T
 use Rattle.meaning.proofs.Watch.TheLaws as T'
 use Rattle.watches.specs.contracts.no_watch as outside
@@ -67,8 +67,8 @@ module _ {M : Type 1} {𝓤 : Ura M} (𝓛 : Logic 𝓤) (mem : Memory → SProp
   goes : ent 𝓤 (⋆ 𝓛 (‵ ftrue ∷ ‵ (owns [] tt tt) ∷ [])) (Outside.pre to)
   goes = qed 𝓛 (‵ ftrue ∷ ‵ (owns [] tt tt) ∷ []) ∵ join ! $ frame ! $ done !
 
-  said : (r : Watch) → ent 𝓤 (ensured 𝓛 outside.ended (outside.clauses 𝓛 mem run) tt tt tt r) (fact 𝓤 (r ≡ noWatch))
-  said r = ex_e 𝓤 _ (λ ws. snd∗ 𝓤 (sem 𝓛 (lasts outside.ended tt tt ws)) (fact 𝓤 (r ≡ noWatch)))
+  said : (r : Watch) → ent 𝓤 (ensured 𝓛 outside.ended (outside.clauses 𝓛 mem run) tt tt tt r) (fact 𝓤 (r ≡ no_watch))
+  said r = ex_e 𝓤 _ (λ ws. snd∗ 𝓤 (sem 𝓛 (lasts outside.ended tt tt ws)) (fact 𝓤 (r ≡ no_watch)))
 
 module _ {M : Type 1} {𝓤 : Ura M} (𝓛 : Logic 𝓤) (mem : Memory → SProp 𝓤) (run : Routine → Fun 𝓤) (κ : Lft) (q : Share) (b o : ℕ) (γ : GName) (ys : List Watch) (i : ℕ) (i-fits : i < 2 ^ 64) where
   open 𝓛 use {H}
@@ -87,7 +87,7 @@ module _ {M : Type 1} {𝓤 : Ura M} (𝓛 : Logic 𝓤) (mem : Memory → SProp
   args = (v ∷ [], (vint w64 i ∷ [], tt))
 
   abbrev elem : Watch
-  elem = watchAt ys i
+  elem = watch_at ys i
 
   abbrev y : (walk_of 𝓛 outer.ended stayed (outer.clauses 𝓛 mem run)).Ghost
   y = (((κ, tt), (q, tt), tt, (d, (i, tt)), args), tt)
@@ -133,11 +133,11 @@ module _ {M : Type 1} {𝓤 : Ura M} (𝓛 : Logic 𝓤) (mem : Memory → SProp
         move ! (17 ∷ []) $ fsplit ! $ use1 𝓛 (‵ Own ⊛ ‵ Own) ((shr_slice_copy 𝓛 (named 0) κ T.the_row).twice d (v ∷ [])) $ split ! $
         fsplit ! $ move ! (1 ∷ []) $ fsplit ! $ move ! (21 ∷ []) $ split ! $ move ! (3 ∷ 0 ∷ []) $
         looks_slice ! tt T.the_row (Is T.the_row) (shows 𝓛 T.the_row) (LL.vals T.the_type T'.the_laws) (LL.tells T.the_type T'.the_laws) (LL.copy T.the_type T'.the_copy 𝓛) ys b o (λ q'.
-        elem_out ! T.the_row (Is T.the_row) (shows 𝓛 T.the_row) (LL.vals T.the_type T'.the_laws) (LL.tells T.the_type T'.the_laws) q' ys i noWatch b o l (λ g.
+        elem_out ! T.the_row (Is T.the_row) (shows 𝓛 T.the_row) (LL.vals T.the_type T'.the_laws) (LL.tells T.the_type T'.the_laws) q' ys i no_watch b o l (λ g.
         -- [desk[number]; what it owns; the others; what shuts; the fractured borrow; true; res; the copy's fact; what desk owns; number's; _7; …]
         assigns ! (of_opd ! (load ! (from ! (hop ! (look ! 12 refl) (stop !))) (look_raw ! 0 refl))) (from ! (stop !)) (init ! 10 refl ((LL.lawful T.the_type T'.the_laws 𝓛).typed elem _ g).0) $
         assigns ! (of_opd ! (load ! (from ! (stop !)) (look ! 10 refl))) (from ! (stop !)) (init ! 24 refl ((LL.lawful T.the_type T'.the_laws 𝓛).typed elem _ g).0) $
-        elem_back ! T.the_row q' ys i noWatch (LL.vals T.the_type T'.the_laws elem) b o l $ shuts_slice ! tt T.the_row q' ys b o $
+        elem_back ! T.the_row q' ys i no_watch (LL.vals T.the_type T'.the_laws elem) b o l $ shuts_slice ! tt T.the_row q' ys b o $
         owned ! T.the_row (Is T.the_row) (LL.makes T.the_type T'.the_plain 𝓛) elem _ g $
         -- [what the result owns; the token; the fractured borrow; true; res; the copy's fact; what desk owns; number's; _7; …]
         returns_within ! Post refl (look ! 22 refl) $ forget ! 8 refl $ forget ! 10 refl $ forget ! 12 refl $ forget ! 14 refl $ forget ! 16 refl $ forget ! 18 refl $ forget ! 20 refl $ forget ! 22 refl $
@@ -148,7 +148,7 @@ module _ {M : Type 1} {𝓤 : Ura M} (𝓛 : Logic 𝓤) (mem : Memory → SProp
         nothing ! $ nothing ! $ use2 𝓛 (raw ((Outside 𝓛 mem run).pre (to 𝓛 mem run))) (goes 𝓛 mem run) $
         calls_at ! fm (Outside 𝓛 mem run) known (to 𝓛 mem run) (no_more !) (λ u.
         use1 𝓛 (later (some (λ (r : Watch). (‵ ftrue ⊛ ‵ ((T.the_row).own_val r (u ∷ []))) ⊛ raw (ensured 𝓛 outside.ended (outside.clauses 𝓛 mem run) tt tt tt r)))) (id⊢ 𝓤 _) $ await ! tt $ pick ! (λ r.
-        split ! $ move ! (1 ∷ []) $ use1 𝓛 (raw (fact 𝓤 (r ≡ noWatch))) (said 𝓛 mem run r) $ heard ! (r ≡ noWatch) (λ e. split ! $ drop ! $
+        split ! $ move ! (1 ∷ []) $ use1 𝓛 (raw (fact 𝓤 (r ≡ no_watch))) (said 𝓛 mem run r) $ heard ! (r ≡ no_watch) (λ e. split ! $ drop ! $
         -- [what the result owns; _7; …; the token; what desk and number own]
         peeks ! T.the_row (Is T.the_row) (shows 𝓛 T.the_row) r (u ∷ []) (λ is.
         land ! (from ! (stop !)) (init ! 15 refl ((LL.lawful T.the_type T'.the_laws 𝓛).typed r _ is).0) $
@@ -156,7 +156,7 @@ module _ {M : Type 1} {𝓤 : Ura M} (𝓛 : Logic 𝓤) (mem : Memory → SProp
         move ! (15 ∷ 16 ∷ []) $ free1 ! $ move ! (13 ∷ 14 ∷ []) $ free1 ! $ move ! (11 ∷ 12 ∷ []) $ free1 ! $ move ! (9 ∷ 10 ∷ []) $ free1 ! $
         move ! (7 ∷ 8 ∷ []) $ free1 ! $ move ! (5 ∷ 6 ∷ []) $ free1 ! $ move ! (3 ∷ 4 ∷ []) $ free1 ! $ move ! (1 ∷ 2 ∷ []) $ free1 ! $ free0 ! $
         move ! (1 ∷ []) $ split ! $ move ! (3 ∷ []) $ fsplit ! $
-        keep ! (4 ∷ 2 ∷ 0 ∷ []) $ by ! (exits r u (e ∙ sym (get_or-eq_default ys noWatch (nltb→le i n past)))))))))))))))))
+        keep ! (4 ∷ 2 ∷ 0 ∷ []) $ by ! (exits r u (e ∙ sym (get_or-eq_default ys no_watch (nltb→le i n past)))))))))))))))))
 
 module _ {M : Type 1} {𝓤 : Ura M} (𝓛 : Logic 𝓤) (mem : Memory → SProp 𝓤) (run : Routine → Fun 𝓤) where
   open 𝓛 use {H}

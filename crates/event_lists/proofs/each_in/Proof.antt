@@ -9,12 +9,12 @@ use lib.ListN.{length}
 use Rattle.sequences.specs.Tabulate.{all_below}
 use Rattle.sequences.proofs.Loops.{all-and}
 use Rattle.meaning.specs.Bytes.{bit}
-use Rattle.event_lists.specs.Masks.{inMask}
+use Rattle.event_lists.specs.Masks.{in_mask}
 use Rattle.event_lists.proofs.each_in.Statement.{statement}
 use Rattle.event_lists.proofs.each_in.Tie as tie
 
 abbrev invariant-loop : tie.invariant-loop
-invariant-loop mask events all₀ i₀ all i = (i ≤ length events) × (all ≡ all_below i (inMask mask events))
+invariant-loop mask events all₀ i₀ all i = (i ≤ length events) × (all ≡ all_below i (in_mask mask events))
 
 abbrev decreases-loop : tie.decreases-loop
 decreases-loop mask events all₀ i₀ all i = length events - i
@@ -42,13 +42,13 @@ loop-again c =
     let loop = c.before.before.before.before in
     let a = loop.before.before.args in
     let read = c.can-happen.ensures ∙ ap (λ (e : ℕ). eqb (bit e a.mask) 1) c.before.wide.ensures.0 in
-    (omega arith, ap₂ (λ (x y : Bool). x && y) loop.loop.invariant.1 read ∙ sym (all-and loop.loop.i (inMask a.mask a.events.now)))
+    (omega arith, ap₂ (λ (x y : Bool). x && y) loop.loop.invariant.1 read ∙ sym (all-and loop.loop.i (in_mask a.mask a.events.now)))
 
 returns : tie.Need-returns invariant-loop decreases-loop
 returns c =
     let a = c.before.before.before.args in
     let end : c.before.loop.i ≡ length a.events.now = omega arith in
-    c.before.loop.invariant.1 ∙ ap (λ (n : ℕ). all_below n (inMask a.mask a.events.now)) end
+    c.before.loop.invariant.1 ∙ ap (λ (n : ℕ). all_below n (in_mask a.mask a.events.now)) end
 
 pub each-in-spec : {M : Type 1} → statement M
 each-in-spec =

@@ -8,13 +8,13 @@ use lib.Dec.{eqb}
 use lib.ListN.{length}
 use Rattle.sequences.proofs.Loops.{Missed, missed-none, missed_more, missed-found, missed-end}
 use Rattle.meaning.specs.Bytes.{bit}
-use Rattle.event_lists.specs.Masks.{inMask}
+use Rattle.event_lists.specs.Masks.{in_mask}
 use Rattle.event_lists.proofs.Laws.{none-outside}
 use Rattle.event_lists.proofs.first_bad.Statement.{statement}
 use Rattle.event_lists.proofs.first_bad.Tie as tie
 
 abbrev invariant-loop : tie.invariant-loop
-invariant-loop mask events i₀ i = (i ≤ length events) × Missed i (λ k. not (inMask mask events k))
+invariant-loop mask events i₀ i = (i ≤ length events) × Missed i (λ k. not (in_mask mask events k))
 
 abbrev decreases-loop : tie.decreases-loop
 decreases-loop mask events i₀ i = length events - i

@@ -6,12 +6,12 @@ use Prim.Native.Nat.{◌-◌, ◌≤◌}
 use lib.ListN.{get_or}
 use Rattle.sequences.proofs.Loops.{Filled, filled_none, filled_more, filled-to}
 use Rattle.profile_sets.specs.Arrays.{key_of}
-use Rattle.exploration.specs.Answers.{classBy}
+use Rattle.exploration.specs.Answers.{class_by}
 use Rattle.exploration.proofs.classify.Statement.{statement}
 use Rattle.exploration.proofs.classify.Tie as tie
 
 abbrev invariant-loop : tie.invariant-loop
-invariant-loop keys count full classes₀ s₀ classes s = (s ≤ count) × Filled s (λ s. classBy (key_of full) (key_of (get_or keys s []))) classes₀ classes
+invariant-loop keys count full classes₀ s₀ classes s = (s ≤ count) × Filled s (λ s. class_by (key_of full) (key_of (get_or keys s []))) classes₀ classes
 
 abbrev decreases-loop : tie.decreases-loop
 decreases-loop keys count full classes₀ s₀ classes s = count - s

@@ -6,13 +6,13 @@ use mathlib.Core.List.{List, []}
 use Prim.Native.Nat.{ℕ, ◌+◌, ◌-◌}
 use lib.ListN.{get_or}
 use Rattle.meaning.specs.Traces.{masked}
-use Rattle.profile_sets.specs.Arrays.{setIn, tablesBy, key_of}
+use Rattle.profile_sets.specs.Arrays.{set_in, tables_by, key_of}
 use Rattle.profile_sets.proofs.Tables.{labels-few, fewer-events}
 use Rattle.walk.specs.Explore.{Explored}
-use Rattle.key_slots.specs.Arrays.{keysIn}
+use Rattle.key_slots.specs.Arrays.{keys_in}
 use Rattle.key_slots.specs.Answers.{Beyond, Within}
-use Rattle.exploration.specs.Rows.{rowIn}
-use Rattle.exploration.specs.Answers.{visitKey, expandKey}
+use Rattle.exploration.specs.Rows.{row_in}
+use Rattle.exploration.specs.Answers.{visit_key, expand_key}
 use Rattle.exploration.proofs.Explored.{held-row}
 use Rattle.exploration.proofs.Steps.{visits-at, Expanding, expanding-none, expanding-more, expanding-over, expanding-all}
 use Rattle.exploration.proofs.expand.Statement.{statement}
@@ -20,7 +20,7 @@ use Rattle.exploration.proofs.expand.Tie as tie
 
 abbrev invariant-loop : tie.invariant-loop
 invariant-loop profiles full n events mask keys₀ slots₀ count from row₀ held met₀ e₀ keys slots row met e =
-    Expanding (tablesBy n profiles (key_of full)) (masked events mask) (expandKey (tablesBy n profiles (key_of full)) (masked events mask) (setIn held) (keysIn count keys₀)) (setIn held)
+    Expanding (tables_by n profiles (key_of full)) (masked events mask) (expand_key (tables_by n profiles (key_of full)) (masked events mask) (set_in held) (keys_in count keys₀)) (set_in held)
     e met keys slots row
 
 abbrev decreases-loop : tie.decreases-loop
@@ -42,7 +42,7 @@ loop-holds : tie.Need-loop-init invariant-loop decreases-loop
 loop-holds c =
     let start = c.before.before.before in
     let a = start.args in
-    expanding-none (tablesBy a.n a.profiles.now (key_of a.full.now)) (masked a.events a.mask) (setIn c.spread.result) start.requires.1.1 start.requires.1.2 start.requires.1.3
+    expanding-none (tables_by a.n a.profiles.now (key_of a.full.now)) (masked a.events a.mask) (set_in c.spread.result) start.requires.1.1 start.requires.1.2 start.requires.1.3
 
 visit-requires : tie.Need-visit-requires invariant-loop decreases-loop
 visit-requires c κs =
@@ -64,9 +64,9 @@ returns c =
     let start = at-loop.before.before.before.before in
     let a = start.args in
     let visit = c.before.before.visit in
-    let row = held-row a.mask (key_of (get_or a.keys.now a.from [])) start.requires.0 at-loop.before.spread.ensures (keysIn a.count a.keys.now) in
+    let row = held-row a.mask (key_of (get_or a.keys.now a.from [])) start.requires.0 at-loop.before.spread.ensures (keys_in a.count a.keys.now) in
     subst (λ (m : Explored ℕ (List ℕ)). Beyond m) row
-    (expanding-over (tablesBy a.n a.profiles.now (key_of a.full.now)) (masked a.events a.mask) at-loop.loop.invariant in-loop.loop-test.true
+    (expanding-over (tables_by a.n a.profiles.now (key_of a.full.now)) (masked a.events a.mask) at-loop.loop.invariant in-loop.loop-test.true
     visit.new.1.1.1.1.1.1.0 visit.new.1.1.1.1.1.1.1.0 visit.result (visit.ensures a.events) c.enum_told.given.1)
 
 cast-row : tie.Need-overflow-cast-row invariant-loop decreases-loop
@@ -75,10 +75,10 @@ cast-row c =
     let a = at-loop.before.before.before.before.args in
     let loop = at-loop.loop in
     let visit = c.before.before.before.visit in
-    let t = tablesBy a.n a.profiles.now (key_of a.full.now) in
+    let t = tables_by a.n a.profiles.now (key_of a.full.now) in
     omega (
       arith,
-      (visits-at {m = visitKey t (masked a.events a.mask) (setIn at-loop.before.spread.result) loop.e (keysIn loop.met loop.keys)}
+      (visits-at {m = visit_key t (masked a.events a.mask) (set_in at-loop.before.spread.result) loop.e (keys_in loop.met loop.keys)}
           visit.new.1.1.1.1.1.1.0 visit.new.1.1.1.1.1.1.1.0 visit.result (visit.ensures a.events) c.before.entered.given.1).1,
     )
 
@@ -98,7 +98,7 @@ loop-again c =
     let start = at-loop.before.before.before.before in
     let a = start.args in
     let visit = c.before.before.before.visit in
-    expanding-more (tablesBy a.n a.profiles.now (key_of a.full.now)) (masked a.events a.mask) at-loop.loop.invariant in-loop.loop-test.true
+    expanding-more (tables_by a.n a.profiles.now (key_of a.full.now)) (masked a.events a.mask) at-loop.loop.invariant in-loop.loop-test.true
     visit.new.1.1.1.1.1.1.0 visit.new.1.1.1.1.1.1.1.0 visit.result (visit.ensures a.events) start.requires.1.0 c.before.entered.given.1
 
 returns-2 : tie.Need-returns-2 invariant-loop decreases-loop
@@ -106,10 +106,10 @@ returns-2 c =
     let at-loop = c.before in
     let start = at-loop.before.before.before.before in
     let a = start.args in
-    let row = held-row a.mask (key_of (get_or a.keys.now a.from [])) start.requires.0 at-loop.before.spread.ensures (keysIn a.count a.keys.now) in
+    let row = held-row a.mask (key_of (get_or a.keys.now a.from [])) start.requires.0 at-loop.before.spread.ensures (keys_in a.count a.keys.now) in
     let loop = at-loop.loop in
-    subst (λ (m : Explored ℕ (List ℕ)). Within m loop.met loop.keys loop.slots (rowIn a.events loop.row)) row
-    (expanding-all (tablesBy a.n a.profiles.now (key_of a.full.now)) (masked a.events a.mask) loop.invariant c.loop-test.false)
+    subst (λ (m : Explored ℕ (List ℕ)). Within m loop.met loop.keys loop.slots (row_in a.events loop.row)) row
+    (expanding-all (tables_by a.n a.profiles.now (key_of a.full.now)) (masked a.events a.mask) loop.invariant c.loop-test.false)
 
 pub expand-spec : {M : Type 1} → statement M
 expand-spec =

@@ -4,15 +4,15 @@ use borrow.Author.Rules.{rules}
 use mathlib.Core.Path.{refl}
 use Prim.Native.Nat.{◌-◌}
 use Rattle.meaning.specs.Traces.{masked}
-use Rattle.profile_sets.specs.Arrays.{tablesBy, key_of}
+use Rattle.profile_sets.specs.Arrays.{tables_by, key_of}
 use Rattle.key_slots.proofs.Lists.{slotted-first}
-use Rattle.exploration.specs.Answers.{exploreKeys}
+use Rattle.exploration.specs.Answers.{explore_keys}
 use Rattle.exploration.proofs.Steps.{Walking, walking-none, walking-more, walking-over, walking-all}
 use Rattle.exploration.proofs.walk.Statement.{statement}
 use Rattle.exploration.proofs.walk.Tie as tie
 
 abbrev invariant-loop : tie.invariant-loop
-invariant-loop profiles full n events mask keys₀ met₀ rows₀ slots₀ count₀ i₀ keys met rows slots count i = Walking (tablesBy n profiles (key_of full)) (masked events mask) (exploreKeys (tablesBy n profiles (key_of full)) (masked events mask)) i count keys rows slots
+invariant-loop profiles full n events mask keys₀ met₀ rows₀ slots₀ count₀ i₀ keys met rows slots count i = Walking (tables_by n profiles (key_of full)) (masked events mask) (explore_keys (tables_by n profiles (key_of full)) (masked events mask)) i count keys rows slots
 
 abbrev decreases-loop : tie.decreases-loop
 decreases-loop profiles full n events mask keys₀ met₀ rows₀ slots₀ count₀ i₀ keys met rows slots count i = 256 - i
@@ -27,7 +27,7 @@ loop-holds : tie.Need-loop-init invariant-loop decreases-loop
 loop-holds c =
     let start = c.before.before in
     let a = start.args in
-    walking-none (tablesBy a.n a.profiles.now (key_of a.full.now)) (masked a.events a.mask)
+    walking-none (tables_by a.n a.profiles.now (key_of a.full.now)) (masked a.events a.mask)
     start.requires.2 (slotted-first c.first-slots.ensures) c.before.no_rows.ensures start.requires.3
 
 expand-requires : tie.Need-expand-requires invariant-loop decreases-loop
@@ -48,7 +48,7 @@ returns c =
     let expand = c.before.before.expand in
     let in-loop = c.before.before.before.before.before.before in
     let a = in-loop.before.before.before.before.args in
-    walking-over (tablesBy a.n a.profiles.now (key_of a.full.now)) (masked a.events a.mask) in-loop.before.loop.invariant in-loop.loop-test.true
+    walking-over (tables_by a.n a.profiles.now (key_of a.full.now)) (masked a.events a.mask) in-loop.before.loop.invariant in-loop.loop-test.true
     expand.new.1.1.1.1.1.0 expand.new.1.1.1.1.1.1.0 expand.new.1.1.1.1.1.1.1.1.1.0 expand.result expand.ensures c.enum_told.given.1
 
 mul-rows : tie.Need-overflow-mul-rows invariant-loop decreases-loop
@@ -68,7 +68,7 @@ loop-again c =
     let expand = c.before.before.before.expand in
     let in-loop = c.before.before.before.before.before.before.before in
     let a = in-loop.before.before.before.before.args in
-    walking-more (tablesBy a.n a.profiles.now (key_of a.full.now)) (masked a.events a.mask) in-loop.before.loop.invariant in-loop.loop-test.true
+    walking-more (tables_by a.n a.profiles.now (key_of a.full.now)) (masked a.events a.mask) in-loop.before.loop.invariant in-loop.loop-test.true
     expand.new.1.1.1.1.1.0 expand.new.1.1.1.1.1.1.0 expand.new.1.1.1.1.1.1.1.1.1.0 expand.result expand.ensures c.before.next.given.1
 
 cast-met : tie.Need-overflow-cast-met invariant-loop decreases-loop
@@ -77,7 +77,7 @@ cast-met c = omega (arith, c.before.loop.invariant.fit.few)
 returns-2 : tie.Need-returns-2 invariant-loop decreases-loop
 returns-2 c =
     let a = c.before.before.before.before.args in
-    walking-all (tablesBy a.n a.profiles.now (key_of a.full.now)) (masked a.events a.mask) c.before.loop.invariant c.loop-test.false
+    walking-all (tables_by a.n a.profiles.now (key_of a.full.now)) (masked a.events a.mask) c.before.loop.invariant c.loop-test.false
 
 pub walk-spec : {M : Type 1} → statement M
 walk-spec =

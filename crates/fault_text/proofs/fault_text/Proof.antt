@@ -9,7 +9,7 @@ use lib.ListN.{length}
 use Rattle.meaning.specs.Refusals.{code_of}
 use Rattle.text_pieces.specs.declared.Text.TheVariants as Text
 use Rattle.text_pieces.proofs.Laws.{put-length, put-more, put_is, put_front}
-use Rattle.fault_text.specs.Fault.{marked, faultText}
+use Rattle.fault_text.specs.Fault.{marked, fault_text}
 use Rattle.fault_text.proofs.Laws.{line-length, line-put, line-never}
 use native.Mathlib.Omega.{arith}
 use borrow.Author.Tests.{le-leb, lt-leb}
@@ -20,7 +20,7 @@ use lib.ListN.{length}
 use Rattle.meaning.specs.Refusals.{code_of}
 use Rattle.text_pieces.specs.declared.Text.TheVariants as Text
 use Rattle.text_pieces.proofs.Laws.{put-length, put-more, put_is, put_front}
-use Rattle.fault_text.specs.Fault.{marked, faultText}
+use Rattle.fault_text.specs.Fault.{marked, fault_text}
 use Rattle.fault_text.proofs.Laws.{line-length, line-put, line-never}
 use Rattle.fault_text.proofs.fault_text.Statement.{statement}
 use Rattle.fault_text.proofs.fault_text.Tie as tie
@@ -57,7 +57,7 @@ same_length : tie.Need-same-length
 same_length c = search rules
 
 returns-2 : tie.Need-returns-2
-unfolding faultText
+unfolding fault_text
 returns-2 c =
     let at-marked = c.before.before in
     let at_told = at-marked.before.before.before in
@@ -74,7 +74,7 @@ returns-2 c =
     let below = put_is at-marked.put-marked.ensures.0 (marked text (code_of r).1) (ap (λ (k : ℕ). marked text k) at_place.place.ensures) in
     let h = put-more line below in
     let room = le-leb 4096 (length out) long in
-    (rw room (ap Text.Written (h.next ∙ zero-add (length (faultText r text)))), rw room (put_front h (omega (arith, line.next, line-length r small, at-marked.put-marked.ensures.1))))
+    (rw room (ap Text.Written (h.next ∙ zero-add (length (fault_text r text)))), rw room (put_front h (omega (arith, line.next, line-length r small, at-marked.put-marked.ensures.1))))
 
 same-length-2 : tie.Need-same-length-2
 same-length-2 c = search rules

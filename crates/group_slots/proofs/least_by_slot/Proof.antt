@@ -3,8 +3,8 @@ use native.Mathlib.Omega.{arith}
 use borrow.Author.Rules.{rules}
 use mathlib.Core.Path.{◌≡◌, sym, ap, ◌∙◌}
 use Prim.Native.Nat.{ℕ}
-use Rattle.sequences.specs.Tabulate.{leastBelow}
-use Rattle.moore.specs.Grouping.{sameStep}
+use Rattle.sequences.specs.Tabulate.{least_below}
+use Rattle.moore.specs.Grouping.{same_step}
 use Rattle.group_slots.specs.Groups.{unmasked}
 use Rattle.group_slots.proofs.Slots.{left-none, left-same}
 use Rattle.group_slots.proofs.least_by_slot.Statement.{statement}
@@ -14,7 +14,7 @@ returns : tie.Need-returns
 returns c =
     let a = c.before.args in
     let first : 0 ≡ a.i = omega (arith, c.if1.true) in
-    ap (λ (i : ℕ). leastBelow i (λ k. sameStep (unmasked a.events) a.rows.now a.group.now k a.i)) first
+    ap (λ (i : ℕ). least_below i (λ k. same_step (unmasked a.events) a.rows.now a.group.now k a.i)) first
 
 same-step-requires : tie.Need-same-step-requires
 same-step-requires c κs = let h = c.before.requires.1.1.1.low in (c.before.requires.0.0, omega arith, c.before.requires.0.1)

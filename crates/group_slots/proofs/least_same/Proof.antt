@@ -4,14 +4,14 @@ use borrow.Author.Rules.{rules}
 use mathlib.Core.Path.{sym, ◌∙◌}
 use Prim.Native.Nat.{◌-◌, ◌≤◌}
 use Rattle.sequences.proofs.Loops.{Missed, missed_more, missed-found, missed-end}
-use Rattle.moore.specs.Grouping.{sameStep}
+use Rattle.moore.specs.Grouping.{same_step}
 use Rattle.group_slots.specs.Groups.{unmasked}
 use Rattle.group_slots.proofs.Comparing.{missed-before}
 use Rattle.group_slots.proofs.least_same.Statement.{statement}
 use Rattle.group_slots.proofs.least_same.Tie as tie
 
 abbrev invariant-loop : tie.invariant-loop
-invariant-loop rows group events i j₀ j = (j ≤ i) × Missed j (λ k. sameStep (unmasked events) rows group k i)
+invariant-loop rows group events i j₀ j = (j ≤ i) × Missed j (λ k. same_step (unmasked events) rows group k i)
 
 abbrev decreases-loop : tie.decreases-loop
 decreases-loop rows group events i j₀ j = i - j

@@ -4,14 +4,14 @@ use borrow.Author.Rules.{rules}
 use mathlib.Core.Path.{◌≡◌, refl}
 use Prim.Native.Nat.{◌-◌, ◌≤◌}
 use lib.ListN.{length, length-set}
-use Rattle.moore.specs.Counting.{countBelow}
+use Rattle.moore.specs.Counting.{count_below}
 use Rattle.moore.specs.Grouping.{leads}
 use Rattle.grouping.proofs.Laws.{count-step, count-step-le, Listed, listed-none, listed_more, listed-end}
 use Rattle.grouping.proofs.list_leaders.Statement.{statement}
 use Rattle.grouping.proofs.list_leaders.Tie as tie
 
 abbrev invariant-loop : tie.invariant-loop
-invariant-loop group states least₀ count₀ i₀ least count i = (i ≤ states) × (count ≤ i) × (length least ≡ 256) × (count ≡ countBelow i (leads group)) × Listed i (leads group) least
+invariant-loop group states least₀ count₀ i₀ least count i = (i ≤ states) × (count ≤ i) × (length least ≡ 256) × (count ≡ count_below i (leads group)) × Listed i (leads group) least
 
 abbrev decreases-loop : tie.decreases-loop
 decreases-loop group states least₀ count₀ i₀ least count i = states - i

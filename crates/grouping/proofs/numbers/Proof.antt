@@ -4,7 +4,7 @@ use borrow.Author.Rules.{rules}
 use mathlib.Core.Path.{◌∙◌, ap}
 use Prim.Native.Nat.{ℕ, ◌-◌, ◌≤◌, ◌<◌}
 use Rattle.sequences.proofs.Loops.{Filled, filled_none, filled_more}
-use Rattle.moore.specs.Counting.{countBelow}
+use Rattle.moore.specs.Counting.{count_below}
 use Rattle.moore.specs.Grouping.{leads}
 use Rattle.moore.specs.Quotient.{number}
 use Rattle.refinement.proofs.Laws.{filled-take, taken_at}
@@ -47,7 +47,7 @@ loop-again c =
     let at = c.before.before.before in
     let ranks = at.before.ranks in
     let start = at.before.before in
-    let rank : ℕ → ℕ = λ x. countBelow x (leads start.args.group.now) in
+    let rank : ℕ → ℕ = λ x. count_below x (leads start.args.group.now) in
     let inside = start.requires.1.least at.loop.i (omega arith) in
     let taken = taken_at start.args.states ranks.result rank ranks.ensures c.wide.result 0 (omega (arith, c.wide.ensures.0, inside)) in
     (omega arith, filled_more at.loop.invariant.1 (taken ∙ ap rank c.wide.ensures.0) (let l : at.loop.i < 256 = omega arith in search rules))

@@ -6,12 +6,12 @@ use Prim.Native.Nat.{◌-◌, ◌≤◌}
 use lib.ListN.{get_or}
 use Rattle.meaning.specs.Traces.{masked}
 use Rattle.sequences.proofs.Loops.{Filled, filled_none, filled_more, filled-to}
-use Rattle.grouping.specs.Machines.{verdictAt}
+use Rattle.grouping.specs.Machines.{verdict_at}
 use Rattle.grouping.proofs.put_verdicts.Statement.{statement}
 use Rattle.grouping.proofs.put_verdicts.Tie as tie
 
 abbrev invariant-loop : tie.invariant-loop
-invariant-loop rows group classes events mask least count verdicts₀ q₀ verdicts q = (q ≤ count) × Filled q (λ k. verdictAt (masked events mask) rows classes group (get_or least k 0)) verdicts₀ verdicts
+invariant-loop rows group classes events mask least count verdicts₀ q₀ verdicts q = (q ≤ count) × Filled q (λ k. verdict_at (masked events mask) rows classes group (get_or least k 0)) verdicts₀ verdicts
 
 abbrev decreases-loop : tie.decreases-loop
 decreases-loop rows group classes events mask least count verdicts₀ q₀ verdicts q = count - q
@@ -41,7 +41,7 @@ loop-again : tie.Need-loop-preserved invariant-loop decreases-loop
 loop-again c =
     let at = c.before.before.before.before in
     let a = at.before.args in
-    let verdict = ap (verdictAt (masked a.events a.mask) a.rows.now a.classes.now a.group.now) c.before.wide.ensures.0 in
+    let verdict = ap (verdict_at (masked a.events a.mask) a.rows.now a.classes.now a.group.now) c.before.wide.ensures.0 in
     (omega arith, filled_more at.loop.invariant.1 (c.verdict-of.ensures ∙ verdict) (omega arith))
 
 returns : tie.Need-returns invariant-loop decreases-loop

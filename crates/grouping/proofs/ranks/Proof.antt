@@ -4,7 +4,7 @@ use borrow.Author.Rules.{rules}
 use mathlib.Core.Path.{◌≡◌, refl}
 use Prim.Native.Nat.{◌-◌, ◌≤◌, ◌<◌}
 use Rattle.sequences.proofs.Loops.{Filled, filled_none, filled_more}
-use Rattle.moore.specs.Counting.{countBelow}
+use Rattle.moore.specs.Counting.{count_below}
 use Rattle.moore.specs.Grouping.{leads}
 use Rattle.refinement.proofs.Laws.{filled-take}
 use Rattle.grouping.proofs.Laws.{count-step, count-step-le}
@@ -12,7 +12,7 @@ use Rattle.grouping.proofs.ranks.Statement.{statement}
 use Rattle.grouping.proofs.ranks.Tie as tie
 
 abbrev invariant-loop : tie.invariant-loop
-invariant-loop group states rank₀ below₀ i₀ rank below i = (i ≤ states) × (below ≤ i) × (below ≡ countBelow i (leads group)) × Filled i (λ k. countBelow k (leads group)) rank₀ rank
+invariant-loop group states rank₀ below₀ i₀ rank below i = (i ≤ states) × (below ≤ i) × (below ≡ count_below i (leads group)) × Filled i (λ k. count_below k (leads group)) rank₀ rank
 
 abbrev decreases-loop : tie.decreases-loop
 decreases-loop group states rank₀ below₀ i₀ rank below i = states - i

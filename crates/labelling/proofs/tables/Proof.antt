@@ -37,7 +37,7 @@ value-tables-requires : tie.Need-value-tables-requires
 value-tables-requires c κs = let s = sizes c.before.before in (valuable c.before.before.before.before.before, ((s.0, s.2), (c.before.before.before.before.before.before.requires.1.1.0, refl)))
 
 realizable-labels-requires : tie.Need-realizable-labels-requires
-realizable-labels-requires c κs = let s = sizes c.before.before.before.before.before in record { events = s.0; some = s.1; few = s.2; profiles-long = c.before.before.value-tables.ensures.0.0; fairs-long = c.before.before.value-tables.ensures.1.0 }
+realizable-labels-requires c κs = let s = sizes c.before.before.before.before.before in record { events = s.0; some = s.1; few = s.2; profiles_long = c.before.before.value-tables.ensures.0.0; fairs_long = c.before.before.value-tables.ensures.1.0 }
 
 mark-all-requires : tie.Need-mark-all-requires
 mark-all-requires c κs =

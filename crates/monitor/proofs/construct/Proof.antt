@@ -2,7 +2,7 @@
 use native.Mathlib.Omega.{arith}
 use borrow.Author.Rules.{rules}
 use Rattle.profile_sets.proofs.Tables.{tabled}
-use Rattle.rule_file.specs.Reading.{ruleIn}
+use Rattle.rule_file.specs.Reading.{rule_in}
 use Rattle.monitor.proofs.Construction.{walks, valuable, closed-machine, closed-answers, over-answers}
 use Rattle.monitor.proofs.construct.Statement.{statement}
 use Rattle.monitor.proofs.construct.Tie as tie
@@ -36,7 +36,7 @@ returns c =
     let tables = c.before.before.before.before.before.before.before.tables in
     let start = c.before.before.before.before.before.before.before.before.before.before.before.before.before in
     let a = start.args in
-    let rule = ruleIn a.signals a.mask a.count a.nodes in
+    let rule = rule_in a.signals a.mask a.count a.nodes in
     let formed = start.requires.0 in
     let walked = walks rule explore.new.1.1.1.1.1.0 explore.result explore.new.1.1.1.1.1.1.0 tables.ensures.1 explore.ensures in
     let answers = over-answers formed walked c.if1.true a.table.now in
@@ -48,7 +48,7 @@ finish-requires c κs =
     let tables = c.before.before.before.before.before.before.before.before.before.tables in
     let start = c.before.before.before.before.before.before.before.before.before.before.before.before.before.before.before in
     let a = start.args in
-    let rule = ruleIn a.signals a.mask a.count a.nodes in
+    let rule = rule_in a.signals a.mask a.count a.nodes in
     let formed = start.requires.0 in
     let walked = walks rule explore.new.1.1.1.1.1.0 explore.result explore.new.1.1.1.1.1.1.0 tables.ensures.1 explore.ensures in
     let few = c.before.before.if1.false in
@@ -63,7 +63,7 @@ returns-2 c =
     let tables = c.before.before.before.before.before.before.before.before.before.before.before.before.tables in
     let start = c.before.before.before.before.before.before.before.before.before.before.before.before.before.before.before.before.before.before in
     let a = start.args in
-    let rule = ruleIn a.signals a.mask a.count a.nodes in
+    let rule = rule_in a.signals a.mask a.count a.nodes in
     let formed = start.requires.0 in
     let walked = walks rule explore.new.1.1.1.1.1.0 explore.result explore.new.1.1.1.1.1.1.0 tables.ensures.1 explore.ensures in
     let answers = closed-answers formed walked c.before.before.before.before.before.if1.false a.table.now _ _ c.before.before.finish.ensures in

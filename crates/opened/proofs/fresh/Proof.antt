@@ -48,7 +48,7 @@ use Rattle.desk.specs.contracts.fresh as maker
 use Rattle.desk.proofs.fresh.Symbol as maker-def
 use Rattle.desk.proofs.fresh.Symbol.{name as #desk·fresh}
 use Rattle.desk.proofs.fresh.Met as maker-thm
-use Rattle.opened.specs.OpenedTables.{freshenedBy}
+use Rattle.opened.specs.OpenedTables.{freshened_by}
 use Rattle.opened.specs.declared.Opened.{Opened}
 use Rattle.opened.specs.contracts.Opened as T
 use Rattle.opened.proofs.Opened.TheLaws as T'
@@ -81,7 +81,7 @@ module _ {M : Type 1} {𝓤 : Ura M} (𝓛 : Logic 𝓤) (mem : Memory → SProp
   args = (slice_of x ∷ [], (mach ∷ [], tt))
 
   abbrev found : Outcome
-  found = freshenedBy d x.now
+  found = freshened_by d x.now
 
   abbrev y : (walk_of 𝓛 outer.ended stayed (outer.clauses 𝓛 mem run)).Ghost
   y = (((κ, (κ', tt)), (q, (q', tt)), bounds, (x, (d, tt)), args), tt)

@@ -47,7 +47,7 @@ use Rattle.opened.proofs.Opened.TheLaws as T'
 use Rattle.meaning.specs.declared.Shown.{Shown}
 use Rattle.meaning.specs.contracts.Shown as R
 use Rattle.meaning.proofs.Shown.TheLaws as R'
-use Rattle.meaning.specs.Recordings.{judgedIn}
+use Rattle.meaning.specs.Recordings.{judged_in}
 use Rattle.recordings.specs.contracts.judge_in as inner
 use Rattle.recordings.proofs.judge_in.Symbol as inner-def
 use Rattle.recordings.proofs.judge_in.Symbol.{name as #recordings·judge-in}
@@ -86,7 +86,7 @@ module _ {M : Type 1} {𝓤 : Ura M} (𝓛 : Logic 𝓤) (mem : Memory → SProp
   vb = slice_val b.ref_ptr (length b.now)
 
   abbrev found : Shown
-  found = judgedIn d.bytes.now d.signals d.states a.now b.now
+  found = judged_in d.bytes.now d.signals d.states a.now b.now
 
   abbrev args : Vals outer.signature (κ, (κ', (κ'', tt)))
   args = (mach ∷ [], (va ∷ [], (vb ∷ [], tt)))

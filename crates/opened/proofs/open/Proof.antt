@@ -38,8 +38,8 @@ use denote.Triple.Table.{entered, cited}
 use denote.Triple.Walked.{says, Stays, stay_none, stay_none_slice, walk_of, Goes-none, Goes-none_slice, Walks, ends_at, walked, walk_Meets}
 use denote.Exit.{yes}
 use denote.Triple.Clauses.{ensured, lasts}
-use Rattle.meaning.specs.TableFiles.{checkedOf}
-use Rattle.opened.specs.OpenedTables.{countsOf}
+use Rattle.meaning.specs.TableFiles.{checked_of}
+use Rattle.opened.specs.OpenedTables.{counts_of}
 use Rattle.opened.specs.declared.Counts.{Counts}
 use Rattle.opened.specs.declared.Opened.{Opened}
 use Rattle.opened.specs.contracts.Counts as S
@@ -105,10 +105,10 @@ module _ {M : Type 1} {𝓤 : Ura M} (𝓛 : Logic 𝓤) (mem : Memory → SProp
       move ! (1 ∷ []) $ fsplit ! $ move ! (1 ∷ []) $ drop ! $ use1 𝓛 (‵ Own ⊛ ‵ Own) ((shr_slice_copy 𝓛 (named 0) κ u8).twice s (v ∷ [])) $ split ! $
       nothing ! $ move ! (1 ∷ 0 ∷ []) $ fjoin ! $ move ! (2 ∷ 0 ∷ []) $ use2 𝓛 (raw ((Counted 𝓛 mem run).pre to)) (qed 𝓛 ((‵ (flft κ q) ⊛ ‵ ftrue) ∷ ‵ (owns (ShrSlice (named 0) κ u8 ∷ []) (s, tt) (v ∷ [], tt)) ∷ []) ∵ join ! $ frame ! $ done !) $ frame ! $ done !
 
-  said : (c : Counts) → ent 𝓤 (ensured 𝓛 counted.ended (counted.clauses 𝓛 mem run) (κ, tt) (s, tt) tt c) (fact 𝓤 (c ≡ countsOf (checkedOf s.now)))
-  said c = ex_e 𝓤 _ (λ ws. snd∗ 𝓤 (sem 𝓛 (lasts counted.ended (κ, tt) (s, tt) ws)) (fact 𝓤 (c ≡ countsOf (checkedOf s.now))))
+  said : (c : Counts) → ent 𝓤 (ensured 𝓛 counted.ended (counted.clauses 𝓛 mem run) (κ, tt) (s, tt) tt c) (fact 𝓤 (c ≡ counts_of (checked_of s.now)))
+  said c = ex_e 𝓤 _ (λ ws. snd∗ 𝓤 (sem 𝓛 (lasts counted.ended (κ, tt) (s, tt) ws)) (fact 𝓤 (c ≡ counts_of (checked_of s.now))))
 
-  exits : (c : Counts) → c ≡ countsOf (checkedOf s.now) → c.signals < 2 ^ 8 → c.states < 2 ^ 16 → ent 𝓤 (⋆ 𝓛 ((‵ (flft κ q) ⊛ ‵ ftrue) ∷ ‵ Own ∷ [])) (Post (T'.lowered (of s n c)))
+  exits : (c : Counts) → c ≡ counts_of (checked_of s.now) → c.signals < 2 ^ 8 → c.states < 2 ^ 16 → ent 𝓤 (⋆ 𝓛 ((‵ (flft κ q) ⊛ ‵ ftrue) ∷ ‵ Own ∷ [])) (Post (T'.lowered (of s n c)))
   exits c e f₁ f₂ =
       qed 𝓛 ((‵ (flft κ q) ⊛ ‵ ftrue) ∷ ‵ Own ∷ []) ∵
       suffices ! _ (ends_at 𝓛 open'.ended stayed (open'.clauses 𝓛 mem run) (((κ, tt), (q, tt), tt, (s, (n, tt)), args), tt) (T'.lowered (of s n c)) (of s n c) (tt, (tt, tt)) (tt, (tt, tt))) $ says ! (ap (of s n) e) $
@@ -125,7 +125,7 @@ module _ {M : Type 1} {𝓤 : Ura M} (𝓛 : Logic 𝓤) (mem : Memory → SProp
         move ! (8 ∷ []) $ use1 𝓛 (raw ((Counted 𝓛 mem run).pre to) ⊛ ‵ Own) goes $ split ! $
         calls_at ! fm (Counted 𝓛 mem run) known to (and_then ! (load ! (from ! (stop !)) (look ! 6 refl)) (no_more !)) (λ u.
         use1 𝓛 (later (some (λ (c : Counts). ((‵ (flft κ q) ⊛ ‵ ftrue) ⊛ ‵ ((S.the_row).own_val c (u ∷ []))) ⊛ raw (ensured 𝓛 counted.ended (counted.clauses 𝓛 mem run) (κ, tt) (s, tt) tt c)))) (id⊢ 𝓤 _) $ await ! tt $ pick ! (λ c.
-        split ! $ move ! (1 ∷ []) $ use1 𝓛 (raw (fact 𝓤 (c ≡ countsOf (checkedOf s.now)))) (said c) $ heard ! (c ≡ countsOf (checkedOf s.now)) (λ e. split ! $ move ! (1 ∷ []) $
+        split ! $ move ! (1 ∷ []) $ use1 𝓛 (raw (fact 𝓤 (c ≡ counts_of (checked_of s.now)))) (said c) $ heard ! (c ≡ counts_of (checked_of s.now)) (λ e. split ! $ move ! (1 ∷ []) $
         -- [what the counts own; the token; what bytes owns; room for _3; …; _2; …; _1; …; room for _0; …]
         peeks ! S.the_row (Is S.the_row) (shows 𝓛 S.the_row) c (u ∷ []) (λ is.
         land ! (from ! (stop !)) (init ! 3 refl ((LL.lawful S.the_type S'.the_laws 𝓛).typed c _ is).0) $

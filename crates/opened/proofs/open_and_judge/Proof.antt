@@ -40,11 +40,11 @@ use denote.Triple.Clauses.{ensured, lasts}
 use Rattle.opened.specs.declared.Opened.{Opened}
 use Rattle.opened.specs.contracts.Opened as T
 use Rattle.opened.proofs.Opened.TheLaws as T'
-use Rattle.meaning.specs.Recordings.{judgedOf}
+use Rattle.meaning.specs.Recordings.{judged_of}
 use Rattle.meaning.specs.declared.Shown.{Shown}
 use Rattle.meaning.specs.contracts.Shown as R
 use Rattle.meaning.proofs.Shown.TheLaws as R'
-use Rattle.opened.specs.OpenedTables.{opened_of, judgedBy}
+use Rattle.opened.specs.OpenedTables.{opened_of, judged_by}
 use Rattle.opened.proofs.Opening.{opened-judges}
 use Rattle.opened.specs.contracts.open as opens
 use Rattle.opened.proofs.open.Symbol as opens-def
@@ -87,7 +87,7 @@ module _ {M : Type 1} {𝓤 : Ura M} (𝓛 : Logic 𝓤) (mem : Memory → SProp
   vb = slice_val b.ref_ptr (length b.now)
 
   abbrev found : Shown
-  found = judgedOf s.now a.now b.now
+  found = judged_of s.now a.now b.now
 
   abbrev args : Vals outer.signature (κ, (κ', (κ'', tt)))
   args = (v ∷ [], (va ∷ [], (vb ∷ [], tt)))
@@ -130,8 +130,8 @@ module _ {M : Type 1} {𝓤 : Ura M} (𝓛 : Logic 𝓤) (mem : Memory → SProp
       qed 𝓛 (((‵ (flft κ q) ⊛ ‵ ftrue) ⊛ (‵ (flft κ' q') ⊛ ‵ (flft κ'' q'') ⊛ ‵ ftrue)) ∷ ‵ ((B κ).own d (u ∷ [])) ∷ (‵ OwnA ⊛ ‵ OwnB) ∷ []) ∵ split ! $ split ! $ move ! (0 ∷ 2 ∷ []) $ join ! $
       move ! (3 ∷ []) $ split ! $ nothing ! $ move ! (2 ∷ 0 ∷ []) $ fjoin ! $ move ! (1 ∷ 0 ∷ []) $ fjoin ! $ move ! (3 ∷ 0 ∷ []) $ fjoin ! $ move ! (1 ∷ 0 ∷ []) $ join ! $ frame ! $ done !
 
-  said : (d : Opened) (r : Shown) → ent 𝓤 (ensured 𝓛 inner.ended (inner.clauses 𝓛 mem run) (κ, (κ', (κ'', tt))) (d, (a, (b, tt))) tt r) (fact 𝓤 (r ≡ judgedBy d a.now b.now))
-  said d r = ex_e 𝓤 _ (λ ws. snd∗ 𝓤 (sem 𝓛 (lasts inner.ended (κ, (κ', (κ'', tt))) (d, (a, (b, tt))) ws)) (fact 𝓤 (r ≡ judgedBy d a.now b.now)))
+  said : (d : Opened) (r : Shown) → ent 𝓤 (ensured 𝓛 inner.ended (inner.clauses 𝓛 mem run) (κ, (κ', (κ'', tt))) (d, (a, (b, tt))) tt r) (fact 𝓤 (r ≡ judged_by d a.now b.now))
+  said d r = ex_e 𝓤 _ (λ ws. snd∗ 𝓤 (sem 𝓛 (lasts inner.ended (κ, (κ', (κ'', tt))) (d, (a, (b, tt))) ws)) (fact 𝓤 (r ≡ judged_by d a.now b.now)))
 
   exits : (r : Shown) (u : Val) → r ≡ found → ent 𝓤 (⋆ 𝓛 (‵ ((R.the_row).own_val r (u ∷ [])) ∷ (‵ (flft κ q) ⊛ ‵ (flft κ' q') ⊛ ‵ (flft κ'' q'') ⊛ ‵ ftrue) ∷ ‵ Own ∷ ‵ OwnA ∷ ‵ OwnB ∷ [])) (Post u)
   exits r u e =
@@ -161,13 +161,13 @@ module _ {M : Type 1} {𝓤 : Ura M} (𝓛 : Logic 𝓤) (mem : Memory → SProp
         -- [the call's; second's; true; first's; bytes'; _4; …]
         calls_at ! fm (Inner 𝓛 mem run) known (to d u) (and_then ! (load ! (from ! (stop !)) (look ! 5 refl)) (and_then ! (load ! (from ! (stop !)) (look ! 9 refl)) (and_then ! (load ! (from ! (stop !)) (look ! 7 refl)) (no_more !)))) (λ u'.
         use1 𝓛 (later (some (λ (r : Shown). ((‵ (flft κ q) ⊛ ‵ (flft κ' q') ⊛ ‵ (flft κ'' q'') ⊛ ‵ ftrue) ⊛ ‵ ((R.the_row).own_val r (u' ∷ []))) ⊛ raw (ensured 𝓛 inner.ended (inner.clauses 𝓛 mem run) (κ, (κ', (κ'', tt))) (d, (a, (b, tt))) tt r)))) (id⊢ 𝓤 _) $ await ! tt $ pick ! (λ r.
-        split ! $ move ! (1 ∷ []) $ use1 𝓛 (raw (fact 𝓤 (r ≡ judgedBy d a.now b.now))) (said d r) $ heard ! (r ≡ judgedBy d a.now b.now) (λ e'. split ! $ move ! (1 ∷ []) $
+        split ! $ move ! (1 ∷ []) $ use1 𝓛 (raw (fact 𝓤 (r ≡ judged_by d a.now b.now))) (said d r) $ heard ! (r ≡ judged_by d a.now b.now) (λ e'. split ! $ move ! (1 ∷ []) $
         -- [the result; the tokens; second's; true; first's; bytes'; _4; …]
         peeks ! R.the_row (Is R.the_row) (shows 𝓛 R.the_row) r (u' ∷ []) (λ is'.
         land ! (from ! (stop !)) (init ! 14 refl ((EL.lawful R.the_type R'.the_laws 𝓛 tt).typed r _ is').0) $
         returns ! (look ! 14 refl) $ forget ! 6 refl $ forget ! 8 refl $ forget ! 10 refl $ forget ! 12 refl $ forget ! 14 refl $
         move ! (14 ∷ 15 ∷ []) $ free1 ! $ move ! (12 ∷ 13 ∷ []) $ free1 ! $ move ! (10 ∷ 11 ∷ []) $ free1 ! $ move ! (8 ∷ 9 ∷ []) $ free1 ! $ move ! (6 ∷ 7 ∷ []) $ free1 ! $ free0 ! $ keep ! (0 ∷ 1 ∷ 5 ∷ 4 ∷ 2 ∷ []) $
-        by ! (exits r u' (e' ∙ ap (λ (z : Opened). judgedBy z a.now b.now) e ∙ opened-judges s 0 a.now b.now)))))))))))))))
+        by ! (exits r u' (e' ∙ ap (λ (z : Opened). judged_by z a.now b.now) e ∙ opened-judges s 0 a.now b.now)))))))))))))))
 
 module _ {M : Type 1} {𝓤 : Ura M} (𝓛 : Logic 𝓤) (mem : Memory → SProp 𝓤) (run : Routine → Fun 𝓤) where
   open 𝓛 use {H}

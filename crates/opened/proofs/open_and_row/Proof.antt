@@ -35,7 +35,7 @@ use denote.Triple.Table.{entered, cited}
 use denote.Triple.Walked.{says, Stays, stay_none, stay_none_slice, walk_of, Goes-none, Goes-none_slice, Walks, ends_at, walked, walk_Meets}
 use denote.Exit.{yes}
 use denote.Triple.Clauses.{ensured, lasts}
-use Rattle.meaning.specs.Runs.{rowRead}
+use Rattle.meaning.specs.Runs.{row_read}
 use Rattle.meaning.specs.declared.StateRow.{StateRow}
 use Rattle.meaning.specs.contracts.StateRow as R
 use Rattle.meaning.proofs.StateRow.TheLaws as R'
@@ -80,7 +80,7 @@ module _ {M : Type 1} {𝓤 : Ura M} (𝓛 : Logic 𝓤) (mem : Memory → SProp
   v = slice_val s.ref_ptr (length s.now)
 
   abbrev found : StateRow
-  found = rowRead s.now m
+  found = row_read s.now m
 
   abbrev args : Vals outer.signature (κ, tt)
   args = (v ∷ [], (vint w16 m ∷ [], tt))

@@ -46,7 +46,7 @@ use Rattle.meaning.proofs.Arrived.TheLaws as R'
 use Rattle.meaning.specs.declared.State.{State}
 use Rattle.meaning.specs.contracts.State as S
 use Rattle.meaning.proofs.State.TheLaws as S'
-use Rattle.opened.specs.OpenedTables.{opened_of, ranBy}
+use Rattle.opened.specs.OpenedTables.{opened_of, ran_by}
 use Rattle.opened.proofs.Opening.{opened-runs}
 use Rattle.opened.specs.contracts.open as opens
 use Rattle.opened.proofs.open.Symbol as opens-def
@@ -131,8 +131,8 @@ module _ {M : Type 1} {𝓤 : Ura M} (𝓛 : Logic 𝓤) (mem : Memory → SProp
       qed 𝓛 (((‵ (flft κ q) ⊛ ‵ ftrue) ⊛ (‵ (flft κ' q') ⊛ ‵ ftrue)) ∷ ‵ ((B κ).own d (u ∷ [])) ∷ ‵ OwnE ∷ []) ∵ split ! $ split ! $ move ! (0 ∷ 2 ∷ []) $ join ! $
       nothing ! $ move ! (4 ∷ 0 ∷ []) $ fjoin ! $ owned ! S.the_row (Is S.the_row) (LL.makes S.the_type S'.the_plain 𝓛) st _ st-is $ fjoin ! $ move ! (3 ∷ 0 ∷ []) $ fjoin ! $ move ! (1 ∷ 0 ∷ []) $ join ! $ frame ! $ done !
 
-  said : (d : Opened) (r : Arrived) → ent 𝓤 (ensured 𝓛 inner.ended (inner.clauses 𝓛 mem run) (κ, (κ', tt)) (d, (st, (es, tt))) tt r) (fact 𝓤 (r ≡ ranBy d st es.now))
-  said d r = ex_e 𝓤 _ (λ ws. snd∗ 𝓤 (sem 𝓛 (lasts inner.ended (κ, (κ', tt)) (d, (st, (es, tt))) ws)) (fact 𝓤 (r ≡ ranBy d st es.now)))
+  said : (d : Opened) (r : Arrived) → ent 𝓤 (ensured 𝓛 inner.ended (inner.clauses 𝓛 mem run) (κ, (κ', tt)) (d, (st, (es, tt))) tt r) (fact 𝓤 (r ≡ ran_by d st es.now))
+  said d r = ex_e 𝓤 _ (λ ws. snd∗ 𝓤 (sem 𝓛 (lasts inner.ended (κ, (κ', tt)) (d, (st, (es, tt))) ws)) (fact 𝓤 (r ≡ ran_by d st es.now)))
 
   exits : (r : Arrived) (u : Val) → r ≡ found → ent 𝓤 (⋆ 𝓛 (‵ ((R.the_row).own_val r (u ∷ [])) ∷ (‵ (flft κ q) ⊛ ‵ (flft κ' q') ⊛ ‵ ftrue) ∷ ‵ Own ∷ ‵ OwnE ∷ [])) (Post u)
   exits r u e =
@@ -161,13 +161,13 @@ module _ {M : Type 1} {𝓤 : Ura M} (𝓛 : Logic 𝓤) (mem : Memory → SProp
         -- [the call's; events'; true; bytes'; _5; …; _4; …]
         calls_at ! fm (Inner 𝓛 mem run) known (to d u) (and_then ! (load ! (from ! (stop !)) (look ! 4 refl)) (and_then ! (load ! (from ! (stop !)) (look ! 8 refl)) (and_then ! (load ! (from ! (stop !)) (look ! 6 refl)) (no_more !)))) (λ u'.
         use1 𝓛 (later (some (λ (r : Arrived). ((‵ (flft κ q) ⊛ ‵ (flft κ' q') ⊛ ‵ ftrue) ⊛ ‵ ((R.the_row).own_val r (u' ∷ []))) ⊛ raw (ensured 𝓛 inner.ended (inner.clauses 𝓛 mem run) (κ, (κ', tt)) (d, (st, (es, tt))) tt r)))) (id⊢ 𝓤 _) $ await ! tt $ pick ! (λ r.
-        split ! $ move ! (1 ∷ []) $ use1 𝓛 (raw (fact 𝓤 (r ≡ ranBy d st es.now))) (said d r) $ heard ! (r ≡ ranBy d st es.now) (λ e'. split ! $ move ! (1 ∷ []) $
+        split ! $ move ! (1 ∷ []) $ use1 𝓛 (raw (fact 𝓤 (r ≡ ran_by d st es.now))) (said d r) $ heard ! (r ≡ ran_by d st es.now) (λ e'. split ! $ move ! (1 ∷ []) $
         -- [the result; the tokens; events'; true; bytes'; _5; …; _4; …]
         peeks ! R.the_row (Is R.the_row) (shows 𝓛 R.the_row) r (u' ∷ []) (λ is'.
         land ! (from ! (stop !)) (init ! 15 refl ((EL.lawful R.the_type R'.the_laws 𝓛 tt).typed r _ is').0) $
         returns ! (look ! 15 refl) $ forget ! 5 refl $ forget ! 7 refl $ forget ! 9 refl $ forget ! 11 refl $ forget ! 13 refl $ forget ! 15 refl $
         move ! (15 ∷ 16 ∷ []) $ free1 ! $ move ! (13 ∷ 14 ∷ []) $ free1 ! $ move ! (11 ∷ 12 ∷ []) $ free1 ! $ move ! (9 ∷ 10 ∷ []) $ free1 ! $ move ! (7 ∷ 8 ∷ []) $ free1 ! $ move ! (5 ∷ 6 ∷ []) $ free1 ! $ free0 ! $ keep ! (0 ∷ 1 ∷ 4 ∷ 2 ∷ []) $
-        by ! (exits r u' (e' ∙ ap (λ (z : Opened). ranBy z st es.now) e ∙ opened-runs s k st es.now))))))))))))))))
+        by ! (exits r u' (e' ∙ ap (λ (z : Opened). ran_by z st es.now) e ∙ opened-runs s k st es.now))))))))))))))))
 
 module _ {M : Type 1} {𝓤 : Ura M} (𝓛 : Logic 𝓤) (mem : Memory → SProp 𝓤) (run : Routine → Fun 𝓤) where
   open 𝓛 use {H}

@@ -42,7 +42,7 @@ use Rattle.meaning.proofs.Arrived.TheLaws as R'
 use Rattle.meaning.specs.declared.State.{State}
 use Rattle.meaning.specs.contracts.State as S
 use Rattle.meaning.proofs.State.TheLaws as S'
-use Rattle.opened.specs.OpenedTables.{opened_of, steppedBy}
+use Rattle.opened.specs.OpenedTables.{opened_of, stepped_by}
 use Rattle.opened.specs.declared.Opened.{Opened}
 use Rattle.opened.proofs.Opening.{opened-runs}
 use Rattle.opened.specs.contracts.Opened as T
@@ -124,8 +124,8 @@ module _ {M : Type 1} {𝓤 : Ura M} (𝓛 : Logic 𝓤) (mem : Memory → SProp
       qed 𝓛 (‵ ((B κ).own d (u ∷ [])) ∷ (‵ (flft κ q) ⊛ ‵ ftrue) ∷ []) ∵ nothing ! $ owned ! u8 (Is u8) (uint_Makes 𝓛 w8) n _ (refl, n-fits) $ fjoin ! $ owned ! S.the_row (Is S.the_row) (LL.makes S.the_type S'.the_plain 𝓛) st _ st-is $ fjoin ! $
       move ! (1 ∷ 0 ∷ []) $ fjoin ! $ move ! (1 ∷ 0 ∷ []) $ join ! $ frame ! $ done !
 
-  said : (d : Opened) (r : Arrived) → ent 𝓤 (ensured 𝓛 inner.ended (inner.clauses 𝓛 mem run) (κ, tt) (d, (st, (n, tt))) tt r) (fact 𝓤 (r ≡ steppedBy d st n))
-  said d r = ex_e 𝓤 _ (λ ws. snd∗ 𝓤 (sem 𝓛 (lasts inner.ended (κ, tt) (d, (st, (n, tt))) ws)) (fact 𝓤 (r ≡ steppedBy d st n)))
+  said : (d : Opened) (r : Arrived) → ent 𝓤 (ensured 𝓛 inner.ended (inner.clauses 𝓛 mem run) (κ, tt) (d, (st, (n, tt))) tt r) (fact 𝓤 (r ≡ stepped_by d st n))
+  said d r = ex_e 𝓤 _ (λ ws. snd∗ 𝓤 (sem 𝓛 (lasts inner.ended (κ, tt) (d, (st, (n, tt))) ws)) (fact 𝓤 (r ≡ stepped_by d st n)))
 
   exits : (r : Arrived) (u : Val) → r ≡ found → ent 𝓤 (⋆ 𝓛 (‵ ((R.the_row).own_val r (u ∷ [])) ∷ (‵ (flft κ q) ⊛ ‵ ftrue) ∷ ‵ Own ∷ [])) (Post u)
   exits r u e =
@@ -153,13 +153,13 @@ module _ {M : Type 1} {𝓤 : Ura M} (𝓛 : Logic 𝓤) (mem : Memory → SProp
         -- [the call's; bytes'; _5; …; _4; …]
         calls_at ! fm (Inner 𝓛 mem run) known (to d u) (and_then ! (load ! (from ! (stop !)) (look ! 2 refl)) (and_then ! (load ! (from ! (stop !)) (look ! 6 refl)) (and_then ! (load ! (from ! (stop !)) (look ! 4 refl)) (no_more !)))) (λ u'.
         use1 𝓛 (later (some (λ (r : Arrived). ((‵ (flft κ q) ⊛ ‵ ftrue) ⊛ ‵ ((R.the_row).own_val r (u' ∷ []))) ⊛ raw (ensured 𝓛 inner.ended (inner.clauses 𝓛 mem run) (κ, tt) (d, (st, (n, tt))) tt r)))) (id⊢ 𝓤 _) $ await ! tt $ pick ! (λ r.
-        split ! $ move ! (1 ∷ []) $ use1 𝓛 (raw (fact 𝓤 (r ≡ steppedBy d st n))) (said d r) $ heard ! (r ≡ steppedBy d st n) (λ e'. split ! $ move ! (1 ∷ []) $
+        split ! $ move ! (1 ∷ []) $ use1 𝓛 (raw (fact 𝓤 (r ≡ stepped_by d st n))) (said d r) $ heard ! (r ≡ stepped_by d st n) (λ e'. split ! $ move ! (1 ∷ []) $
         -- [the result; the token; bytes'; _5; …; _4; …]
         peeks ! R.the_row (Is R.the_row) (shows 𝓛 R.the_row) r (u' ∷ []) (λ is'.
         land ! (from ! (stop !)) (init ! 13 refl ((EL.lawful R.the_type R'.the_laws 𝓛 tt).typed r _ is').0) $
         returns ! (look ! 13 refl) $ forget ! 3 refl $ forget ! 5 refl $ forget ! 7 refl $ forget ! 9 refl $ forget ! 11 refl $ forget ! 13 refl $
         move ! (13 ∷ 14 ∷ []) $ free1 ! $ move ! (11 ∷ 12 ∷ []) $ free1 ! $ move ! (9 ∷ 10 ∷ []) $ free1 ! $ move ! (7 ∷ 8 ∷ []) $ free1 ! $ move ! (5 ∷ 6 ∷ []) $ free1 ! $ move ! (3 ∷ 4 ∷ []) $ free1 ! $ free0 ! $
-        by ! (exits r u' (e' ∙ ap (λ (z : Opened). steppedBy z st n) e ∙ opened-runs s k st (n ∷ [])))))))))))))))))
+        by ! (exits r u' (e' ∙ ap (λ (z : Opened). stepped_by z st n) e ∙ opened-runs s k st (n ∷ [])))))))))))))))))
 
 module _ {M : Type 1} {𝓤 : Ura M} (𝓛 : Logic 𝓤) (mem : Memory → SProp 𝓤) (run : Routine → Fun 𝓤) where
   open 𝓛 use {H}

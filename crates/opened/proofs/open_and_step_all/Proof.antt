@@ -41,7 +41,7 @@ use Rattle.opened.proofs.Opened.TheLaws as T'
 use Rattle.meaning.specs.declared.State.{State}
 use Rattle.meaning.specs.contracts.State as S
 use Rattle.meaning.proofs.State.TheLaws as S'
-use Rattle.opened.specs.OpenedTables.{opened_of, steppedAll}
+use Rattle.opened.specs.OpenedTables.{opened_of, stepped_all}
 use Rattle.opened.specs.contracts.open as opens
 use Rattle.opened.proofs.open.Symbol as opens-def
 use Rattle.opened.proofs.open.Symbol.{name as #opened·open}
@@ -85,7 +85,7 @@ module _ {M : Type 1} {𝓤 : Ura M} (𝓛 : Logic 𝓤) (mem : Memory → SProp
   low = LL.val S.the_type S'.the_laws st
 
   abbrev found : State
-  found = steppedAll (opened_of s k) st es.now
+  found = stepped_all (opened_of s k) st es.now
 
   abbrev args : Vals outer.signature (κ, (κ', tt))
   args = (v ∷ [], (vint w16 k ∷ [], (low ∷ [], (ve ∷ [], tt))))
@@ -125,8 +125,8 @@ module _ {M : Type 1} {𝓤 : Ura M} (𝓛 : Logic 𝓤) (mem : Memory → SProp
       qed 𝓛 (((‵ (flft κ q) ⊛ ‵ ftrue) ⊛ (‵ (flft κ' q') ⊛ ‵ ftrue)) ∷ ‵ ((B κ).own d (u ∷ [])) ∷ ‵ OwnE ∷ []) ∵ split ! $ split ! $ move ! (0 ∷ 2 ∷ []) $ join ! $
       nothing ! $ move ! (4 ∷ 0 ∷ []) $ fjoin ! $ owned ! S.the_row (Is S.the_row) (LL.makes S.the_type S'.the_plain 𝓛) st _ st-is $ fjoin ! $ move ! (3 ∷ 0 ∷ []) $ fjoin ! $ move ! (1 ∷ 0 ∷ []) $ join ! $ frame ! $ done !
 
-  said : (d : Opened) (r : State) → ent 𝓤 (ensured 𝓛 inner.ended (inner.clauses 𝓛 mem run) (κ, (κ', tt)) (d, (st, (es, tt))) tt r) (fact 𝓤 (r ≡ steppedAll d st es.now))
-  said d r = ex_e 𝓤 _ (λ ws. snd∗ 𝓤 (sem 𝓛 (lasts inner.ended (κ, (κ', tt)) (d, (st, (es, tt))) ws)) (fact 𝓤 (r ≡ steppedAll d st es.now)))
+  said : (d : Opened) (r : State) → ent 𝓤 (ensured 𝓛 inner.ended (inner.clauses 𝓛 mem run) (κ, (κ', tt)) (d, (st, (es, tt))) tt r) (fact 𝓤 (r ≡ stepped_all d st es.now))
+  said d r = ex_e 𝓤 _ (λ ws. snd∗ 𝓤 (sem 𝓛 (lasts inner.ended (κ, (κ', tt)) (d, (st, (es, tt))) ws)) (fact 𝓤 (r ≡ stepped_all d st es.now)))
 
   exits : (r : State) (u : Val) → r ≡ found → ent 𝓤 (⋆ 𝓛 (‵ ((S.the_row).own_val r (u ∷ [])) ∷ (‵ (flft κ q) ⊛ ‵ (flft κ' q') ⊛ ‵ ftrue) ∷ ‵ Own ∷ ‵ OwnE ∷ [])) (Post u)
   exits r u e =
@@ -155,13 +155,13 @@ module _ {M : Type 1} {𝓤 : Ura M} (𝓛 : Logic 𝓤) (mem : Memory → SProp
         -- [the call's; events'; true; bytes'; _5; …; _4; …]
         calls_at ! fm (Inner 𝓛 mem run) known (to d u) (and_then ! (load ! (from ! (stop !)) (look ! 4 refl)) (and_then ! (load ! (from ! (stop !)) (look ! 8 refl)) (and_then ! (load ! (from ! (stop !)) (look ! 6 refl)) (no_more !)))) (λ u'.
         use1 𝓛 (later (some (λ (r : State). ((‵ (flft κ q) ⊛ ‵ (flft κ' q') ⊛ ‵ ftrue) ⊛ ‵ ((S.the_row).own_val r (u' ∷ []))) ⊛ raw (ensured 𝓛 inner.ended (inner.clauses 𝓛 mem run) (κ, (κ', tt)) (d, (st, (es, tt))) tt r)))) (id⊢ 𝓤 _) $ await ! tt $ pick ! (λ r.
-        split ! $ move ! (1 ∷ []) $ use1 𝓛 (raw (fact 𝓤 (r ≡ steppedAll d st es.now))) (said d r) $ heard ! (r ≡ steppedAll d st es.now) (λ e'. split ! $ move ! (1 ∷ []) $
+        split ! $ move ! (1 ∷ []) $ use1 𝓛 (raw (fact 𝓤 (r ≡ stepped_all d st es.now))) (said d r) $ heard ! (r ≡ stepped_all d st es.now) (λ e'. split ! $ move ! (1 ∷ []) $
         -- [the result; the tokens; events'; true; bytes'; _5; …; _4; …]
         peeks ! S.the_row (Is S.the_row) (shows 𝓛 S.the_row) r (u' ∷ []) (λ is'.
         land ! (from ! (stop !)) (init ! 15 refl ((LL.lawful S.the_type S'.the_laws 𝓛).typed r _ is').0) $
         returns ! (look ! 15 refl) $ forget ! 5 refl $ forget ! 7 refl $ forget ! 9 refl $ forget ! 11 refl $ forget ! 13 refl $ forget ! 15 refl $
         move ! (15 ∷ 16 ∷ []) $ free1 ! $ move ! (13 ∷ 14 ∷ []) $ free1 ! $ move ! (11 ∷ 12 ∷ []) $ free1 ! $ move ! (9 ∷ 10 ∷ []) $ free1 ! $ move ! (7 ∷ 8 ∷ []) $ free1 ! $ move ! (5 ∷ 6 ∷ []) $ free1 ! $ free0 ! $ keep ! (0 ∷ 1 ∷ 4 ∷ 2 ∷ []) $
-        by ! (exits r u' (e' ∙ ap (λ (z : Opened). steppedAll z st es.now) e))))))))))))))))
+        by ! (exits r u' (e' ∙ ap (λ (z : Opened). stepped_all z st es.now) e))))))))))))))))
 
 module _ {M : Type 1} {𝓤 : Ura M} (𝓛 : Logic 𝓤) (mem : Memory → SProp 𝓤) (run : Routine → Fun 𝓤) where
   open 𝓛 use {H}

@@ -38,7 +38,7 @@ use denote.Triple.Clauses.{ensured, lasts}
 use Rattle.meaning.specs.declared.Checked.{Checked}
 use Rattle.meaning.specs.contracts.Checked as R
 use Rattle.meaning.proofs.Checked.TheLaws as R'
-use Rattle.opened.specs.OpenedTables.{outcomeIn}
+use Rattle.opened.specs.OpenedTables.{outcome_in}
 use Rattle.opened.specs.declared.Opened.{Opened}
 use Rattle.opened.specs.contracts.Opened as T
 use Rattle.opened.proofs.Opened.TheLaws as T'
@@ -70,7 +70,7 @@ module _ {M : Type 1} {𝓤 : Ura M} (𝓛 : Logic 𝓤) (mem : Memory → SProp
   mach = T'.lowered d
 
   abbrev found : Checked
-  found = outcomeIn d.signals d.states
+  found = outcome_in d.signals d.states
 
   abbrev y : (walk_of 𝓛 outer.ended stayed (outer.clauses 𝓛 mem run)).Ghost
   y = (((κ, tt), (q, tt), tt, (d, tt), (mach ∷ [], tt)), tt)

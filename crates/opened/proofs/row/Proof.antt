@@ -43,7 +43,7 @@ use denote.Triple.Clauses.{ensured, lasts}
 use Rattle.meaning.specs.declared.StateRow.{StateRow}
 use Rattle.meaning.specs.contracts.StateRow as R
 use Rattle.meaning.proofs.StateRow.TheLaws as R'
-use Rattle.meaning.specs.Runs.{rowIn}
+use Rattle.meaning.specs.Runs.{row_in}
 use Rattle.opened.specs.declared.Opened.{Opened}
 use Rattle.opened.specs.contracts.Opened as T
 use Rattle.opened.proofs.Opened.TheLaws as T'
@@ -79,7 +79,7 @@ module _ {M : Type 1} {𝓤 : Ura M} (𝓛 : Logic 𝓤) (mem : Memory → SProp
   v = slice_val d.bytes.ref_ptr (length d.bytes.now)
 
   abbrev found : StateRow
-  found = rowIn d.bytes.now d.signals d.states m
+  found = row_in d.bytes.now d.signals d.states m
 
   abbrev args : Vals outer.signature (κ, tt)
   args = (mach ∷ [], (vint w16 m ∷ [], tt))

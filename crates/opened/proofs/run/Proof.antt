@@ -44,7 +44,7 @@ use denote.Triple.Clauses.{ensured, lasts}
 use Rattle.opened.specs.declared.Opened.{Opened}
 use Rattle.opened.specs.contracts.Opened as T
 use Rattle.opened.proofs.Opened.TheLaws as T'
-use Rattle.meaning.specs.Openings.{runFromIn}
+use Rattle.meaning.specs.Openings.{run_from_in}
 use Rattle.meaning.specs.declared.Arrived.{Arrived}
 use Rattle.meaning.specs.contracts.Arrived as R
 use Rattle.meaning.proofs.Arrived.TheLaws as R'
@@ -89,7 +89,7 @@ module _ {M : Type 1} {𝓤 : Ura M} (𝓛 : Logic 𝓤) (mem : Memory → SProp
   ve = slice_val es.ref_ptr (length es.now)
 
   abbrev found : Arrived
-  found = runFromIn d.number d.bytes.now d.signals d.states s es.now
+  found = run_from_in d.number d.bytes.now d.signals d.states s es.now
 
   abbrev args : Vals outer.signature (κ, (κ', tt))
   args = (mach ∷ [], (low ∷ [], (ve ∷ [], tt)))

@@ -41,7 +41,7 @@ use denote.Triple.Table.{entered, cited}
 use denote.Triple.Walked.{says, Stays, stay_none, walk_of, Goes-none, Walks, ends_at, walked, walk_Meets}
 use denote.Exit.{yes}
 use denote.Triple.Clauses.{ensured, lasts}
-use Rattle.meaning.specs.Openings.{runFromIn}
+use Rattle.meaning.specs.Openings.{run_from_in}
 use Rattle.meaning.specs.declared.Arrived.{Arrived}
 use Rattle.meaning.specs.contracts.Arrived as R
 use Rattle.meaning.proofs.Arrived.TheLaws as R'
@@ -86,7 +86,7 @@ module _ {M : Type 1} {𝓤 : Ura M} (𝓛 : Logic 𝓤) (mem : Memory → SProp
   low = LL.val S.the_type S'.the_laws s
 
   abbrev found : Arrived
-  found = runFromIn d.number d.bytes.now d.signals d.states s (n ∷ [])
+  found = run_from_in d.number d.bytes.now d.signals d.states s (n ∷ [])
 
   abbrev args : Vals outer.signature (κ, tt)
   args = (mach ∷ [], (low ∷ [], (vint w8 n ∷ [], tt)))

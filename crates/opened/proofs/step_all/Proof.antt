@@ -46,7 +46,7 @@ use Rattle.opened.proofs.Opened.TheLaws as T'
 use Rattle.meaning.specs.declared.State.{State}
 use Rattle.meaning.specs.contracts.State as S
 use Rattle.meaning.proofs.State.TheLaws as S'
-use Rattle.openings.specs.Steps.{steppedIn}
+use Rattle.openings.specs.Steps.{stepped_in}
 use Rattle.openings.specs.contracts.step_all_from as inner
 use Rattle.openings.proofs.step_all_from.Symbol as inner-def
 use Rattle.openings.proofs.step_all_from.Symbol.{name as #openings·step-all-from}
@@ -85,7 +85,7 @@ module _ {M : Type 1} {𝓤 : Ura M} (𝓛 : Logic 𝓤) (mem : Memory → SProp
   ve = slice_val es.ref_ptr (length es.now)
 
   abbrev found : State
-  found = steppedIn d.number d.bytes.now d.signals d.states s es.now
+  found = stepped_in d.number d.bytes.now d.signals d.states s es.now
 
   abbrev args : Vals outer.signature (κ, (κ', tt))
   args = (mach ∷ [], (low ∷ [], (ve ∷ [], tt)))

@@ -44,7 +44,7 @@ use Rattle.meaning.specs.declared.Watch.{Watch}
 use Rattle.meaning.specs.contracts.Served as S
 use Rattle.meaning.proofs.Served.TheLaws as S'
 use Rattle.meaning.specs.contracts.Watch as D
-use Rattle.desk_tasks.specs.Surveys.{servedIn}
+use Rattle.desk_tasks.specs.Surveys.{served_in}
 use Rattle.desk_tasks.specs.declared.Request.{Request}
 use Rattle.desk_tasks.specs.declared.Request.TheVariants.{Turn}
 use Rattle.desk_tasks.specs.contracts.Request as Q
@@ -57,7 +57,7 @@ use Rattle.desk.specs.contracts.serve as serve
 use Rattle.desk.proofs.serve.Symbol as serve-def
 use Rattle.desk.proofs.serve.Symbol.{name as #desk·serve}
 use Rattle.desk.proofs.serve.Met as serve-thm
-use Rattle.opened.specs.OpenedTables.{turnedBy}
+use Rattle.opened.specs.OpenedTables.{turned_by}
 use Rattle.opened.specs.declared.Opened.{Opened}
 use Rattle.opened.specs.contracts.Opened as T
 use Rattle.opened.proofs.Opened.TheLaws as T'
@@ -89,7 +89,7 @@ module _ {M : Type 1} {𝓤 : Ura M} (𝓛 : Logic 𝓤) (mem : Memory → SProp
   args = (slice_of x ∷ [], (mach ∷ [], (vint w64 last ∷ [], tt)))
 
   abbrev found : Outcome
-  found = turnedBy d x.now last
+  found = turned_by d x.now last
 
   abbrev y : (walk_of 𝓛 outer.ended stayed (outer.clauses 𝓛 mem run)).Ghost
   y = (((κ, (κ', tt)), (q, (q', tt)), bounds, (x, (d, (last, tt))), args), tt)
@@ -110,7 +110,7 @@ module _ {M : Type 1} {𝓤 : Ura M} (𝓛 : Logic 𝓤) (mem : Memory → SProp
   exits : (a : Request) → a ≡ Turn d.number last → (r : Served) (u : Val) (l : List Watch) → Served-as x d a r l → length l ≡ length ys
       → ent 𝓤 (⋆ 𝓛 (‵ ((S.the_row).own_val r (u ∷ [])) ∷ (‵ (flft κ q) ⊛ ‵ (flft κ' q') ⊛ ‵ ftrue) ∷ ‵ (finally D.the_row γ l) ∷ ‵ (Own κ κ' d) ∷ [])) (End u)
   exits a ae r u l le n =
-      let same : servedIn d.bytes.now d.signals d.states a ys ≡ found = ap (λ (z : Request). servedIn d.bytes.now d.signals d.states z ys) ae in
+      let same : served_in d.bytes.now d.signals d.states a ys ≡ found = ap (λ (z : Request). served_in d.bytes.now d.signals d.states z ys) ae in
       qed 𝓛 (‵ ((S.the_row).own_val r (u ∷ [])) ∷ (‵ (flft κ q) ⊛ ‵ (flft κ' q') ⊛ ‵ ftrue) ∷ ‵ (finally D.the_row γ l) ∷ ‵ (Own κ κ' d) ∷ []) ∵
       suffices ! _ (ends_at 𝓛 outer.ended stayed (outer.clauses 𝓛 mem run) y u r (l, (tt, (tt, tt))) (n, (tt, (tt, tt)))) $ says ! (le.0 ∙ ap (λ (z : Outcome). z.answer) same, le.1 ∙ ap (λ (z : Outcome). z.desk) same) $
       move ! (1 ∷ []) $ frame ! $ nothing ! $ owned ! usize (Is usize) (uint_Makes 𝓛 w64) last _ (refl, last_Fits) $ fjoin ! $ move ! (3 ∷ 0 ∷ []) $ fjoin ! $ move ! (2 ∷ 0 ∷ []) $ fjoin ! $ frame ! $ done !

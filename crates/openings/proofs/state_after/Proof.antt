@@ -2,7 +2,7 @@
 use borrow.Author.Rules.{rules}
 use mathlib.Core.Path.{sym, ap}
 use Rattle.meaning.specs.declared.Arrived.{Arrived}
-use Rattle.openings.specs.Steps.{stateAfter}
+use Rattle.openings.specs.Steps.{state_after}
 use Rattle.openings.proofs.state_after.Statement.{statement}
 use Rattle.openings.proofs.state_after.Tie as tie
 
@@ -13,7 +13,7 @@ enum_told : tie.Need-enum-told
 enum_told c = search rules
 
 returns : tie.Need-returns
-returns c = sym (ap (λ (r : Arrived). stateAfter r c.before.before.before.args.state) c.before.arrived.given.1)
+returns c = sym (ap (λ (r : Arrived). state_after r c.before.before.before.args.state) c.before.arrived.given.1)
 
 returns-2 : tie.Need-returns-2
 returns-2 c = search rules

@@ -4,14 +4,14 @@ use mathlib.Core.Path.{◌≡◌, refl, ◌∙◌}
 use Prim.Native.Nat.{◌-◌, ◌≤◌}
 use borrow.Author.Rules.{rules}
 use lib.ListN.{length, drop}
-use Rattle.openings.specs.Steps.{steppedIn}
+use Rattle.openings.specs.Steps.{stepped_in}
 use Rattle.openings.proofs.Laws.{step-on, step_end}
 use Rattle.openings.proofs.step_all_from.Statement.{statement}
 use Rattle.openings.proofs.step_all_from.Tie as tie
 
 abbrev invariant-loop : tie.invariant-loop
 invariant-loop t signals states opening events s₀ i₀ s i =
-    (i ≤ length events) × (steppedIn opening t signals states s (drop i events) ≡ steppedIn opening t signals states s₀ events)
+    (i ≤ length events) × (stepped_in opening t signals states s (drop i events) ≡ stepped_in opening t signals states s₀ events)
 
 abbrev decreases-loop : tie.decreases-loop
 decreases-loop t signals states opening events s₀ i₀ s i = length events - i

@@ -4,14 +4,14 @@ use borrow.Author.Rules.{rules}
 use mathlib.Core.Bool.{false}
 use Prim.Native.Nat.{◌-◌, ◌≤◌}
 use lib.ListN.{length-replicate}
-use Rattle.ltl.specs.Residuals.{ruleTrue}
-use Rattle.profile_sets.specs.Arrays.{setIn, Marked}
+use Rattle.ltl.specs.Residuals.{rule_true}
+use Rattle.profile_sets.specs.Arrays.{set_in, Marked}
 use Rattle.profile_sets.proofs.Tables.{marked-none, marked_more, marked_all}
 use Rattle.profile_sets.proofs.start_profiles.Statement.{statement}
 use Rattle.profile_sets.proofs.start_profiles.Tie as tie
 
 abbrev invariant-loop : tie.invariant-loop
-invariant-loop whole n out₀ p₀ out p = (p ≤ 256) × Marked p (ruleTrue n (setIn whole)) out
+invariant-loop whole n out₀ p₀ out p = (p ≤ 256) × Marked p (rule_true n (set_in whole)) out
 
 abbrev decreases-loop : tie.decreases-loop
 decreases-loop whole n out₀ p₀ out p = 256 - p

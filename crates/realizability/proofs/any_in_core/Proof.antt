@@ -7,12 +7,12 @@ use Prim.Native.Nat.{◌-◌, ◌≤◌}
 use lib.ListN.{get_or}
 use Rattle.relations.proofs.Searches.{NoneBelow, none-zero, none_more, none-all, some-found}
 use Rattle.relations.specs.Relations.{entry}
-use Rattle.realizability.specs.Core.{toCoreBy}
+use Rattle.realizability.specs.Core.{to_core_by}
 use Rattle.realizability.proofs.any_in_core.Statement.{statement}
 use Rattle.realizability.proofs.any_in_core.Tie as tie
 
 abbrev invariant-loop : tie.invariant-loop
-invariant-loop rows core labels x c₀ c = (c ≤ labels) × NoneBelow c (toCoreBy (entry rows) (λ i. get_or core i false) x)
+invariant-loop rows core labels x c₀ c = (c ≤ labels) × NoneBelow c (to_core_by (entry rows) (λ i. get_or core i false) x)
 
 abbrev decreases-loop : tie.decreases-loop
 decreases-loop rows core labels x c₀ c = labels - c
@@ -24,7 +24,7 @@ leads-to-requires : tie.Need-leads-to-requires invariant-loop decreases-loop
 leads-to-requires c κs = ((search rules, search rules), c.before.before.requires.1)
 
 returns : tie.Need-returns invariant-loop decreases-loop
-returns c = some-found c.before.before.before.before.args.labels (toCoreBy (entry c.before.before.before.before.args.rows.now) (λ i. get_or c.before.before.before.before.args.core.now i false) c.before.before.before.before.args.x) c.before.before.before.loop.c c.before.before.loop-test.true (sym c.before.leads-to.ensures ∙ c.if1.true)
+returns c = some-found c.before.before.before.before.args.labels (to_core_by (entry c.before.before.before.before.args.rows.now) (λ i. get_or c.before.before.before.before.args.core.now i false) c.before.before.before.before.args.x) c.before.before.before.loop.c c.before.before.loop-test.true (sym c.before.leads-to.ensures ∙ c.if1.true)
 
 add-c : tie.Need-overflow-add-c invariant-loop decreases-loop
 add-c c = search rules

@@ -7,12 +7,12 @@ use lib.ListN.{length, length-set}
 use Rattle.valuation.specs.Entries.{Entries}
 use Rattle.valuation.proofs.Entries.{entries_none, entries-more, entries-to}
 use Rattle.relations.specs.Relations.{entry}
-use Rattle.realizability.specs.Core.{componentBy}
+use Rattle.realizability.specs.Core.{component_by}
 use Rattle.realizability.proofs.component_row.Statement.{statement}
 use Rattle.realizability.proofs.component_row.Tie as tie
 
 abbrev invariant-loop : tie.invariant-loop
-invariant-loop rows labels components₀ c₀ components c = (c ≤ labels) × (length components ≡ 128) × Entries c (componentBy (entry rows)) 0 components
+invariant-loop rows labels components₀ c₀ components c = (c ≤ labels) × (length components ≡ 128) × Entries c (component_by (entry rows)) 0 components
 
 abbrev decreases-loop : tie.decreases-loop
 decreases-loop rows labels components₀ c₀ components c = labels - c

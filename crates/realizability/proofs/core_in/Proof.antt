@@ -8,12 +8,12 @@ use lib.ListN.{length, length-set}
 use Rattle.valuation.specs.Entries.{Entries}
 use Rattle.valuation.proofs.Entries.{entries_none, entries-more, entries-to}
 use Rattle.relations.specs.Relations.{entry}
-use Rattle.realizability.specs.Core.{coreIn}
+use Rattle.realizability.specs.Core.{core_in}
 use Rattle.realizability.proofs.core_in.Statement.{statement}
 use Rattle.realizability.proofs.core_in.Tie as tie
 
 abbrev invariant-loop : tie.invariant-loop
-invariant-loop rows components sets m labels core₀ c₀ core c = (c ≤ labels) × (length core ≡ 128) × Entries c (coreIn m (entry rows) components sets) false core
+invariant-loop rows components sets m labels core₀ c₀ core c = (c ≤ labels) × (length core ≡ 128) × Entries c (core_in m (entry rows) components sets) false core
 
 abbrev decreases-loop : tie.decreases-loop
 decreases-loop rows components sets m labels core₀ c₀ core c = labels - c

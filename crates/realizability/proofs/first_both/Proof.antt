@@ -5,12 +5,12 @@ use mathlib.Core.Path.{sym, ◌∙◌}
 use Prim.Native.Nat.{◌-◌, ◌≤◌}
 use Rattle.sequences.proofs.Loops.{Missed, missed-none, missed_more, missed-found, missed-end}
 use Rattle.relations.specs.Relations.{entry}
-use Rattle.realizability.specs.Core.{bothWays}
+use Rattle.realizability.specs.Core.{both_ways}
 use Rattle.realizability.proofs.first_both.Statement.{statement}
 use Rattle.realizability.proofs.first_both.Tie as tie
 
 abbrev invariant-loop : tie.invariant-loop
-invariant-loop rows c x₀ x = (x ≤ c) × Missed x (λ x. bothWays (entry rows) x c)
+invariant-loop rows c x₀ x = (x ≤ c) × Missed x (λ x. both_ways (entry rows) x c)
 
 abbrev decreases-loop : tie.decreases-loop
 decreases-loop rows c x₀ x = c - x

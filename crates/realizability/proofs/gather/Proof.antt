@@ -8,12 +8,12 @@ use Rattle.meaning.specs.Traces.{masked}
 use Rattle.ltl.specs.Keys.{look}
 use Rattle.realizability.proofs.Gathers.{all_none, all_more, all-skip, all-to}
 use Rattle.relations.specs.Relations.{label_at}
-use Rattle.realizability.specs.Core.{withinComponent, AllGathered}
+use Rattle.realizability.specs.Core.{within_component, AllGathered}
 use Rattle.realizability.proofs.gather.Statement.{statement}
 use Rattle.realizability.proofs.gather.Tie as tie
 
 abbrev invariant-loop : tie.invariant-loop
-invariant-loop components profiles fairs events mask labels sets₀ e₀ sets e = (e ≤ events) × AllGathered (masked e mask) labels (withinComponent components (label_at labels profiles) (look fairs)) sets
+invariant-loop components profiles fairs events mask labels sets₀ e₀ sets e = (e ≤ events) × AllGathered (masked e mask) labels (within_component components (label_at labels profiles) (look fairs)) sets
 
 abbrev decreases-loop : tie.decreases-loop
 decreases-loop components profiles fairs events mask labels sets₀ e₀ sets e = events - e
@@ -28,7 +28,7 @@ gather-event-requires : tie.Need-gather-event-requires invariant-loop decreases-
 gather-event-requires c κs =
     let at-loop = c.before.before.before.before in
     let start = at-loop.before.before in (
-      record { events = search rules; some = start.requires.0.some; few = start.requires.0.few; profiles-long = start.requires.0.profiles-long; fairs-long = start.requires.0.fairs-long },
+      record { events = search rules; some = start.requires.0.some; few = start.requires.0.few; profiles_long = start.requires.0.profiles_long; fairs_long = start.requires.0.fairs_long },
       (start.requires.1.0, at-loop.loop.invariant.1.long, start.requires.1.1),
     )
 

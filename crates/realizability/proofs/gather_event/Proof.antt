@@ -7,13 +7,13 @@ use lib.ListN.{get_or}
 use lib.Dec.{eqb}
 use Rattle.ltl.specs.Keys.{look}
 use Rattle.realizability.proofs.Gathers.{gathered_none, gathered-more, gathered-to}
-use Rattle.relations.specs.Relations.{label_at, onlyIf}
-use Rattle.realizability.specs.Core.{withinComponent, Gathered}
+use Rattle.relations.specs.Relations.{label_at, only_if}
+use Rattle.realizability.specs.Core.{within_component, Gathered}
 use Rattle.realizability.proofs.gather_event.Statement.{statement}
 use Rattle.realizability.proofs.gather_event.Tie as tie
 
 abbrev invariant-loop : tie.invariant-loop
-invariant-loop components profiles fairs labels e sets₀ y₀ sets y = (y ≤ labels) × Gathered y labels (withinComponent components (label_at labels profiles) (look fairs) e) sets₀ sets
+invariant-loop components profiles fairs labels e sets₀ y₀ sets y = (y ≤ labels) × Gathered y labels (within_component components (label_at labels profiles) (look fairs) e) sets₀ sets
 
 abbrev decreases-loop : tie.decreases-loop
 decreases-loop components profiles fairs labels e sets₀ y₀ sets y = labels - y
@@ -89,7 +89,7 @@ loop-again c =
           turn.invariant.1 start.requires.0.few (get_or start.args.components.now turn.y 0) fair-if.result refl (start.requires.1.2.is turn.y test.true)
           (fair-if.ensures
           ∙ ap
-          (λ (x : ℕ). onlyIf (eqb (get_or start.args.components.now x 0) (get_or start.args.components.now turn.y 0)) (look start.args.fairs.now start.args.e turn.y))
+          (λ (x : ℕ). only_if (eqb (get_or start.args.components.now x 0) (get_or start.args.components.now turn.y 0)) (look start.args.fairs.now start.args.e turn.y))
           label-in.ensures.0),
     )
 

@@ -8,12 +8,12 @@ use lib.ListN.{length, get_or, length-set}
 use Rattle.valuation.proofs.Entries.{entries_none, entries-more, entries-to}
 use Rattle.valuation.specs.Entries.{Entries}
 use Rattle.relations.specs.Relations.{entry}
-use Rattle.realizability.specs.Core.{realizableBy}
+use Rattle.realizability.specs.Core.{realizable_by}
 use Rattle.realizability.proofs.leading_row.Statement.{statement}
 use Rattle.realizability.proofs.leading_row.Tie as tie
 
 abbrev invariant-loop : tie.invariant-loop
-invariant-loop rows core labels leading₀ x₀ leading x = (x ≤ labels) × (length leading ≡ 128) × Entries x (realizableBy labels (entry rows) (λ i. get_or core i false)) false leading
+invariant-loop rows core labels leading₀ x₀ leading x = (x ≤ labels) × (length leading ≡ 128) × Entries x (realizable_by labels (entry rows) (λ i. get_or core i false)) false leading
 
 abbrev decreases-loop : tie.decreases-loop
 decreases-loop rows core labels leading₀ x₀ leading x = labels - x

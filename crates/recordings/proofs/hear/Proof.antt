@@ -3,8 +3,8 @@ use mathlib.Core.Path.{◌≡◌, sym, ap₂, subst, ◌∙◌}
 use Prim.Native.Nat.{◌^◌, ◌<◌}
 use borrow.Author.Rules.{rules}
 use Rattle.sequences.proofs.Tests.{both}
-use Rattle.meaning.specs.Recordings.{join, joinedAt}
-use Rattle.meaning.specs.TableFiles.{alphabetIn}
+use Rattle.meaning.specs.Recordings.{join, joined_at}
+use Rattle.meaning.specs.TableFiles.{alphabet_in}
 use Rattle.meaning.specs.declared.Seen.{Seen}
 use Rattle.recordings.specs.Hearings.{HearsJoined}
 use Rattle.recordings.proofs.Laws.{fault-form, fault-both, hears, known-low, fit_is, contra-is}
@@ -39,7 +39,7 @@ returns c =
     let a = fits.before.before.before.before.before.before.before.args in
     let fit = fit_is a.signals a.a.now a.b.now a.i r.result q.result first.result second.result r.ensures q.ensures first.ensures second.ensures in
     let contra = contra-is a.signals a.a.now a.b.now a.i r.result q.result c.before.contradicts.result r.ensures q.ensures c.before.contradicts.ensures in
-    fault-both (alphabetIn a.t.now a.signals) a.signals a.a.now a.b.now a.i (fit ∙ c.before.before.if1.true) (contra ∙ c.if2.true)
+    fault-both (alphabet_in a.t.now a.signals) a.signals a.a.now a.b.now a.i (fit ∙ c.before.before.if1.true) (contra ∙ c.if2.true)
 
 joined-requires : tie.Need-joined-requires
 joined-requires c κs = search rules
@@ -66,7 +66,7 @@ returns-2 c =
     let a = fits.before.before.before.before.before.before.before.args in
     let fit = fit_is a.signals a.a.now a.b.now a.i r.result q.result first.result second.result r.ensures q.ensures first.ensures second.ensures in
     let contra = contra-is a.signals a.a.now a.b.now a.i r.result q.result c.before.before.before.before.contradicts.result r.ensures q.ensures c.before.before.before.before.contradicts.ensures in
-    let whole : ◌≡◌ {A = Seen} c.before.before.joined.result (joinedAt a.a.now a.b.now a.i) = c.before.before.joined.ensures ∙ ap₂ join r.ensures q.ensures in
+    let whole : ◌≡◌ {A = Seen} c.before.before.joined.result (joined_at a.a.now a.b.now a.i) = c.before.before.joined.ensures ∙ ap₂ join r.ensures q.ensures in
     let old = a.members.now in
     let new = c.hear-joined.new.1.1.1.1.1.1.0 in
     hears a.t.now a.signals a.states a.a.now a.b.now a.i old new c.hear-joined.result (fit ∙ c.before.before.before.before.before.if1.true) (contra ∙ c.before.before.before.if2.false)
@@ -81,7 +81,7 @@ returns-3 c =
     let q = fits.before.before.seen-at2 in
     let a = fits.before.before.before.before.before.before.before.args in
     let fit = fit_is a.signals a.a.now a.b.now a.i r.result q.result first.result second.result r.ensures q.ensures first.ensures second.ensures in
-    fault-form (alphabetIn a.t.now a.signals) a.signals a.a.now a.b.now a.i (fit ∙ c.if1.false)
+    fault-form (alphabet_in a.t.now a.signals) a.signals a.a.now a.b.now a.i (fit ∙ c.if1.false)
 
 pub hear-spec : {M : Type 1} → statement M
 hear-spec =

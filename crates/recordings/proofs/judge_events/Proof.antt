@@ -3,7 +3,7 @@ use mathlib.Core.Path.{ap, subst, ◌∙◌}
 use Prim.Native.Nat.{◌-◌, ◌≤◌}
 use native.Mathlib.Omega.{arith}
 use borrow.Author.Rules.{rules}
-use Rattle.recordings.specs.Hearings.{Hears, handedOn}
+use Rattle.recordings.specs.Hearings.{Hears, handed_on}
 use Rattle.recordings.specs.declared.Hearing.{Hearing}
 use Rattle.recordings.proofs.Laws.{given, Passed, passed_none, passed-more, pass-fault, pass-end}
 use Rattle.recordings.proofs.judge_events.Statement.{statement}
@@ -60,7 +60,7 @@ returns c =
     let heard = c.before.before.before.hear in
     let new = heard.new.1.1.1.1.1.1.1.0 in
     let told = c.before.enum_told.given in
-    c.handed-on.ensures ∙ ap handedOn told.1
+    c.handed-on.ensures ∙ ap handed_on told.1
     ∙ pass-fault a.t.now a.signals a.states a.a.now a.b.now loop.i loop.inside loop.members told.0.0 loop.invariant.1 (omega arith) (subst (λ (h : Hearing). Hears a.t.now a.signals a.states a.a.now a.b.now loop.i loop.members new h) told.1 heard.ensures)
 
 add-i : tie.Need-overflow-add-i invariant-loop decreases-loop

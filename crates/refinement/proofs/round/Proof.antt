@@ -2,9 +2,9 @@
 use native.Mathlib.Omega.{arith}
 use borrow.Author.Rules.{rules}
 use Prim.Native.Nat.{◌-◌, ◌≤◌, ◌<◌}
-use Rattle.sequences.specs.Tabulate.{leastBelow}
+use Rattle.sequences.specs.Tabulate.{least_below}
 use Rattle.sequences.proofs.Loops.{Filled, filled_none, filled_more}
-use Rattle.moore.specs.Grouping.{sameStep, nextGroups}
+use Rattle.moore.specs.Grouping.{same_step, next_groups}
 use Rattle.group_slots.specs.Groups.{unmasked}
 use Rattle.group_slots.specs.Slots.{Slotted}
 use Rattle.refinement.proofs.Laws.{filled-take}
@@ -13,7 +13,7 @@ use Rattle.refinement.proofs.round.Statement.{statement}
 use Rattle.refinement.proofs.round.Tie as tie
 
 abbrev invariant-loop : tie.invariant-loop
-invariant-loop rows group states events next₀ slots₀ i₀ next slots i = (i ≤ states) × Filled i (λ k. leastBelow k (λ j. sameStep (unmasked events) rows group j k)) next₀ next × Slotted i events rows group slots
+invariant-loop rows group states events next₀ slots₀ i₀ next slots i = (i ≤ states) × Filled i (λ k. least_below k (λ j. same_step (unmasked events) rows group j k)) next₀ next × Slotted i events rows group slots
 
 abbrev decreases-loop : tie.decreases-loop
 decreases-loop rows group states events next₀ slots₀ i₀ next slots i = states - i
@@ -65,7 +65,7 @@ loop-again c =
     (omega arith, filled, slotted-more _ _ _ loop.i slot_of.result loop.slots loop.invariant.2 slot_of.ensures.0 slot_of.ensures.1)
 
 returns : tie.Need-returns invariant-loop decreases-loop
-unfolding nextGroups
+unfolding next_groups
 returns c = filled-take c.before.before.before.args.states c.before.loop.invariant.1 (omega arith)
 
 pub round-spec : {M : Type 1} → statement M

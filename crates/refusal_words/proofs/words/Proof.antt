@@ -9,7 +9,7 @@ use lib.ListN.{length}
 use Rattle.meaning.specs.Refusals.{code_of}
 use Rattle.text_pieces.specs.declared.Text.TheVariants as Text
 use Rattle.text_pieces.proofs.Laws.{put-more, put_is, put_front}
-use Rattle.refusal_words.specs.Words.{wordsFor, words_of}
+use Rattle.refusal_words.specs.Words.{words_for, words_of}
 use Rattle.refusal_words.proofs.words.Statement.{statement}
 use Rattle.refusal_words.proofs.words.Tie as tie
 
@@ -39,7 +39,7 @@ returns-2 c =
     let at_test = at-number.before.before in
     let start = at_test.before.before in
     let r = start.args.refusal in
-    let sentence = put_is at-put.put-words.ensures.0 (wordsFor (code_of r).0) (ap wordsFor at-number.number.ensures) in
+    let sentence = put_is at-put.put-words.ensures.0 (words_for (code_of r).0) (ap words_for at-number.number.ensures) in
     let h = put-more sentence at-end.put-bytes.ensures in
     let out = start.args.out.now in
     let end = at-end.put-bytes.result in

@@ -3,7 +3,7 @@ use borrow.Author.Rules.{rules}
 use mathlib.Core.Path.{◌∙◌, ap}
 use mathlib.Core.Bool.{Bool}
 use Rattle.relations.proofs.Words.{row-passed}
-use Rattle.relations.specs.Relations.{onlyIf}
+use Rattle.relations.specs.Relations.{only_if}
 use Rattle.relations.proofs.pass_row.Statement.{statement}
 use Rattle.relations.proofs.pass_row.Tie as tie
 
@@ -65,7 +65,7 @@ returns c =
     let only_if = c.before.before.before.only_if in
     let only-if2 = c.before.only-if2 in
     row-passed _ start.args.a start.args.b start.args.x only_if.result only-if2.result start.args.rows.now start.requires.2 start.requires.1
-    (only_if.ensures ∙ ap (λ (t : Bool). onlyIf t start.args.a) has.ensures) (only-if2.ensures ∙ ap (λ (t : Bool). onlyIf t start.args.b) has.ensures)
+    (only_if.ensures ∙ ap (λ (t : Bool). only_if t start.args.a) has.ensures) (only-if2.ensures ∙ ap (λ (t : Bool). only_if t start.args.b) has.ensures)
 
 pub pass-row-spec : {M : Type 1} → statement M
 pass-row-spec =

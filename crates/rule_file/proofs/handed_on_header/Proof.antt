@@ -1,7 +1,7 @@
 -- `rule_file::handed_on_header` meets its contract. By the case of the reading.
 use mathlib.Core.Path.{sym, ap, ◌∙◌}
 use Rattle.meaning.specs.declared.HeaderReading.{HeaderReading}
-use Rattle.rule_file.specs.Reading.{read_of, handedOnHeader}
+use Rattle.rule_file.specs.Reading.{read_of, handed_on_header}
 use borrow.Author.Rules.{rules}
 use Rattle.rule_file.proofs.handed_on_header.Statement.{statement}
 use Rattle.rule_file.proofs.handed_on_header.Tie as tie
@@ -19,10 +19,10 @@ refused-requires-2 : tie.Need-refused-requires-2
 refused-requires-2 c κs = search rules
 
 returns : tie.Need-returns
-returns c = c.refused.ensures ∙ sym (ap (λ (r : HeaderReading). read_of (handedOnHeader r)) c.before.enum_told.given.1)
+returns c = c.refused.ensures ∙ sym (ap (λ (r : HeaderReading). read_of (handed_on_header r)) c.before.enum_told.given.1)
 
 returns-2 : tie.Need-returns-2
-returns-2 c = c.refused2.ensures ∙ sym (ap (λ (r : HeaderReading). read_of (handedOnHeader r)) c.before.before.first.given.1)
+returns-2 c = c.refused2.ensures ∙ sym (ap (λ (r : HeaderReading). read_of (handed_on_header r)) c.before.before.first.given.1)
 
 pub handed_on-header-spec : {M : Type 1} → statement M
 handed_on-header-spec =

@@ -4,11 +4,11 @@ use borrow.Author.Rules.{rules}
 use mathlib.Core.Path.{◌≡◌, sym, ap, ◌∙◌}
 use mathlib.Core.List.{List}
 use Prim.Native.Nat.{ℕ}
-use Rattle.meaning.specs.RuleFiles.{headerOf}
+use Rattle.meaning.specs.RuleFiles.{header_of}
 use Rattle.meaning.specs.declared.HeaderReading.{HeaderReading}
 use Rattle.meaning.specs.declared.HeaderReading.TheVariants as HeaderReading
 use Rattle.meaning.specs.declared.MaskReading.{MaskReading}
-use Rattle.rule_file.specs.Reading.{read_of, handedOnHeader, handedOnMask}
+use Rattle.rule_file.specs.Reading.{read_of, handed_on_header, handed_on_mask}
 use Rattle.rule_records.proofs.Records.{header-few}
 use Rattle.rule_records.proofs.Masks.{mask-near}
 use Rattle.rule_file.proofs.Nodes.{judged, judged-refused, judged-mask-refused}
@@ -20,7 +20,7 @@ use Rattle.rule_file.proofs.read.Tie as tie
 abbrev bytes : tie.After-first → List ℕ
 bytes c = c.before.before.before.before.args.bytes.now
 
-header : (c : tie.After-first) → headerOf (bytes c) ≡ HeaderReading.Header c.first.given.0.0
+header : (c : tie.After-first) → header_of (bytes c) ≡ HeaderReading.Header c.first.given.0.0
 header c = sym c.before.before.read-header.ensures ∙ c.first.given.1
 
 -- ---- the needs
@@ -42,7 +42,7 @@ returns c =
     let at-read-header = c.before.before.before in
     let start = at-read-header.before.before in
     let told = c.before.enum_told.given.1 in
-    c.handed_on-header.ensures ∙ ap (λ (o : HeaderReading). read_of (handedOnHeader o)) told
+    c.handed_on-header.ensures ∙ ap (λ (o : HeaderReading). read_of (handed_on_header o)) told
     ∙ sym (ap read_of (judged-refused start.args.bytes.now _ (sym at-read-header.read-header.ensures ∙ told)))
 
 read-mask-requires : tie.Need-read-mask-requires
@@ -62,7 +62,7 @@ returns-2 c =
     let at-read-mask = c.before.before.before in
     let at_first = at-read-mask.before.before in
     let told = c.before.enum-told2.given.1 in
-    c.handed_on-mask.ensures ∙ ap (λ (o : MaskReading). read_of (handedOnMask o)) told
+    c.handed_on-mask.ensures ∙ ap (λ (o : MaskReading). read_of (handed_on_mask o)) told
     ∙ sym (ap read_of (judged-mask-refused (bytes at_first) _ (header at_first) _ (sym at-read-mask.read-mask.ensures ∙ told)))
 
 read-nodes-requires : tie.Need-read-nodes-requires

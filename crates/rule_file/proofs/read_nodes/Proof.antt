@@ -5,7 +5,7 @@ use mathlib.Core.Path.{sym, ap, ◌∙◌}
 use mathlib.Core.Bool.{cond}
 use Prim.Native.Nat.{◌-◌}
 use Rattle.meaning.specs.declared.Reading.{Reading}
-use Rattle.rule_file.specs.Reading.{read_of, handedOn}
+use Rattle.rule_file.specs.Reading.{read_of, handed_on}
 use Rattle.rule_nodes.specs.declared.Shape.{Shape}
 use Rattle.rule_records.proofs.Records.{node-told}
 use Rattle.rule_file.proofs.Nodes.{Progress, progress-none, progress-more, progress-refused, progress-over, progress-accepted}
@@ -42,7 +42,7 @@ returns c =
     let at-loop-test = at-read-node.before in
     let at-loop = at-loop-test.before in
     let told = c.before.enum_told.given.1 in
-    c.handed-on.ensures ∙ ap (λ (r : Reading). read_of (handedOn r)) told
+    c.handed-on.ensures ∙ ap (λ (r : Reading). read_of (handed_on r)) told
     ∙ sym (ap read_of (progress-refused at-loop.loop.invariant _ at-loop-test.loop-test.true (sym at-read-node.read-node.ensures ∙ told)))
 
 shape-of-requires : tie.Need-shape-of-requires invariant-loop decreases-loop

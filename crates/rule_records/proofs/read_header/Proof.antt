@@ -6,13 +6,13 @@ use mathlib.Core.List.{List}
 use mathlib.Core.Bool.{Bool, not}
 use lib.ListN.{get_or}
 use borrow.Author.Tests.{eq-eqb, ne_eqb}
-use Rattle.meaning.specs.Bytes.{u16At}
+use Rattle.meaning.specs.Bytes.{u16_at}
 use Rattle.meaning.specs.declared.Refusal.{Refusal}
 use Rattle.meaning.specs.declared.HeaderReading.TheVariants as HeaderReading
-use Rattle.rule_records.specs.Frames.{refusalIn}
+use Rattle.rule_records.specs.Frames.{refusal_in}
 use Rattle.rule_records.proofs.Checks.{Cleared, cleared_more}
 use Rattle.rule_records.proofs.Between.{between, below, above}
-use Rattle.rule_records.proofs.Records.{headerChecks, Frame, framed-record, header-framed, header-clear, header_refused, header_read}
+use Rattle.rule_records.proofs.Records.{header_checks, Frame, framed-record, header-framed, header-clear, header_refused, header_read}
 use borrow.Author.Rules.{rules}
 use Rattle.rule_records.proofs.read_header.Statement.{statement}
 use Rattle.rule_records.proofs.read_header.Tie as tie
@@ -23,7 +23,7 @@ abbrev bytes : tie.After-known-told → List ℕ
 bytes c = c.before.before.before.before.before.args.b.now
 
 abbrev checks : tie.After-known-told → List (Bool × Refusal)
-checks c = headerChecks (bytes c)
+checks c = header_checks (bytes c)
 
 framed : (c : tie.After-known-told) → Frame (bytes c) 0 c.before.framed.given.0.0 c.before.framed.given.0.1.0
 framed c = framed-record (bytes c) 0 _ _ (sym c.before.before.before.frame.ensures ∙ c.before.framed.given.1)
@@ -32,10 +32,10 @@ cleared-3 : (c : tie.After-known-told) → Cleared (checks c) 3
 cleared-3 c = header-clear (bytes c) (framed c)
 
 cleared-4 : (c : tie.Else1) → Cleared (checks c.before) 4
-cleared-4 c = cleared_more (cleared-3 c.before) (ap not (eq-eqb (u16At (bytes c.before) 2) 256 (omega (arith, c.if1.false, (framed c.before).kind-is))))
+cleared-4 c = cleared_more (cleared-3 c.before) (ap not (eq-eqb (u16_at (bytes c.before) 2) 256 (omega (arith, c.if1.false, (framed c.before).kind-is))))
 
 cleared-5 : (c : tie.Else2) → Cleared (checks c.before.before) 5
-cleared-5 c = cleared_more (cleared-4 c.before) (ap not (eq-eqb (u16At (bytes c.before.before) 0) 4 (omega (arith, c.if2.false, (framed c.before.before).length-is))))
+cleared-5 c = cleared_more (cleared-4 c.before) (ap not (eq-eqb (u16_at (bytes c.before.before) 0) 4 (omega (arith, c.if2.false, (framed c.before.before).length-is))))
 
 cleared-6 : (c : tie.Else4) → Cleared (checks c.before.before.before.before.before) 6
 cleared-6 c = cleared_more (cleared-5 c.before.before.before) (between 1 4 (get_or (bytes c.before.before.before.before.before) 4 0) (omega (arith, c.before.if3.false, c.before.before.byte_at.ensures)) (omega (arith, c.if4.false, c.before.before.byte_at.ensures)))
@@ -58,13 +58,13 @@ refusal-in-requires : tie.Need-refusal-in-requires
 refusal-in-requires c κs = search rules
 
 returns : tie.Need-returns
-returns c = ap HeaderReading.Refused (c.refusal-in.ensures ∙ ap refusalIn c.before.enum_told.given.1) ∙ header-framed c.before.before.before.before.before.args.b.now _ (sym c.before.before.before.frame.ensures ∙ c.before.enum_told.given.1)
+returns c = ap HeaderReading.Refused (c.refusal-in.ensures ∙ ap refusal_in c.before.enum_told.given.1) ∙ header-framed c.before.before.before.before.before.args.b.now _ (sym c.before.before.before.frame.ensures ∙ c.before.enum_told.given.1)
 
 returns-2 : tie.Need-returns-2
-returns-2 c = header_refused c.before.before.before.before.before.before.args.b.now (cleared-3 c.before) (ap not (ne_eqb (u16At c.before.before.before.before.before.before.args.b.now 2) 256 (λ h. c.if1.true ((framed c.before).kind-is ∙ h))))
+returns-2 c = header_refused c.before.before.before.before.before.before.args.b.now (cleared-3 c.before) (ap not (ne_eqb (u16_at c.before.before.before.before.before.before.args.b.now 2) 256 (λ h. c.if1.true ((framed c.before).kind-is ∙ h))))
 
 returns-3 : tie.Need-returns-3
-returns-3 c = header_refused c.before.before.before.before.before.before.before.args.b.now (cleared-4 c.before) (ap not (ne_eqb (u16At c.before.before.before.before.before.before.before.args.b.now 0) 4 (λ h. c.if2.true ((framed c.before.before).length-is ∙ h))))
+returns-3 c = header_refused c.before.before.before.before.before.before.before.args.b.now (cleared-4 c.before) (ap not (ne_eqb (u16_at c.before.before.before.before.before.before.before.args.b.now 0) 4 (λ h. c.if2.true ((framed c.before.before).length-is ∙ h))))
 
 byte-at-requires : tie.Need-byte-at-requires
 byte-at-requires c κs = search rules

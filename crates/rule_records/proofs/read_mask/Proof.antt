@@ -6,13 +6,13 @@ use mathlib.Core.List.{List}
 use mathlib.Core.Bool.{Bool, not}
 use lib.Pow.{pow_pos}
 use borrow.Author.Tests.{eq-eqb, ne_eqb, le-leb, lt-leb}
-use Rattle.meaning.specs.Bytes.{u16At}
+use Rattle.meaning.specs.Bytes.{u16_at}
 use Rattle.meaning.specs.declared.Refusal.{Refusal}
 use Rattle.meaning.specs.declared.MaskReading.TheVariants as MaskReading
-use Rattle.rule_records.specs.Frames.{refusalIn}
+use Rattle.rule_records.specs.Frames.{refusal_in}
 use Rattle.rule_records.proofs.Checks.{Cleared, cleared_more}
 use Rattle.rule_records.proofs.Records.{Frame, framed-record}
-use Rattle.rule_records.proofs.Masks.{maskChecks, mask-absent, mask-framed, mask-refused, mask-read, mask-clear}
+use Rattle.rule_records.proofs.Masks.{mask_checks, mask-absent, mask-framed, mask-refused, mask-read, mask-clear}
 use borrow.Author.Rules.{rules}
 use Rattle.rule_records.proofs.read_mask.Statement.{statement}
 use Rattle.rule_records.proofs.read_mask.Tie as tie
@@ -26,9 +26,9 @@ abbrev signals : tie.Else1 → ℕ
 signals c = c.before.before.before.args.signals
 
 abbrev checks : tie.Else1 → List (Bool × Refusal)
-checks c = maskChecks (bytes c) (signals c)
+checks c = mask_checks (bytes c) (signals c)
 
-here : (c : tie.Else1) → u16At (bytes c) 8 ≡ 257
+here : (c : tie.Else1) → u16_at (bytes c) 8 ≡ 257
 here c = omega (arith, c.if1.false, c.before.u16-at.ensures)
 
 abbrev at-record : tie.After-known-told → tie.Else1
@@ -41,19 +41,19 @@ cleared-4 : (c : tie.After-known-told) → Cleared (checks (at-record c)) 4
 cleared-4 c = mask-clear (bytes (at-record c)) (signals (at-record c)) (framed c)
 
 cleared-5 : (c : tie.Else2) → Cleared (checks (at-record c.before)) 5
-cleared-5 c = cleared_more (cleared-4 c.before) (ap not (eq-eqb (u16At (bytes (at-record c.before)) 6) 4 (omega (arith, c.if2.false, (framed c.before).length-is))))
+cleared-5 c = cleared_more (cleared-4 c.before) (ap not (eq-eqb (u16_at (bytes (at-record c.before)) 6) 4 (omega (arith, c.if2.false, (framed c.before).length-is))))
 
 cleared-6 : (c : tie.Else3) → Cleared (checks (at-record c.before.before.before.before)) 6
 cleared-6 c =
     let at-mask = c.before.before in
     let e = at-record at-mask.before.before in
-    cleared_more (cleared-5 at-mask.before) (lt-leb (2 ^ 2 ^ signals e) (u16At (bytes e) 10) (omega (arith, pow_pos (2 ^ signals e), c.if3.false, c.before.full-mask2.ensures, at-mask.u16-at2.ensures)))
+    cleared_more (cleared-5 at-mask.before) (lt-leb (2 ^ 2 ^ signals e) (u16_at (bytes e) 10) (omega (arith, pow_pos (2 ^ signals e), c.if3.false, c.before.full-mask2.ensures, at-mask.u16-at2.ensures)))
 
 cleared-7 : (c : tie.Else4) → Cleared (checks (at-record c.before.before.before.before.before)) 7
 cleared-7 c =
     let at-mask = c.before.before.before in
     let e = at-record at-mask.before.before in
-    cleared_more (cleared-6 c.before) (ne_eqb (u16At (bytes e) 10) 0 (λ h. omega (arith, c.if4.false, at-mask.u16-at2.ensures)))
+    cleared_more (cleared-6 c.before) (ne_eqb (u16_at (bytes e) 10) 0 (λ h. omega (arith, c.if4.false, at-mask.u16-at2.ensures)))
 
 -- ---- the needs
 
@@ -86,12 +86,12 @@ returns-2 c =
     let at-frame = c.before.before.before in
     let e = at-frame.before in
     let told = c.before.enum_told.given.1 in
-    ap MaskReading.Refused (c.refusal-in.ensures ∙ ap refusalIn told) ∙ mask-framed (bytes e) (signals e) (here e) _ (sym at-frame.frame.ensures ∙ told)
+    ap MaskReading.Refused (c.refusal-in.ensures ∙ ap refusal_in told) ∙ mask-framed (bytes e) (signals e) (here e) _ (sym at-frame.frame.ensures ∙ told)
 
 returns-3 : tie.Need-returns-3
 returns-3 c =
     let e = at-record c.before in
-    mask-refused (bytes e) (signals e) (here e) (cleared-4 c.before) (ap not (ne_eqb (u16At (bytes e) 6) 4 (λ h. omega (arith, c.if2.true, (framed c.before).length-is))))
+    mask-refused (bytes e) (signals e) (here e) (cleared-4 c.before) (ap not (ne_eqb (u16_at (bytes e) 6) 4 (λ h. omega (arith, c.if2.true, (framed c.before).length-is))))
 
 u16-at-requires-2 : tie.Need-u16-at-requires-2
 u16-at-requires-2 c κs = search rules
@@ -103,13 +103,13 @@ returns-4 : tie.Need-returns-4
 returns-4 c =
     let at-mask = c.before.before in
     let e = at-record at-mask.before.before in
-    mask-refused (bytes e) (signals e) (here e) (cleared-5 at-mask.before) (le-leb (2 ^ 2 ^ signals e) (u16At (bytes e) 10) (omega (arith, c.if3.true, c.before.full-mask2.ensures, at-mask.u16-at2.ensures)))
+    mask-refused (bytes e) (signals e) (here e) (cleared-5 at-mask.before) (le-leb (2 ^ 2 ^ signals e) (u16_at (bytes e) 10) (omega (arith, c.if3.true, c.before.full-mask2.ensures, at-mask.u16-at2.ensures)))
 
 returns-5 : tie.Need-returns-5
 returns-5 c =
     let at-mask = c.before.before.before in
     let e = at-record at-mask.before.before in
-    mask-refused (bytes e) (signals e) (here e) (cleared-6 c.before) (eq-eqb (u16At (bytes e) 10) 0 (omega (arith, c.if4.true, at-mask.u16-at2.ensures)))
+    mask-refused (bytes e) (signals e) (here e) (cleared-6 c.before) (eq-eqb (u16_at (bytes e) 10) 0 (omega (arith, c.if4.true, at-mask.u16-at2.ensures)))
 
 returns-6 : tie.Need-returns-6
 returns-6 c =

@@ -6,17 +6,17 @@ use mathlib.Core.List.{List}
 use mathlib.Core.Bool.{Bool, true, not, ◌&&◌}
 use lib.Dec.{leb}
 use borrow.Author.Tests.{le-leb, lt-leb}
-use Rattle.meaning.specs.Bytes.{u16At}
-use Rattle.meaning.specs.RuleFiles.{lengthFits, operands, operandsFit, rangesFit, nodeAt, reading_of}
+use Rattle.meaning.specs.Bytes.{u16_at}
+use Rattle.meaning.specs.RuleFiles.{length_fits, operands, operands_fit, ranges_fit, node_at, reading_of}
 use Rattle.meaning.specs.declared.Node.{Node}
 use Rattle.meaning.specs.declared.Refusal.{Refusal}
 use Rattle.meaning.specs.declared.Reading.{Reading}
 use Rattle.meaning.specs.declared.Reading.TheVariants as Reading
 use Rattle.rule_nodes.specs.Shapes.{shape_of, node_of}
-use Rattle.rule_records.specs.Frames.{refusalIn}
+use Rattle.rule_records.specs.Frames.{refusal_in}
 use Rattle.rule_nodes.specs.declared.Shape.{Shape}
-use Rattle.rule_records.proofs.Checks.{Cleared, cleared_more, failsAt, refusalAt}
-use Rattle.rule_records.proofs.Records.{nodeChecks, Frame, framed-record, node-framed, node-clear, node-refused, node-read}
+use Rattle.rule_records.proofs.Checks.{Cleared, cleared_more, fails_at, refusal_at}
+use Rattle.rule_records.proofs.Records.{node_checks, Frame, framed-record, node-framed, node-clear, node-refused, node-read}
 use borrow.Author.Rules.{rules}
 use Rattle.rule_records.proofs.read_node.Statement.{statement}
 use Rattle.rule_records.proofs.read_node.Tie as tie
@@ -30,15 +30,15 @@ abbrev place : tie.After-known-told → ℕ
 place c = c.before.before.before.before.before.args.p
 
 abbrev kind : tie.After-known-told → ℕ
-kind c = u16At (bytes c) (place c + 2)
+kind c = u16_at (bytes c) (place c + 2)
 
 abbrev checks : tie.After-known-told → List (Bool × Refusal)
-checks c = nodeChecks (bytes c) c.before.before.before.before.before.args.signals (place c) c.before.before.before.before.before.args.number c.before.before.before.before.before.args.seen
+checks c = node_checks (bytes c) c.before.before.before.before.before.args.signals (place c) c.before.before.before.before.before.args.number c.before.before.before.before.before.args.seen
 
 abbrev reading : tie.After-known-told → Reading
 reading c = reading_of (bytes c) c.before.before.before.before.before.args.signals (place c) c.before.before.before.before.before.args.number c.before.before.before.before.before.args.seen
 
-refused : (c : tie.After-known-told) (i : ℕ) → Cleared (checks c) i → failsAt (checks c) i ≡ true → Reading.Refused (refusalAt (checks c) i) ≡ reading c
+refused : (c : tie.After-known-told) (i : ℕ) → Cleared (checks c) i → fails_at (checks c) i ≡ true → Reading.Refused (refusal_at (checks c) i) ≡ reading c
 refused c i h q = node-refused (bytes c) c.before.before.before.before.before.args.signals (place c) c.before.before.before.before.before.args.number c.before.before.before.before.before.args.seen h q
 
 framed : (c : tie.After-known-told) → Frame (bytes c) (place c) c.before.framed.given.0.0 c.before.framed.given.0.1.0
@@ -53,29 +53,29 @@ cleared-4 c = cleared_more (cleared-3 c.before) (ap not (le-leb (kind c.before) 
 shape : (c : tie.After-shape-of) → c.shape-of.result ≡ shape_of (kind c.before.before)
 shape c = c.shape-of.ensures ∙ ap shape_of (framed c.before.before).kind-is
 
-fits : (c : tie.After-length-fits) → c.length-fits.result ≡ lengthFits (kind c.before.before.before) (u16At (bytes c.before.before.before) (place c.before.before.before))
-fits c = let f = framed c.before.before.before in c.length-fits.ensures ∙ ap₂ lengthFits f.kind-is f.length-is
+fits : (c : tie.After-length-fits) → c.length-fits.result ≡ length_fits (kind c.before.before.before) (u16_at (bytes c.before.before.before) (place c.before.before.before))
+fits c = let f = framed c.before.before.before in c.length-fits.ensures ∙ ap₂ length_fits f.kind-is f.length-is
 
 cleared-5 : (c : tie.Else2) → Cleared (checks c.before.before.before.before) 5
 cleared-5 c =
     cleared_more (cleared-4 c.before.before.before) (sym (ap not (fits c.before)) ∙ c.if2.false)
 
-node : (c : tie.After-node-at) → c.Node-at.result ≡ nodeAt (bytes c.before.before.before.before.before) (place c.before.before.before.before.before)
+node : (c : tie.After-node-at) → c.Node-at.result ≡ node_at (bytes c.before.before.before.before.before) (place c.before.before.before.before.before)
 node c = let f = framed c.before.before.before.before.before in c.Node-at.ensures ∙ ap₂ (node_of (bytes c.before.before.before.before.before) (place c.before.before.before.before.before)) f.kind-is f.length-is
 
-operand : (c : tie.After-wrong-operand) → c.wrong-operand.result ≡ failsAt (checks c.before.before.before.before.before.before) 5
-operand c = c.wrong-operand.ensures ∙ ap (λ (n : Node). not (operandsFit c.before.before.before.before.before.before.before.before.before.before.before.args.number n)) (node c.before)
+operand : (c : tie.After-wrong-operand) → c.wrong-operand.result ≡ fails_at (checks c.before.before.before.before.before.before) 5
+operand c = c.wrong-operand.ensures ∙ ap (λ (n : Node). not (operands_fit c.before.before.before.before.before.before.before.before.before.before.before.args.number n)) (node c.before)
 
 cleared-6 : (c : tie.Else3) → Cleared (checks c.before.before.before.before.before.before.before) 6
 cleared-6 c = cleared_more (cleared-5 c.before.before.before) (sym (operand c.before) ∙ c.if3.false)
 
-range : (c : tie.After-out-of-range) → c.out_of_range.result ≡ failsAt (checks c.before.before.before.before.before.before.before.before) 6
-range c = c.out_of_range.ensures ∙ ap (λ (n : Node). not (rangesFit c.before.before.before.before.before.before.before.before.before.before.before.before.before.args.signals n)) (node c.before.before.before)
+range : (c : tie.After-out-of-range) → c.out_of_range.result ≡ fails_at (checks c.before.before.before.before.before.before.before.before) 6
+range c = c.out_of_range.ensures ∙ ap (λ (n : Node). not (ranges_fit c.before.before.before.before.before.before.before.before.before.before.before.before.before.args.signals n)) (node c.before.before.before)
 
 cleared-7 : (c : tie.Else4) → Cleared (checks c.before.before.before.before.before.before.before.before.before) 7
 cleared-7 c = cleared_more (cleared-6 c.before.before) (sym (range c.before) ∙ c.if4.false)
 
-count : (c : tie.After-eighth) → c.eighth.result ≡ failsAt (checks c.before.before.before.before.before.before.before.before.before.before) 7
+count : (c : tie.After-eighth) → c.eighth.result ≡ fails_at (checks c.before.before.before.before.before.before.before.before.before.before) 7
 count c = c.eighth.ensures ∙ ap (λ (s : Shape). s.temporal && leb 7 c.before.before.before.before.before.before.before.before.before.before.before.before.before.before.before.args.seen) (shape c.before.before.before.before.before.before.before.before)
 
 cleared-8 : (c : tie.Else5) → Cleared (checks c.before.before.before.before.before.before.before.before.before.before.before) 8
@@ -99,7 +99,7 @@ returns : tie.Need-returns
 returns c =
     let at-frame = c.before.before.before in
     let start = at-frame.before.before in
-    ap Reading.Refused (c.refusal-in.ensures ∙ ap refusalIn c.before.enum_told.given.1) ∙ node-framed start.args.b.now start.args.signals start.args.p start.args.number start.args.seen _ (sym at-frame.frame.ensures ∙ c.before.enum_told.given.1)
+    ap Reading.Refused (c.refusal-in.ensures ∙ ap refusal_in c.before.enum_told.given.1) ∙ node-framed start.args.b.now start.args.signals start.args.p start.args.number start.args.seen _ (sym at-frame.frame.ensures ∙ c.before.enum_told.given.1)
 
 returns-2 : tie.Need-returns-2
 returns-2 c = refused c.before 3 (cleared-3 c.before) (ap not (lt-leb (kind c.before) 13 (omega (arith, c.if1.true, (framed c.before).kind-is))))

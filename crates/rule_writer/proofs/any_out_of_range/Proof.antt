@@ -4,19 +4,19 @@ use mathlib.Core.Path.{◌≡◌, refl, ap, ◌∙◌}
 use Prim.Native.Nat.{ℕ, ◌-◌, ◌≤◌}
 use lib.ListN.{take}
 use borrow.Author.Rules.{rules}
-use Rattle.meaning.specs.RuleTexts.{anyOutOfRange}
+use Rattle.meaning.specs.RuleTexts.{any_out_of_range}
 use Rattle.rule_writer.proofs.Laws.{range-more}
 use Rattle.rule_writer.proofs.any_out_of_range.Statement.{statement}
 use Rattle.rule_writer.proofs.any_out_of_range.Tie as tie
 
 abbrev invariant-loop : tie.invariant-loop
-invariant-loop signals count nodes found₀ i₀ found i = (i ≤ count) × (found ≡ anyOutOfRange signals (take i nodes))
+invariant-loop signals count nodes found₀ i₀ found i = (i ≤ count) × (found ≡ any_out_of_range signals (take i nodes))
 
 abbrev decreases-loop : tie.decreases-loop
 decreases-loop signals count nodes found₀ i₀ found i = count - i
 
 loop-holds : tie.Need-loop-init invariant-loop decreases-loop
-unfolding anyOutOfRange
+unfolding any_out_of_range
 loop-holds c = (omega arith, refl)
 
 mul-node : tie.Need-overflow-mul-node invariant-loop decreases-loop
@@ -45,7 +45,7 @@ returns c =
     let turn = c.before.loop in
     let start = c.before.before in
     let z : turn.i ≡ start.args.count = omega arith in
-    turn.invariant.1 ∙ ap (λ (n : ℕ). anyOutOfRange start.args.signals (take n start.args.t3)) z
+    turn.invariant.1 ∙ ap (λ (n : ℕ). any_out_of_range start.args.signals (take n start.args.t3)) z
 
 pub any-out-of-range-spec : {M : Type 1} → statement M
 any-out-of-range-spec =

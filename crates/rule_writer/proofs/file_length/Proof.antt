@@ -5,20 +5,20 @@ use Prim.Native.Nat.{ℕ, ◌+◌, ◌*◌, ◌-◌, ◌≤◌}
 use lib.ListN.{length, get_or, take}
 use lib.Seq.{length-take-le}
 use borrow.Author.Rules.{rules}
-use Rattle.meaning.specs.RuleTexts.{node, nodesBytes}
+use Rattle.meaning.specs.RuleTexts.{node, nodes_bytes}
 use Rattle.rule_bytes.proofs.RoundTrip.{node-length}
 use Rattle.rule_writer.proofs.Laws.{length_more, kind-of}
 use Rattle.rule_writer.proofs.file_length.Statement.{statement}
 use Rattle.rule_writer.proofs.file_length.Tie as tie
 
 abbrev invariant-loop : tie.invariant-loop
-invariant-loop count nodes n₀ i₀ n i = (i ≤ count) × (n ≤ 6 + 6 * i) × (n ≡ 6 + length (nodesBytes (take i nodes)))
+invariant-loop count nodes n₀ i₀ n i = (i ≤ count) × (n ≤ 6 + 6 * i) × (n ≡ 6 + length (nodes_bytes (take i nodes)))
 
 abbrev decreases-loop : tie.decreases-loop
 decreases-loop count nodes n₀ i₀ n i = count - i
 
 loop-holds : tie.Need-loop-init invariant-loop decreases-loop
-unfolding nodesBytes
+unfolding nodes_bytes
 loop-holds c = (omega arith, omega arith, omega arith)
 
 mul-node : tie.Need-overflow-mul-node invariant-loop decreases-loop
@@ -54,7 +54,7 @@ returns c =
     let turn = c.before.loop in
     let start = c.before.before in
     let z : turn.i ≡ start.args.count = omega arith in
-    (turn.invariant.2 ∙ ap (λ (n : ℕ). 6 + length (nodesBytes (take n start.args.t2))) z, length-take-le start.args.count start.args.t2 (omega arith))
+    (turn.invariant.2 ∙ ap (λ (n : ℕ). 6 + length (nodes_bytes (take n start.args.t2))) z, length-take-le start.args.count start.args.t2 (omega arith))
 
 pub file-length-spec : {M : Type 1} → statement M
 file-length-spec =

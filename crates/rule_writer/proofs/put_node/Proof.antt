@@ -2,7 +2,7 @@
 use native.Mathlib.Omega.{arith}
 use lib.ListN.{length}
 use borrow.Author.Rules.{rules}
-use Rattle.meaning.specs.RuleTexts.{nodeBytes}
+use Rattle.meaning.specs.RuleTexts.{node_bytes}
 use Rattle.rule_bytes.proofs.RoundTrip.{node-length}
 use Rattle.text_pieces.proofs.Laws.{put_is}
 use Rattle.rule_writer.proofs.Laws.{take-few, few-within, record-bytes}
@@ -39,7 +39,7 @@ returns c =
     let at-record-length = c.before.before.before.before.before in
     let n = at-record-length.record-length in
     let start = at-record-length.before.before in
-    put_is c.before.before.put-bytes.ensures (nodeBytes start.args.node) (record-bytes n.result start.args.node n.ensures.0)
+    put_is c.before.before.put-bytes.ensures (node_bytes start.args.node) (record-bytes n.result start.args.node n.ensures.0)
 
 pub put-node-spec : {M : Type 1} → statement M
 put-node-spec =

@@ -4,7 +4,7 @@ use mathlib.Core.Path.{◌≡◌, refl, sym, ap}
 use Prim.Native.Nat.{ℕ, ◌-◌, ◌≤◌}
 use lib.ListN.{take}
 use borrow.Author.Rules.{rules}
-use Rattle.meaning.specs.RuleTexts.{nodesBytes}
+use Rattle.meaning.specs.RuleTexts.{nodes_bytes}
 use Rattle.text_pieces.specs.Put.{Put}
 use Rattle.text_pieces.proofs.Laws.{put-none, put-more, put_is, put-length}
 use Rattle.rule_writer.proofs.Laws.{bytes_take, bytes-within, kind-of}
@@ -12,13 +12,13 @@ use Rattle.rule_writer.proofs.put_nodes.Statement.{statement}
 use Rattle.rule_writer.proofs.put_nodes.Tie as tie
 
 abbrev invariant-loop : tie.invariant-loop
-invariant-loop out₀ start count nodes at₀ i₀ out at i = (i ≤ count) × Put out₀ start (nodesBytes (take i nodes)) out at
+invariant-loop out₀ start count nodes at₀ i₀ out at i = (i ≤ count) × Put out₀ start (nodes_bytes (take i nodes)) out at
 
 abbrev decreases-loop : tie.decreases-loop
 decreases-loop out₀ start count nodes at₀ i₀ out at i = count - i
 
 loop-holds : tie.Need-loop-init invariant-loop decreases-loop
-unfolding nodesBytes
+unfolding nodes_bytes
 loop-holds c = (omega arith, put-none refl)
 
 mul-node : tie.Need-overflow-mul-node invariant-loop decreases-loop
@@ -57,7 +57,7 @@ returns c =
     let turn = c.before.loop in
     let start = c.before.before.before in
     let z : turn.i ≡ start.args.count = omega arith in
-    put_is turn.invariant.1 _ (ap (λ (n : ℕ). nodesBytes (take n start.args.t4)) z)
+    put_is turn.invariant.1 _ (ap (λ (n : ℕ). nodes_bytes (take n start.args.t4)) z)
 
 pub put-nodes-spec : {M : Type 1} → statement M
 put-nodes-spec =

@@ -3,7 +3,7 @@ use native.Mathlib.Omega.{arith}
 use borrow.Author.Rules.{rules}
 use mathlib.Core.Path.{◌∙◌, ap}
 use Prim.Native.Nat.{ℕ, ◌-◌, ◌+◌, ◌*◌, ◌^◌, ◌≤◌}
-use Rattle.meaning.specs.Bytes.{u16At}
+use Rattle.meaning.specs.Bytes.{u16_at}
 use Rattle.meaning.specs.TableFiles.{successor}
 use Rattle.sequences.proofs.Loops.{Filled, filled_none, filled_more, filled-to}
 use Rattle.run_parts.proofs.successors_of.Statement.{statement}
@@ -53,7 +53,7 @@ loop-again c =
     let start = c.before.before.before in
     let t = start.before.before.before.args.t.now in
     let e = c.before.before.loop.e in
-    (omega arith, filled_more c.before.before.loop.invariant.1 (c.u16-at.ensures ∙ ap (λ (a : ℕ). u16At t (a + 5 + 2 * e)) start.before.row-at.ensures.0) (omega arith))
+    (omega arith, filled_more c.before.before.loop.invariant.1 (c.u16-at.ensures ∙ ap (λ (a : ℕ). u16_at t (a + 5 + 2 * e)) start.before.row-at.ensures.0) (omega arith))
 
 returns : tie.Need-returns invariant-loop decreases-loop
 returns c = filled-to (2 ^ c.before.before.before.before.before.args.signals) c.before.loop.invariant.1 (omega (arith, c.before.before.width.ensures))

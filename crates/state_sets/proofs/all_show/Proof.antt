@@ -6,14 +6,14 @@ use native.Mathlib.Omega.{arith}
 use borrow.Author.Rules.{rules}
 use lib.Dec.{eqb}
 use lib.ListN.{get_or}
-use Rattle.meaning.specs.TableFiles.{verdictByte}
+use Rattle.meaning.specs.TableFiles.{verdict_byte}
 use Rattle.sequences.proofs.Loops.{Passed, passed_none, passed-more, passed-all, all-not}
-use Rattle.state_sets.specs.Sets.{showsByte}
+use Rattle.state_sets.specs.Sets.{shows_byte}
 use Rattle.state_sets.proofs.all_show.Statement.{statement}
 use Rattle.state_sets.proofs.all_show.Tie as tie
 
 abbrev invariant-loop : tie.invariant-loop
-invariant-loop t signals states members verdict state₀ state = (state ≤ states) × Passed state (showsByte t signals members verdict)
+invariant-loop t signals states members verdict state₀ state = (state ≤ states) × Passed state (shows_byte t signals members verdict)
 
 abbrev decreases-loop : tie.decreases-loop
 decreases-loop t signals states members verdict state₀ state = states - state
@@ -42,8 +42,8 @@ loop-again c =
     let loop = copied.before.before.before in
     let a = loop.before.before.args in
     let s = loop.loop.state in
-    let here : showsByte a.t.now a.signals a.members.now a.verdict s ≡ true =
-    ap (λ (n : ℕ). cond (get_or a.members.now n false) (eqb (verdictByte a.t.now a.signals s) a.verdict) true) (sym copied.before.wide16.ensures.0)
+    let here : shows_byte a.t.now a.signals a.members.now a.verdict s ≡ true =
+    ap (λ (n : ℕ). cond (get_or a.members.now n false) (eqb (verdict_byte a.t.now a.signals s) a.verdict) true) (sym copied.before.wide16.ensures.0)
     ∙ sym c.before.shows-byte.ensures ∙ c.if1.true in
     (omega arith, passed-more loop.loop.invariant.1 here)
 
@@ -53,10 +53,10 @@ returns c =
     let loop = copied.before.before.before in
     let a = loop.before.before.args in
     let s = loop.loop.state in
-    let here : showsByte a.t.now a.signals a.members.now a.verdict s ≡ false =
-    ap (λ (n : ℕ). cond (get_or a.members.now n false) (eqb (verdictByte a.t.now a.signals s) a.verdict) true) (sym copied.before.wide16.ensures.0)
+    let here : shows_byte a.t.now a.signals a.members.now a.verdict s ≡ false =
+    ap (λ (n : ℕ). cond (get_or a.members.now n false) (eqb (verdict_byte a.t.now a.signals s) a.verdict) true) (sym copied.before.wide16.ensures.0)
     ∙ sym c.before.shows-byte.ensures ∙ c.if1.false in
-    sym (all-not a.states (showsByte a.t.now a.signals a.members.now a.verdict) s (omega arith) here)
+    sym (all-not a.states (shows_byte a.t.now a.signals a.members.now a.verdict) s (omega arith) here)
 
 returns-2 : tie.Need-returns-2 invariant-loop decreases-loop
 returns-2 c = sym (passed-all c.before.loop.invariant.1 c.before.before.before.args.states (omega arith))

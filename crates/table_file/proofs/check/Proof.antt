@@ -1,6 +1,6 @@
 -- `table_file::check` meets its contract.
 use mathlib.Core.Path.{sym, ap₂, ◌∙◌}
-use Rattle.meaning.specs.Runs.{countsFit}
+use Rattle.meaning.specs.Runs.{counts_fit}
 use Rattle.table_layout.proofs.Form.{header-counts}
 use Rattle.table_file.proofs.Checking.{checked-table, checked-rows, checked-header}
 use borrow.Author.Rules.{rules}
@@ -21,7 +21,7 @@ rows-fit-requires c κs =
     let tested = c.before.before in
     let l = tested.before.before.before.args.t.now in
     let counts = header-counts l (sym tested.before.header-fits.ensures ∙ tested.if1.true) in
-    ap₂ (countsFit l) c.before.byte_at.ensures c.u16-at.ensures ∙ counts
+    ap₂ (counts_fit l) c.before.byte_at.ensures c.u16-at.ensures ∙ counts
 
 returns : tie.Need-returns
 returns c = let l = c.before.before.before.before.before.before.before.args.t.now in checked-table l _ _ (sym c.before.before.before.before.before.header-fits.ensures ∙ c.before.before.before.before.if1.true) c.before.before.before.byte_at.ensures c.before.before.u16-at.ensures (sym c.before.rows_fit.ensures ∙ c.if2.true)

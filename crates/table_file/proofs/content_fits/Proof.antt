@@ -9,8 +9,8 @@ use lib.Dec.{leb, eqb}
 use lib.ListN.{get_or}
 use Rattle.sequences.specs.Tabulate.{all_below}
 use Rattle.sequences.proofs.Tests.{fails, last}
-use Rattle.meaning.specs.Bytes.{bit, u16At}
-use Rattle.meaning.specs.TableFiles.{row_at, verdictByte, eventLeft, successorFits, contentTests}
+use Rattle.meaning.specs.Bytes.{bit, u16_at}
+use Rattle.meaning.specs.TableFiles.{row_at, verdict_byte, event_left, successor_fits, content_tests}
 use Rattle.table_layout.proofs.Masks.{no-event, some-event}
 use Rattle.table_file.specs.Successors.{fits_by}
 use Rattle.table_file.proofs.Checking.{successors-by}
@@ -30,16 +30,16 @@ returns : tie.Need-returns
 returns c =
     let placed = c.before.before in
     let a = placed.before.before.args in
-    let byte : c.before.byte_at.result ≡ verdictByte a.t.now a.signals a.state
+    let byte : c.before.byte_at.result ≡ verdict_byte a.t.now a.signals a.state
     = c.before.byte_at.ensures ∙ ap (λ (n : ℕ). get_or a.t.now (n + 4) 0) placed.row-at.ensures.0 in
-    let h : leb (verdictByte a.t.now a.signals a.state) 3 ≡ false = lt-leb (verdictByte a.t.now a.signals a.state) 3 (omega (arith, c.if1.true, byte)) in
+    let h : leb (verdict_byte a.t.now a.signals a.state) 3 ≡ false = lt-leb (verdict_byte a.t.now a.signals a.state) 3 (omega (arith, c.if1.true, byte)) in
     rw h
 
 returns-2 : tie.Need-returns-2
 returns-2 c =
     let placed = c.before.before.before in
     let a = placed.before.before.args in
-    sym (fails (contentTests a.t.now a.signals a.states a.state) 1 (no-event placed.before.before.requires.2 (omega (arith, c.if2.true))))
+    sym (fails (content_tests a.t.now a.signals a.states a.state) 1 (no-event placed.before.before.requires.2 (omega (arith, c.if2.true))))
 
 add-successors-fit : tie.Need-overflow-add-successors-fit
 add-successors-fit c = search rules
@@ -56,15 +56,15 @@ returns-3 c =
     let a = start.args in
     let l = a.t.now in
     let place : placed.row-at.result ≡ row_at a.signals a.state = placed.row-at.ensures.0 in
-    let byte : tested.before.byte_at.result ≡ verdictByte l a.signals a.state
+    let byte : tested.before.byte_at.result ≡ verdict_byte l a.signals a.state
     = tested.before.byte_at.ensures ∙ ap (λ (n : ℕ). get_or l (n + 4) 0) place in
-    let h : leb (verdictByte l a.signals a.state) 3 ≡ true = le-leb (verdictByte l a.signals a.state) 3 (omega (arith, tested.if1.false, byte)) in
-    let some : eventLeft l a.signals ≡ true = some-event start.requires.2 (omega arith) (λ z. omega (arith, z, left.if2.false)) in
+    let h : leb (verdict_byte l a.signals a.state) 3 ≡ true = le-leb (verdict_byte l a.signals a.state) 3 (omega (arith, tested.if1.false, byte)) in
+    let some : event_left l a.signals ≡ true = some-event start.requires.2 (omega arith) (λ z. omega (arith, z, left.if2.false)) in
     rw (h, some)
     (c.successors-fit.ensures
-    ∙ ap (λ (k : ℕ). all_below (2 ^ a.signals) (λ e. fits_by (eqb (bit e a.mask) 1) a.states (u16At l (k + 5 + 2 * e)))) place
+    ∙ ap (λ (k : ℕ). all_below (2 ^ a.signals) (λ e. fits_by (eqb (bit e a.mask) 1) a.states (u16_at l (k + 5 + 2 * e)))) place
     ∙ successors-by l start.requires.2 a.states a.state
-    ∙ last (all_below (2 ^ a.signals) (successorFits l a.signals a.states a.state)))
+    ∙ last (all_below (2 ^ a.signals) (successor_fits l a.signals a.states a.state)))
 
 pub content-fits-spec : {M : Type 1} → statement M
 content-fits-spec =

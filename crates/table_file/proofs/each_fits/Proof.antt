@@ -6,14 +6,14 @@ use mathlib.Core.List.{List}
 use mathlib.Core.Bool.{Bool}
 use Prim.Native.Nat.{ℕ, ◌+◌, ◌-◌, ◌*◌, ◌≤◌}
 use lib.Dec.{eqb}
-use Rattle.meaning.specs.Bytes.{bit, u16At}
+use Rattle.meaning.specs.Bytes.{bit, u16_at}
 use Rattle.sequences.proofs.Loops.{Passed, passed_none, passed-more, passed-all, all-not}
 use Rattle.table_file.specs.Successors.{fits_by}
 use Rattle.table_file.proofs.each_fits.Statement.{statement}
 use Rattle.table_file.proofs.each_fits.Tie as tie
 
 abbrev test : List ℕ → ℕ → ℕ → ℕ → ℕ → Bool
-test t at states mask e = fits_by (eqb (bit e mask) 1) states (u16At t (at + 2 * e))
+test t at states mask e = fits_by (eqb (bit e mask) 1) states (u16_at t (at + 2 * e))
 
 abbrev invariant-loop : tie.invariant-loop
 invariant-loop t at events states mask e₀ e = (e ≤ events) × Passed e (test t at states mask)

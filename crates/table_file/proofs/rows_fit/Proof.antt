@@ -6,14 +6,14 @@ use Prim.Native.Nat.{ℕ, ◌-◌, ◌≤◌}
 use mathlib.Core.List.{List}
 use mathlib.Core.Bool.{Bool}
 use Rattle.sequences.proofs.Loops.{Passed, passed_none, passed-more, passed-all, all-not}
-use Rattle.meaning.specs.TableFiles.{rowTests}
+use Rattle.meaning.specs.TableFiles.{row_tests}
 use Rattle.table_layout.proofs.Form.{counts-few, counts_some, row_inside}
 use Rattle.sequences.specs.Tabulate.{every}
 use Rattle.table_file.proofs.rows_fit.Statement.{statement}
 use Rattle.table_file.proofs.rows_fit.Tie as tie
 
 abbrev test : List ℕ → ℕ → ℕ → ℕ → Bool
-test t P S s = every (rowTests t P S s)
+test t P S s = every (row_tests t P S s)
 
 abbrev invariant-loop : tie.invariant-loop
 invariant-loop t signals states mask s₀ s = (s ≤ states) × Passed s (test t signals states)

@@ -7,13 +7,13 @@ use mathlib.Core.List.{List}
 use mathlib.Core.Bool.{Bool}
 use Prim.Native.Nat.{ℕ, ◌+◌, ◌-◌, ◌*◌, ◌≤◌}
 use lib.Dec.{ltb}
-use Rattle.meaning.specs.Bytes.{u16At}
+use Rattle.meaning.specs.Bytes.{u16_at}
 use Rattle.sequences.proofs.Loops.{Passed, passed_none, passed-more, passed-all, all-not}
 use Rattle.table_layout.proofs.all_below.Statement.{statement}
 use Rattle.table_layout.proofs.all_below.Tie as tie
 
 abbrev test : List ℕ → ℕ → ℕ → ℕ → Bool
-test t at bound e = ltb (u16At t (at + 2 * e)) bound
+test t at bound e = ltb (u16_at t (at + 2 * e)) bound
 
 abbrev invariant-loop : tie.invariant-loop
 invariant-loop t at events bound e₀ e = (e ≤ events) × Passed e (test t at bound)
@@ -38,7 +38,7 @@ returns c =
     let loop = c.before.before.before in
     let a = loop.before.before.args in
     let e = loop.loop.e in
-    let fails = le-ltb (u16At a.t.now (a.at + 2 * e)) a.bound (omega (arith, c.if1.true, c.before.two_at.ensures)) in
+    let fails = le-ltb (u16_at a.t.now (a.at + 2 * e)) a.bound (omega (arith, c.if1.true, c.before.two_at.ensures)) in
     sym (all-not a.events (test a.t.now a.at a.bound) e c.before.before.loop-test.true fails)
 
 add-e : tie.Need-overflow-add-e invariant-loop decreases-loop
@@ -53,7 +53,7 @@ loop-again c =
     let a = loop.before.before.args in
     let e = loop.loop.e in (
       omega arith,
-      passed-more loop.loop.invariant.1 (lt-ltb (u16At a.t.now (a.at + 2 * e)) a.bound (omega (arith, c.if1.false, c.before.two_at.ensures))),
+      passed-more loop.loop.invariant.1 (lt-ltb (u16_at a.t.now (a.at + 2 * e)) a.bound (omega (arith, c.if1.false, c.before.two_at.ensures))),
     )
 
 returns-2 : tie.Need-returns-2 invariant-loop decreases-loop

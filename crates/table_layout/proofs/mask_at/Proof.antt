@@ -6,18 +6,18 @@ use mathlib.Core.Bool.{Bool, not}
 use Prim.Native.Nat.{ℕ, ◌+◌, ◌-◌, ◌*◌, ◌≤◌}
 use borrow.Author.Rules.{rules}
 use lib.Dec.{eqb}
-use Rattle.meaning.specs.Bytes.{u16At}
-use Rattle.meaning.specs.TableFiles.{noSuccessor}
+use Rattle.meaning.specs.Bytes.{u16_at}
+use Rattle.meaning.specs.TableFiles.{no_successor}
 use Rattle.table_layout.specs.Masks.{Marked}
 use Rattle.table_layout.proofs.Masks.{marked-none, marked_more, marked-to}
 use Rattle.table_layout.proofs.mask_at.Statement.{statement}
 use Rattle.table_layout.proofs.mask_at.Tie as tie
 
-abbrev possibleAt : List ℕ → ℕ → ℕ → Bool
-possibleAt t at e = not (eqb (u16At t (at + 2 * e)) noSuccessor)
+abbrev possible_at : List ℕ → ℕ → ℕ → Bool
+possible_at t at e = not (eqb (u16_at t (at + 2 * e)) no_successor)
 
 abbrev invariant-loop : tie.invariant-loop
-invariant-loop t at events mask₀ e₀ mask e = (e ≤ events) × Marked e (possibleAt t at) mask
+invariant-loop t at events mask₀ e₀ mask e = (e ≤ events) × Marked e (possible_at t at) mask
 
 abbrev decreases-loop : tie.decreases-loop
 decreases-loop t at events mask₀ e₀ mask e = events - e

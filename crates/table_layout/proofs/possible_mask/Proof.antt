@@ -7,8 +7,8 @@ use borrow.Author.Rules.{rules}
 use lib.Dec.{eqb, ltb}
 use lib.Pow.{pow_pos}
 use Rattle.sequences.specs.Tabulate.{all_below}
-use Rattle.meaning.specs.Bytes.{u16At}
-use Rattle.meaning.specs.TableFiles.{noSuccessor}
+use Rattle.meaning.specs.Bytes.{u16_at}
+use Rattle.meaning.specs.TableFiles.{no_successor}
 use Rattle.table_layout.specs.Masks.{Marked}
 use Rattle.table_layout.proofs.Masks.{marked-to, mask-in, mask_full}
 use Rattle.table_layout.proofs.possible_mask.Statement.{statement}
@@ -35,7 +35,7 @@ returns c =
     let counted = asked.before in
     let placed = counted.before in
     let a = placed.before.before.args in
-    let read = ap₂ (λ (k n : ℕ). all_below n (λ e. ltb (u16At a.t.now (k + 5 + 2 * e)) noSuccessor)) placed.row-at.ensures.0 counted.width.ensures.0 in
+    let read = ap₂ (λ (k n : ℕ). all_below n (λ e. ltb (u16_at a.t.now (k + 5 + 2 * e)) no_successor)) placed.row-at.ensures.0 counted.width.ensures.0 in
     mask_full a.t.now a.signals c.full-mask.ensures (sym (asked.all-below.ensures ∙ read) ∙ c.before.if1.true)
 
 mask-at-requires : tie.Need-mask-at-requires
@@ -46,7 +46,7 @@ returns-2 c =
     let counted = c.before.before.before in
     let placed = counted.before in
     let a = placed.before.before.args in
-    mask-in a.signals (marked-to _ (subst (λ (k : ℕ). Marked counted.width.result (λ e. not (eqb (u16At a.t.now (k + 5 + 2 * e)) noSuccessor)) c.mask_at.result) placed.row-at.ensures.0 c.mask_at.ensures) counted.width.ensures.0)
+    mask-in a.signals (marked-to _ (subst (λ (k : ℕ). Marked counted.width.result (λ e. not (eqb (u16_at a.t.now (k + 5 + 2 * e)) no_successor)) c.mask_at.result) placed.row-at.ensures.0 c.mask_at.ensures) counted.width.ensures.0)
 
 pub possible-mask-spec : {M : Type 1} → statement M
 possible-mask-spec =

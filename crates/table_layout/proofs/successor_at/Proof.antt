@@ -1,7 +1,7 @@
 -- `table_layout::successor_at` meets its contract.
 use mathlib.Core.Path.{◌∙◌, ap₂}
 use Prim.Native.Nat.{ℕ, ◌+◌, ◌*◌}
-use Rattle.meaning.specs.Bytes.{u16At}
+use Rattle.meaning.specs.Bytes.{u16_at}
 use borrow.Author.Rules.{rules}
 use Rattle.table_layout.proofs.successor_at.Statement.{statement}
 use Rattle.table_layout.proofs.successor_at.Tie as tie
@@ -25,7 +25,7 @@ u16-at-requires : tie.Need-u16-at-requires
 u16-at-requires c κs = search rules
 
 returns : tie.Need-returns
-returns c = c.u16-at.ensures ∙ ap₂ (λ (n e : ℕ). u16At c.before.before.before.before.args.t.now (n + 5 + 2 * e)) c.before.before.row-at.ensures.0 c.before.wide.ensures.0
+returns c = c.u16-at.ensures ∙ ap₂ (λ (n e : ℕ). u16_at c.before.before.before.before.args.t.now (n + 5 + 2 * e)) c.before.before.row-at.ensures.0 c.before.wide.ensures.0
 
 pub successor-at-spec : {M : Type 1} → statement M
 successor-at-spec =

@@ -3,7 +3,7 @@ use native.Mathlib.Omega.{arith}
 use mathlib.Core.Path.{ap}
 use Rattle.table_text.specs.Text.{word}
 use Rattle.text_pieces.proofs.Laws.{put-more, put_is}
-use Rattle.meaning.specs.TableFiles.{verdictByte, verdictOf}
+use Rattle.meaning.specs.TableFiles.{verdict_byte, verdict_of}
 use borrow.Author.Rules.{rules}
 use Rattle.table_text.proofs.put_line.Statement.{statement}
 use Rattle.table_text.proofs.put_line.Tie as tie
@@ -44,7 +44,7 @@ returns c =
     let at-put-bytes = at-verdict-at.before.before.before.before in
     let at-put-number = at-put-bytes.before.before.before.before.before in
     let start = at-put-number.before.before.before.before in
-    let v = verdictOf (verdictByte start.args.table.now start.args.signals start.args.state) in
+    let v = verdict_of (verdict_byte start.args.table.now start.args.signals start.args.state) in
     let h₁ = put-more at-put-number.put-number.ensures.0 at-put-bytes.put-bytes.ensures in
     let h₂ = put-more h₁ (put_is at-put-word.put_word.ensures.0 (word v) (ap word at-verdict-at.verdict-at.ensures)) in
     let h₃ = put-more h₂ at-put-successors.put-successors.ensures.0 in

@@ -4,13 +4,13 @@ use borrow.Author.Rules.{rules}
 use mathlib.Core.Path.{◌≡◌, refl, ap}
 use Prim.Native.Nat.{◌+◌, ◌-◌, ◌*◌, ◌≤◌}
 use Rattle.text_pieces.specs.Put.{Put}
-use Rattle.table_text.specs.Text.{lineText, linesText}
+use Rattle.table_text.specs.Text.{line_text, lines_text}
 use Rattle.text_pieces.proofs.Laws.{put-none, put-length, put_is, joined-more}
 use Rattle.table_text.proofs.put_lines.Statement.{statement}
 use Rattle.table_text.proofs.put_lines.Tie as tie
 
 abbrev invariant-loop : tie.invariant-loop
-invariant-loop out₀ at table signals states next₀ s₀ out next s = (s ≤ states) × (next ≤ at + 112 * s) × Put out₀ at (linesText table signals s) out next
+invariant-loop out₀ at table signals states next₀ s₀ out next s = (s ≤ states) × (next ≤ at + 112 * s) × Put out₀ at (lines_text table signals s) out next
 
 abbrev decreases-loop : tie.decreases-loop
 decreases-loop out₀ at table signals states next₀ s₀ out next s = states - s
@@ -29,7 +29,7 @@ loop-less c = search rules
 
 loop-again : tie.Need-loop-preserved invariant-loop decreases-loop
 loop-again c =
-    let h = joined-more (lineText c.before.before.before.before.before.before.before.before.args.table.now c.before.before.before.before.before.before.before.before.args.signals) c.before.before.before.before.before.loop.s _ _ _ c.before.before.before.before.before.loop.invariant.2 refl c.before.before.put-line.ensures.0 in
+    let h = joined-more (line_text c.before.before.before.before.before.before.before.before.args.table.now c.before.before.before.before.before.before.before.before.args.signals) c.before.before.before.before.before.loop.s _ _ _ c.before.before.before.before.before.loop.invariant.2 refl c.before.before.put-line.ensures.0 in
     (omega arith, omega (arith, c.before.before.put-line.ensures.1), h)
 
 same_length : tie.Need-same-length invariant-loop decreases-loop
@@ -38,7 +38,7 @@ same_length c = put-length c.before.loop.invariant.2
 returns : tie.Need-returns invariant-loop decreases-loop
 returns c =
     let z : c.before.loop.s ≡ c.before.before.before.before.args.states = omega arith in
-    (put_is c.before.loop.invariant.2 _ (ap (linesText c.before.before.before.before.args.table.now c.before.before.before.before.args.signals) z), omega arith)
+    (put_is c.before.loop.invariant.2 _ (ap (lines_text c.before.before.before.before.args.table.now c.before.before.before.before.args.signals) z), omega arith)
 
 pub put-lines-spec : {M : Type 1} → statement M
 put-lines-spec =

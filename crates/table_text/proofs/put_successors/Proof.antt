@@ -6,14 +6,14 @@ use Prim.Native.Nat.{ℕ, ◌+◌, ◌-◌, ◌*◌, ◌^◌, ◌≤◌}
 use mathlib.Core.List.{List, ◌∷◌}
 use Rattle.text_pieces.specs.Put.{Put}
 use Rattle.text_pieces.specs.Decimal.{decimal}
-use Rattle.table_text.specs.Text.{successorsText}
+use Rattle.table_text.specs.Text.{successors_text}
 use Rattle.text_pieces.proofs.Laws.{put-none, put-length, put_is, joined-more}
 use Rattle.meaning.specs.TableFiles.{successor}
 use Rattle.table_text.proofs.put_successors.Statement.{statement}
 use Rattle.table_text.proofs.put_successors.Tie as tie
 
 abbrev invariant-loop : tie.invariant-loop
-invariant-loop out₀ at table signals state events next₀ e₀ out next e = (e ≤ events) × (next ≤ at + 6 * e) × Put out₀ at (successorsText table signals state e) out next
+invariant-loop out₀ at table signals state events next₀ e₀ out next e = (e ≤ events) × (next ≤ at + 6 * e) × Put out₀ at (successors_text table signals state e) out next
 
 abbrev decreases-loop : tie.decreases-loop
 decreases-loop out₀ at table signals state events next₀ e₀ out next e = events - e
@@ -51,7 +51,7 @@ same_length c = put-length c.before.loop.invariant.2
 returns : tie.Need-returns invariant-loop decreases-loop
 returns c =
     let z : c.before.loop.e ≡ 2 ^ c.before.before.before.before.before.args.signals = omega (arith, c.before.before.width.ensures.0) in
-    (put_is c.before.loop.invariant.2 _ (ap (successorsText c.before.before.before.before.before.args.table.now c.before.before.before.before.before.args.signals c.before.before.before.before.before.args.state) z), omega (arith, c.before.before.width.ensures.1))
+    (put_is c.before.loop.invariant.2 _ (ap (successors_text c.before.before.before.before.before.args.table.now c.before.before.before.before.before.args.signals c.before.before.before.before.before.args.state) z), omega (arith, c.before.before.width.ensures.1))
 
 pub put-successors-spec : {M : Type 1} → statement M
 put-successors-spec =

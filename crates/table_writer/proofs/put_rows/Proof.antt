@@ -8,13 +8,13 @@ use lib.ListN.{length, get_or}
 use Rattle.sequences.proofs.Stores.{Stored, stored-none, stored-length}
 use Rattle.meaning.specs.Traces.{masked}
 use Rattle.table_writer.proofs.Laws.{rows_more, row_within}
-use Rattle.table_bytes.specs.Written.{rowBytes, rowsBytes}
+use Rattle.table_bytes.specs.Written.{row_bytes, rows_bytes}
 use lib.Seq.{sets}
 use Rattle.table_writer.proofs.put_rows.Statement.{statement}
 use Rattle.table_writer.proofs.put_rows.Tie as tie
 
 abbrev invariant-loop : tie.invariant-loop
-invariant-loop out₀ signals mask states verdicts rows s₀ out s = (s ≤ states) × (length out ≡ length out₀) × Stored out₀ 7 (rowsBytes (masked (2 ^ signals) mask) signals s verdicts rows) out
+invariant-loop out₀ signals mask states verdicts rows s₀ out s = (s ≤ states) × (length out ≡ length out₀) × Stored out₀ 7 (rows_bytes (masked (2 ^ signals) mask) signals s verdicts rows) out
 
 abbrev decreases-loop : tie.decreases-loop
 decreases-loop out₀ signals mask states verdicts rows s₀ out s = states - s
@@ -58,7 +58,7 @@ loop-again c =
     let at-loop = at-wide16.before.before in
     let start = at-loop.before.before in
     let w : at-wide16.wide16.result ≡ at-loop.loop.s = at-wide16.wide16.ensures.0 in
-    let bytes : ℕ → List ℕ = λ n. rowBytes (masked (2 ^ start.args.signals) start.args.mask) start.args.signals (get_or start.args.verdicts.now n 0) (get_or start.args.rows.now n []) in
+    let bytes : ℕ → List ℕ = λ n. row_bytes (masked (2 ^ start.args.signals) start.args.mask) start.args.signals (get_or start.args.verdicts.now n 0) (get_or start.args.rows.now n []) in
     let stored = at-put-row.put-row.ensures ∙ ap (λ (n : ℕ). sets at-loop.loop.out at-row-at.row-at.result (bytes n)) w in
     let h = rows_more (masked (2 ^ start.args.signals) start.args.mask) start.args.signals start.args.verdicts.now start.args.rows.now at-loop.loop.s _ at-row-at.row-at.result at-loop.loop.invariant.2 at-row-at.row-at.ensures.0 stored in
     (omega arith, stored-length h ∙ refl, h)
@@ -70,7 +70,7 @@ returns : tie.Need-returns invariant-loop decreases-loop
 returns c =
     let a = c.before.before.before.args in
     let z : c.before.loop.s ≡ a.states = omega arith in
-    c.before.loop.invariant.2.is ∙ ap (λ (n : ℕ). sets a.out.now 7 (rowsBytes (masked (2 ^ a.signals) a.mask) a.signals n a.verdicts.now a.rows.now)) z
+    c.before.loop.invariant.2.is ∙ ap (λ (n : ℕ). sets a.out.now 7 (rows_bytes (masked (2 ^ a.signals) a.mask) a.signals n a.verdicts.now a.rows.now)) z
 
 pub put-rows-spec : {M : Type 1} → statement M
 put-rows-spec =

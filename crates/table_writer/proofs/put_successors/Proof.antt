@@ -8,13 +8,13 @@ use lib.ListN.{length}
 use Rattle.sequences.proofs.Stores.{Stored, stored-none, stored-length}
 use Rattle.meaning.specs.Traces.{masked}
 use Rattle.table_writer.proofs.Laws.{successors-more}
-use Rattle.table_bytes.specs.Written.{successorBytes}
+use Rattle.table_bytes.specs.Written.{successor_bytes}
 use lib.Seq.{sets}
 use Rattle.table_writer.proofs.put_successors.Statement.{statement}
 use Rattle.table_writer.proofs.put_successors.Tie as tie
 
 abbrev invariant-loop : tie.invariant-loop
-invariant-loop out₀ at events mask row e₀ out e = (e ≤ events) × (length out ≡ length out₀) × Stored out₀ at (successorBytes (masked events mask) e row) out
+invariant-loop out₀ at events mask row e₀ out e = (e ≤ events) × (length out ≡ length out₀) × Stored out₀ at (successor_bytes (masked events mask) e row) out
 
 abbrev decreases-loop : tie.decreases-loop
 decreases-loop out₀ at events mask row e₀ out e = events - e
@@ -59,7 +59,7 @@ returns : tie.Need-returns invariant-loop decreases-loop
 returns c =
     let start = c.before.before.before in
     let z : c.before.loop.e ≡ start.args.events = omega arith in
-    let bytes : ℕ → List ℕ = λ n. successorBytes (masked start.args.events start.args.mask) n start.args.t5 in
+    let bytes : ℕ → List ℕ = λ n. successor_bytes (masked start.args.events start.args.mask) n start.args.t5 in
     c.before.loop.invariant.2.is ∙ ap (λ (n : ℕ). sets start.args.out.now start.args.at (bytes n)) z
 
 pub put-successors-spec : {M : Type 1} → statement M

@@ -6,7 +6,7 @@ use Prim.Native.Nat.{◌-◌, ◌^◌, ◌≤◌}
 use lib.ListN.{length}
 use Rattle.meaning.specs.Traces.{masked}
 use Rattle.table_writer.proofs.Laws.{table-stored}
-use Rattle.meaning.specs.TableFiles.{tableLength}
+use Rattle.meaning.specs.TableFiles.{table_length}
 use borrow.Author.Rules.{rules}
 use Rattle.table_writer.proofs.write.Statement.{statement}
 use Rattle.table_writer.proofs.write.Tie as tie
@@ -15,7 +15,7 @@ row-at-requires : tie.Need-row-at-requires
 row-at-requires c κs = search rules
 
 returns : tie.Need-returns
-returns c = let h = lt-leb (tableLength c.before.before.before.args.signals c.before.before.before.args.states) (length c.before.before.before.args.out.now) (omega (arith, c.if1.true, c.before.row-at.ensures.0)) in (rw h, rw h)
+returns c = let h = lt-leb (table_length c.before.before.before.args.signals c.before.before.before.args.states) (length c.before.before.before.args.out.now) (omega (arith, c.if1.true, c.before.row-at.ensures.0)) in (rw h, rw h)
 
 put-header-requires : tie.Need-put-header-requires
 put-header-requires c κs = omega (arith, c.before.if1.false, c.before.before.row-at.ensures.0)
@@ -33,8 +33,8 @@ returns-2 c =
     let at-if1 = at-put-header.before.before in
     let at-row-at = at-if1.before in
     let start = at-row-at.before.before in
-    let l : tableLength start.args.signals start.args.states ≤ length start.args.out.now = omega (arith, at-if1.if1.false, at-row-at.row-at.ensures.0) in
-    let h = le-leb (tableLength start.args.signals start.args.states) (length start.args.out.now) l in
+    let l : table_length start.args.signals start.args.states ≤ length start.args.out.now = omega (arith, at-if1.if1.false, at-row-at.row-at.ensures.0) in
+    let h = le-leb (table_length start.args.signals start.args.states) (length start.args.out.now) l in
     (rw (h, at-row-at.row-at.ensures.0), rw h (table-stored (masked (2 ^ start.args.signals) start.args.mask) start.args.signals start.args.verdicts.now start.args.rows.now start.args.states start.args.out.now _ _ at-put-header.put-header.ensures at-put-rows.put-rows.ensures l))
 
 pub write_spec : {M : Type 1} → statement M

@@ -38,7 +38,7 @@ use denote.Triple.Table.{entered, cited}
 use denote.Triple.Walked.{says, Stays, stay_none, stay_none_slice, gave_slice, walk_of, Goes-none, Goes-none_slice, Goes-gave_slice, Walks, ends_at, walked, walk_Meets}
 use denote.Exit.{yes}
 use denote.Triple.Clauses.{ensured, lasts}
-use Rattle.meaning.specs.Desks.{Outcome, freshIn}
+use Rattle.meaning.specs.Desks.{Outcome, fresh_in}
 use Rattle.meaning.specs.declared.Served.{Served}
 use Rattle.meaning.specs.declared.Watch.{Watch}
 use Rattle.meaning.specs.contracts.Served as S
@@ -49,7 +49,7 @@ use Rattle.desk.specs.contracts.fresh as fresh
 use Rattle.desk.proofs.fresh.Symbol as fresh-def
 use Rattle.desk.proofs.fresh.Symbol.{name as #desk·fresh}
 use Rattle.desk.proofs.fresh.Met as fresh-thm
-use Rattle.codes.specs.Codes.{servedCode, openingIn, freshAt}
+use Rattle.codes.specs.Codes.{served_code, opening_in, fresh_at}
 use Rattle.codes.specs.declared.Opening.{Opening}
 use Rattle.codes.specs.contracts.Opening as R
 use Rattle.codes.proofs.Opening.TheLaws as R'
@@ -122,14 +122,14 @@ module _ {M : Type 1} {𝓤 : Ura M} (𝓛 : Logic 𝓤) (mem : Memory → SProp
   goes-open : ent 𝓤 (⋆ 𝓛 (‵ ftrue ∷ ‵ (owns (u64 ∷ []) (n, tt) (vint w64 n ∷ [], tt)) ∷ [])) ((Open 𝓛 mem run).pre to-open)
   goes-open = qed 𝓛 (‵ ftrue ∷ ‵ (owns (u64 ∷ []) (n, tt) (vint w64 n ∷ [], tt)) ∷ []) ∵ join ! $ frame ! $ done !
 
-  said-open : (c : Opening) → ent 𝓤 (ensured 𝓛 opens.ended (opens.clauses 𝓛 mem run) tt (n, tt) tt c) (fact 𝓤 (c ≡ openingIn n))
-  said-open c = ex_e 𝓤 _ (λ zs. snd∗ 𝓤 (sem 𝓛 (lasts opens.ended tt (n, tt) zs)) (fact 𝓤 (c ≡ openingIn n)))
+  said-open : (c : Opening) → ent 𝓤 (ensured 𝓛 opens.ended (opens.clauses 𝓛 mem run) tt (n, tt) tt c) (fact 𝓤 (c ≡ opening_in n))
+  said-open c = ex_e 𝓤 _ (λ zs. snd∗ 𝓤 (sem 𝓛 (lasts opens.ended tt (n, tt) zs)) (fact 𝓤 (c ≡ opening_in n)))
 
   -- what making the desk fresh comes to over an opening
   abbrev outcome : Opening → Outcome
-  outcome c = freshIn c.number t.now c.signals c.states ys
+  outcome c = fresh_in c.number t.now c.signals c.states ys
 
-  outcome-is : (c : Opening) → c ≡ openingIn n → outcome c ≡ freshAt t.now n ys
+  outcome-is : (c : Opening) → c ≡ opening_in n → outcome c ≡ fresh_at t.now n ys
   outcome-is c ce = ap outcome ce ∙ fresh-opening t.now ys n
 
   -- the call of `fresh`, with the opening
@@ -156,10 +156,10 @@ module _ {M : Type 1} {𝓤 : Ura M} (𝓛 : Logic 𝓤) (mem : Memory → SProp
   goes-answer : (z : Served) (w : Val) → ent 𝓤 (⋆ 𝓛 (‵ ftrue ∷ ‵ (owns (S.the_row ∷ []) (z, tt) (w ∷ [], tt)) ∷ [])) ((Answer 𝓛 mem run).pre (to-answer z w))
   goes-answer z w = qed 𝓛 (‵ ftrue ∷ ‵ (owns (S.the_row ∷ []) (z, tt) (w ∷ [], tt)) ∷ []) ∵ join ! $ frame ! $ done !
 
-  said-answer : (z : Served) (r : ℕ) → ent 𝓤 (ensured 𝓛 answer.ended (answer.clauses 𝓛 mem run) tt (z, tt) tt r) (fact 𝓤 (r ≡ servedCode z))
-  said-answer z r = ex_e 𝓤 _ (λ zs. snd∗ 𝓤 (sem 𝓛 (lasts answer.ended tt (z, tt) zs)) (fact 𝓤 (r ≡ servedCode z)))
+  said-answer : (z : Served) (r : ℕ) → ent 𝓤 (ensured 𝓛 answer.ended (answer.clauses 𝓛 mem run) tt (z, tt) tt r) (fact 𝓤 (r ≡ served_code z))
+  said-answer z r = ex_e 𝓤 _ (λ zs. snd∗ 𝓤 (sem 𝓛 (lasts answer.ended tt (z, tt) zs)) (fact 𝓤 (r ≡ served_code z)))
 
-  exits : (r : ℕ) (w : Val) → Is u64 r (w ∷ []) → r ≡ servedCode (freshAt t.now n ys).answer → (l : List Watch) → l ≡ (freshAt t.now n ys).desk → length l ≡ length ys
+  exits : (r : ℕ) (w : Val) → Is u64 r (w ∷ []) → r ≡ served_code (fresh_at t.now n ys).answer → (l : List Watch) → l ≡ (fresh_at t.now n ys).desk → length l ≡ length ys
       → ent 𝓤 (⋆ 𝓛 (Alive ∷ ‵ (finally T.the_row γ l) ∷ ‵ OwnT ∷ [])) (Post w)
   exits r w is re l le len =
       qed 𝓛 (Alive ∷ ‵ (finally T.the_row γ l) ∷ ‵ OwnT ∷ []) ∵
@@ -179,7 +179,7 @@ module _ {M : Type 1} {𝓤 : Ura M} (𝓛 : Logic 𝓤) (mem : Memory → SProp
         nothing ! $ owned ! u64 (Is u64) (uint_Makes 𝓛 w64) n _ (refl, n-fits) $ fjoin ! $ nothing ! $ use2 𝓛 (raw ((Open 𝓛 mem run).pre to-open)) goes-open $
         calls_at ! fm (Open 𝓛 mem run) known-open to-open (and_then ! (load ! (from ! (stop !)) (look ! 9 refl)) (no_more !)) (λ u.
         use1 𝓛 (later (some (λ (c : Opening). (‵ ftrue ⊛ ‵ ((R.the_row).own_val c (u ∷ []))) ⊛ raw (ensured 𝓛 opens.ended (opens.clauses 𝓛 mem run) tt (n, tt) tt c)))) (id⊢ 𝓤 _) $ await ! tt $ pick ! (λ c.
-        split ! $ move ! (1 ∷ []) $ use1 𝓛 (raw (fact 𝓤 (c ≡ openingIn n))) (said-open c) $ heard ! (c ≡ openingIn n) (λ ce. split ! $ drop ! $
+        split ! $ move ! (1 ∷ []) $ use1 𝓛 (raw (fact 𝓤 (c ≡ opening_in n))) (said-open c) $ heard ! (c ≡ opening_in n) (λ ce. split ! $ drop ! $
         peeks ! R.the_row (Is R.the_row) (shows 𝓛 R.the_row) c (u ∷ []) (λ is_c.
         -- [the opening's; _7; …]
         land ! (from ! (stop !)) (init ! 7 refl ((LL.lawful R.the_type R'.the_laws 𝓛).typed c _ is_c).0) $
@@ -207,7 +207,7 @@ module _ {M : Type 1} {𝓤 : Ura M} (𝓛 : Logic 𝓤) (mem : Memory → SProp
         nothing ! $ move ! (1 ∷ 0 ∷ []) $ fjoin ! $ nothing ! $ use2 𝓛 (raw ((Answer 𝓛 mem run).pre (to-answer z w))) (goes-answer z w) $
         calls_at ! fm (Answer 𝓛 mem run) known (to-answer z w) (and_then ! (load ! (from ! (stop !)) (look ! 9 refl)) (no_more !)) (λ m.
         use1 𝓛 (later (some (λ (r : ℕ). (‵ ftrue ⊛ ‵ (u64.own_val r (m ∷ []))) ⊛ raw (ensured 𝓛 answer.ended (answer.clauses 𝓛 mem run) tt (z, tt) tt r)))) (id⊢ 𝓤 _) $ await ! tt $ pick ! (λ r.
-        split ! $ move ! (1 ∷ []) $ use1 𝓛 (raw (fact 𝓤 (r ≡ servedCode z))) (said-answer z r) $ heard ! (r ≡ servedCode z) (λ re. split ! $ drop ! $
+        split ! $ move ! (1 ∷ []) $ use1 𝓛 (raw (fact 𝓤 (r ≡ served_code z))) (said-answer z r) $ heard ! (r ≡ served_code z) (λ re. split ! $ drop ! $
         peeks ! u64 (Is u64) (shows 𝓛 u64) r (m ∷ []) (λ is-r.
         -- [the number's; the tokens; the last list; …; the bytes'; _7; …]
         land ! (from ! (stop !)) (init ! 19 refl ((uint_Lawful 𝓛 w64).typed r _ is-r).0) $
@@ -215,7 +215,7 @@ module _ {M : Type 1} {𝓤 : Ura M} (𝓛 : Logic 𝓤) (mem : Memory → SProp
         move ! (19 ∷ 20 ∷ []) $ free1 ! $ move ! (17 ∷ 18 ∷ []) $ free1 ! $ move ! (15 ∷ 16 ∷ []) $ free1 ! $ move ! (13 ∷ 14 ∷ []) $ free1 ! $
         move ! (11 ∷ 12 ∷ []) $ free1 ! $ move ! (9 ∷ 10 ∷ []) $ free1 ! $ move ! (7 ∷ 8 ∷ []) $ free1 ! $ move ! (5 ∷ 6 ∷ []) $ free1 ! $ free0 ! $
         let so = outcome-is c ce in
-        keep ! (1 ∷ 2 ∷ 4 ∷ []) $ by ! (exits r m is-r (re ∙ ap servedCode (ze.0 ∙ ap (λ (f : Outcome). f.answer) so)) zs.0 (ze.1 ∙ ap (λ (f : Outcome). f.desk) so) len)))))))))))))))))))))))
+        keep ! (1 ∷ 2 ∷ 4 ∷ []) $ by ! (exits r m is-r (re ∙ ap served_code (ze.0 ∙ ap (λ (f : Outcome). f.answer) so)) zs.0 (ze.1 ∙ ap (λ (f : Outcome). f.desk) so) len)))))))))))))))))))))))
 
 module _ {M : Type 1} {𝓤 : Ura M} (𝓛 : Logic 𝓤) (mem : Memory → SProp 𝓤) (run : Routine → Fun 𝓤) where
   open 𝓛 use {H}

@@ -2,7 +2,7 @@
 use borrow.Author.Rules.{rules}
 use mathlib.Core.Path.{ap, ◌∙◌}
 use Rattle.meaning.specs.declared.Arrived.{Arrived}
-use Rattle.codes.specs.Codes.{arrivedCode, countAfter}
+use Rattle.codes.specs.Codes.{arrived_code, count_after}
 use Rattle.tefuji.proofs.Steps.{run_is}
 use Rattle.tefuji.proofs.tefuji_run.Statement.{statement}
 use Rattle.tefuji.proofs.tefuji_run.Tie as tie
@@ -27,7 +27,7 @@ returns c =
     let ran = c.before.before.before in
     let asked = ran.before.before.before.before.before.args in
     let arrived = run_is asked.table.now asked.opened asked.state asked.events.now ran.before.before.opening-in.ensures ran.before.state-in.ensures ran.run-from.ensures in
-    (c.arrived-code.ensures ∙ ap arrivedCode arrived, c.before.count-after.ensures ∙ ap (λ (r : Arrived). countAfter r asked.count.now) arrived)
+    (c.arrived-code.ensures ∙ ap arrived_code arrived, c.before.count-after.ensures ∙ ap (λ (r : Arrived). count_after r asked.count.now) arrived)
 
 pub tefuji-run-spec : {M : Type 1} → statement M
 tefuji-run-spec =

@@ -2,7 +2,7 @@
 use borrow.Author.Rules.{rules}
 use mathlib.Core.Path.{ap, ◌∙◌}
 use mathlib.Core.List.{[], ◌∷◌}
-use Rattle.codes.specs.Codes.{arrivedCode}
+use Rattle.codes.specs.Codes.{arrived_code}
 use Rattle.tefuji.proofs.Steps.{run_is}
 use Rattle.tefuji.proofs.tefuji_step.Statement.{statement}
 use Rattle.tefuji.proofs.tefuji_step.Tie as tie
@@ -24,7 +24,7 @@ returns c =
     let ran = c.before in
     let asked = ran.before.before.before.before.args in
     c.arrived-code.ensures
-    ∙ ap arrivedCode (run_is asked.table.now asked.opened asked.state (asked.event ∷ []) ran.before.before.opening-in.ensures ran.before.state-in.ensures ran.step_from.ensures)
+    ∙ ap arrived_code (run_is asked.table.now asked.opened asked.state (asked.event ∷ []) ran.before.before.opening-in.ensures ran.before.state-in.ensures ran.step_from.ensures)
 
 pub tefuji-step-spec : {M : Type 1} → statement M
 tefuji-step-spec =

@@ -44,7 +44,7 @@ use Rattle.meaning.specs.declared.Watch.{Watch}
 use Rattle.meaning.specs.contracts.Served as S
 use Rattle.meaning.proofs.Served.TheLaws as S'
 use Rattle.meaning.specs.contracts.Watch as T
-use Rattle.desk_tasks.specs.Surveys.{servedIn}
+use Rattle.desk_tasks.specs.Surveys.{served_in}
 use Rattle.desk_tasks.specs.declared.Request.{Request}
 use Rattle.desk_tasks.specs.declared.Request.TheVariants as Request
 use Rattle.desk_tasks.specs.contracts.Request as Q
@@ -58,7 +58,7 @@ use Rattle.desk.specs.contracts.serve as serve
 use Rattle.desk.proofs.serve.Symbol as serve-def
 use Rattle.desk.proofs.serve.Symbol.{name as #desk·serve}
 use Rattle.desk.proofs.serve.Met as serve-thm
-use Rattle.codes.specs.Codes.{servedCode, openingIn, turnAt}
+use Rattle.codes.specs.Codes.{served_code, opening_in, turn_at}
 use Rattle.codes.specs.declared.Opening.{Opening}
 use Rattle.codes.specs.contracts.Opening as R
 use Rattle.codes.proofs.Opening.TheLaws as R'
@@ -70,7 +70,7 @@ use Rattle.codes.specs.contracts.served_code as answer
 use Rattle.codes.proofs.served_code.Symbol as answer-def
 use Rattle.codes.proofs.served_code.Symbol.{name as #codes·served-code}
 use Rattle.codes.proofs.served_code.Met as answer-thm
-use Rattle.tefuji.proofs.Serving.{answer-is, desk-is}
+use Rattle.tefuji.proofs.Serving.{answer_is, desk-is}
 use Rattle.tefuji.specs.contracts.tefuji_turn.Key.{name as #tefuji·tefuji-turn}
 use Rattle.tefuji.specs.contracts.tefuji_turn as outer
 use Rattle.tefuji.proofs.tefuji_turn.Statement as stated
@@ -134,8 +134,8 @@ module _ {M : Type 1} {𝓤 : Ura M} (𝓛 : Logic 𝓤) (mem : Memory → SProp
   goes-open : ent 𝓤 (⋆ 𝓛 (‵ ftrue ∷ ‵ (owns (u64 ∷ []) (n, tt) (vint w64 n ∷ [], tt)) ∷ [])) ((Open 𝓛 mem run).pre to-open)
   goes-open = qed 𝓛 (‵ ftrue ∷ ‵ (owns (u64 ∷ []) (n, tt) (vint w64 n ∷ [], tt)) ∷ []) ∵ join ! $ frame ! $ done !
 
-  said-open : (c : Opening) → ent 𝓤 (ensured 𝓛 opens.ended (opens.clauses 𝓛 mem run) tt (n, tt) tt c) (fact 𝓤 (c ≡ openingIn n))
-  said-open c = ex_e 𝓤 _ (λ zs. snd∗ 𝓤 (sem 𝓛 (lasts opens.ended tt (n, tt) zs)) (fact 𝓤 (c ≡ openingIn n)))
+  said-open : (c : Opening) → ent 𝓤 (ensured 𝓛 opens.ended (opens.clauses 𝓛 mem run) tt (n, tt) tt c) (fact 𝓤 (c ≡ opening_in n))
+  said-open c = ex_e 𝓤 _ (λ zs. snd∗ 𝓤 (sem 𝓛 (lasts opens.ended tt (n, tt) zs)) (fact 𝓤 (c ≡ opening_in n)))
 
   -- the call of `turn_request`, with the number of the opening
   module _ (k : ℕ) where
@@ -153,7 +153,7 @@ module _ {M : Type 1} {𝓤 : Ura M} (𝓛 : Logic 𝓤) (mem : Memory → SProp
 
   -- what a request comes to over an opening
   abbrev outcome : Opening → Request → Outcome
-  outcome c a = servedIn t.now c.signals c.states a ys
+  outcome c a = served_in t.now c.signals c.states a ys
 
   -- the call of `serve`, with the opening and the request that were made
   module _ (c : Opening) (a : Request) (v : Val) where
@@ -179,10 +179,10 @@ module _ {M : Type 1} {𝓤 : Ura M} (𝓛 : Logic 𝓤) (mem : Memory → SProp
   goes-answer : (z : Served) (w : Val) → ent 𝓤 (⋆ 𝓛 (‵ ftrue ∷ ‵ (owns (S.the_row ∷ []) (z, tt) (w ∷ [], tt)) ∷ [])) ((Answer 𝓛 mem run).pre (to-answer z w))
   goes-answer z w = qed 𝓛 (‵ ftrue ∷ ‵ (owns (S.the_row ∷ []) (z, tt) (w ∷ [], tt)) ∷ []) ∵ join ! $ frame ! $ done !
 
-  said-answer : (z : Served) (r : ℕ) → ent 𝓤 (ensured 𝓛 answer.ended (answer.clauses 𝓛 mem run) tt (z, tt) tt r) (fact 𝓤 (r ≡ servedCode z))
-  said-answer z r = ex_e 𝓤 _ (λ zs. snd∗ 𝓤 (sem 𝓛 (lasts answer.ended tt (z, tt) zs)) (fact 𝓤 (r ≡ servedCode z)))
+  said-answer : (z : Served) (r : ℕ) → ent 𝓤 (ensured 𝓛 answer.ended (answer.clauses 𝓛 mem run) tt (z, tt) tt r) (fact 𝓤 (r ≡ served_code z))
+  said-answer z r = ex_e 𝓤 _ (λ zs. snd∗ 𝓤 (sem 𝓛 (lasts answer.ended tt (z, tt) zs)) (fact 𝓤 (r ≡ served_code z)))
 
-  exits : (r : ℕ) (w : Val) → Is u64 r (w ∷ []) → r ≡ servedCode (turnAt t.now n ys i).answer → (l : List Watch) → l ≡ (turnAt t.now n ys i).desk → length l ≡ length ys
+  exits : (r : ℕ) (w : Val) → Is u64 r (w ∷ []) → r ≡ served_code (turn_at t.now n ys i).answer → (l : List Watch) → l ≡ (turn_at t.now n ys i).desk → length l ≡ length ys
       → ent 𝓤 (⋆ 𝓛 (Alive ∷ ‵ (finally T.the_row γ l) ∷ ‵ OwnT ∷ [])) (Post w)
   exits r w is re l le len =
       qed 𝓛 (Alive ∷ ‵ (finally T.the_row γ l) ∷ ‵ OwnT ∷ []) ∵
@@ -202,7 +202,7 @@ module _ {M : Type 1} {𝓤 : Ura M} (𝓛 : Logic 𝓤) (mem : Memory → SProp
         nothing ! $ owned ! u64 (Is u64) (uint_Makes 𝓛 w64) n _ (refl, n-fits) $ fjoin ! $ nothing ! $ use2 𝓛 (raw ((Open 𝓛 mem run).pre to-open)) goes-open $
         calls_at ! fm (Open 𝓛 mem run) known-open to-open (and_then ! (load ! (from ! (stop !)) (look ! 13 refl)) (no_more !)) (λ u.
         use1 𝓛 (later (some (λ (c : Opening). (‵ ftrue ⊛ ‵ ((R.the_row).own_val c (u ∷ []))) ⊛ raw (ensured 𝓛 opens.ended (opens.clauses 𝓛 mem run) tt (n, tt) tt c)))) (id⊢ 𝓤 _) $ await ! tt $ pick ! (λ c.
-        split ! $ move ! (1 ∷ []) $ use1 𝓛 (raw (fact 𝓤 (c ≡ openingIn n))) (said-open c) $ heard ! (c ≡ openingIn n) (λ ce. split ! $ drop ! $
+        split ! $ move ! (1 ∷ []) $ use1 𝓛 (raw (fact 𝓤 (c ≡ opening_in n))) (said-open c) $ heard ! (c ≡ opening_in n) (λ ce. split ! $ drop ! $
         peeks ! R.the_row (Is R.the_row) (shows 𝓛 R.the_row) c (u ∷ []) (λ is_c.
         -- [the opening's; _9; …]
         land ! (from ! (stop !)) (init ! 9 refl ((LL.lawful R.the_type R'.the_laws 𝓛).typed c _ is_c).0) $
@@ -238,14 +238,14 @@ module _ {M : Type 1} {𝓤 : Ura M} (𝓛 : Logic 𝓤) (mem : Memory → SProp
         nothing ! $ move ! (1 ∷ 0 ∷ []) $ fjoin ! $ nothing ! $ use2 𝓛 (raw ((Answer 𝓛 mem run).pre (to-answer z w))) (goes-answer z w) $
         calls_at ! fm (Answer 𝓛 mem run) known (to-answer z w) (and_then ! (load ! (from ! (stop !)) (look ! 11 refl)) (no_more !)) (λ m.
         use1 𝓛 (later (some (λ (r : ℕ). (‵ ftrue ⊛ ‵ (u64.own_val r (m ∷ []))) ⊛ raw (ensured 𝓛 answer.ended (answer.clauses 𝓛 mem run) tt (z, tt) tt r)))) (id⊢ 𝓤 _) $ await ! tt $ pick ! (λ r.
-        split ! $ move ! (1 ∷ []) $ use1 𝓛 (raw (fact 𝓤 (r ≡ servedCode z))) (said-answer z r) $ heard ! (r ≡ servedCode z) (λ re. split ! $ drop ! $
+        split ! $ move ! (1 ∷ []) $ use1 𝓛 (raw (fact 𝓤 (r ≡ served_code z))) (said-answer z r) $ heard ! (r ≡ served_code z) (λ re. split ! $ drop ! $
         peeks ! u64 (Is u64) (shows 𝓛 u64) r (m ∷ []) (λ is-r.
         -- [the number's; the tokens; the last list; …; the bytes'; _9; …]
         land ! (from ! (stop !)) (init ! 23 refl ((uint_Lawful 𝓛 w64).typed r _ is-r).0) $
         returns ! (look ! 23 refl) $ forget ! 5 refl $ forget ! 7 refl $ forget ! 9 refl $ forget ! 11 refl $ forget ! 13 refl $ forget ! 15 refl $ forget ! 17 refl $ forget ! 19 refl $ forget ! 21 refl $ forget ! 23 refl $
         move ! (23 ∷ 24 ∷ []) $ free1 ! $ move ! (21 ∷ 22 ∷ []) $ free1 ! $ move ! (19 ∷ 20 ∷ []) $ free1 ! $ move ! (17 ∷ 18 ∷ []) $ free1 ! $ move ! (15 ∷ 16 ∷ []) $ free1 ! $ move ! (13 ∷ 14 ∷ []) $ free1 ! $
         move ! (11 ∷ 12 ∷ []) $ free1 ! $ move ! (9 ∷ 10 ∷ []) $ free1 ! $ move ! (7 ∷ 8 ∷ []) $ free1 ! $ move ! (5 ∷ 6 ∷ []) $ free1 ! $ free0 ! $
-        keep ! (1 ∷ 2 ∷ 4 ∷ []) $ by ! (exits r m is-r (answer-is t.now n ys (λ k. Request.Turn k i) a c ce ae ze.0 re) zs.0 (desk-is t.now n ys (λ k. Request.Turn k i) a c ce ae ze.1) len)))))))))))))))))))))))))))))
+        keep ! (1 ∷ 2 ∷ 4 ∷ []) $ by ! (exits r m is-r (answer_is t.now n ys (λ k. Request.Turn k i) a c ce ae ze.0 re) zs.0 (desk-is t.now n ys (λ k. Request.Turn k i) a c ce ae ze.1) len)))))))))))))))))))))))))))))
 
 module _ {M : Type 1} {𝓤 : Ura M} (𝓛 : Logic 𝓤) (mem : Memory → SProp 𝓤) (run : Routine → Fun 𝓤) where
   open 𝓛 use {H}

@@ -9,12 +9,12 @@ use Prim.Native.Nat.{ℕ, ◌-◌, ◌≤◌}
 use lib.Dec.{leb}
 use lib.ListN.{length, get_or}
 use Rattle.sequences.proofs.Loops.{Passed, passed_none, passed-more, passed-all, all-not}
-use Rattle.text_input.specs.EventDigits.{hexValue}
+use Rattle.text_input.specs.EventDigits.{hex_value}
 use Rattle.text_input.proofs.all_hex.Statement.{statement}
 use Rattle.text_input.proofs.all_hex.Tie as tie
 
 abbrev test : List ℕ → ℕ → Bool
-test bytes i = leb (hexValue (get_or bytes i 0)) 15
+test bytes i = leb (hex_value (get_or bytes i 0)) 15
 
 abbrev invariant-loop : tie.invariant-loop
 invariant-loop bytes i₀ i = (i ≤ length bytes) × Passed i (test bytes)
@@ -36,7 +36,7 @@ returns c =
     let at-loop = c.before.before.before.before in
     let bytes = at-loop.before.before.args.bytes.now in
     let i = at-loop.loop.i in
-    let bad = lt-leb (hexValue (get_or bytes i 0)) 15 (omega (arith, c.before.hex-value.ensures, c.if1.true)) in
+    let bad = lt-leb (hex_value (get_or bytes i 0)) 15 (omega (arith, c.before.hex-value.ensures, c.if1.true)) in
     sym (all-not (length bytes) (test bytes) i c.before.before.before.loop-test.true bad)
 
 add-i : tie.Need-overflow-add-i invariant-loop decreases-loop
@@ -50,7 +50,7 @@ loop-again c =
     let at-loop = c.before.before.before.before in
     let bytes = at-loop.before.before.args.bytes.now in
     let i = at-loop.loop.i in
-    let good = le-leb (hexValue (get_or bytes i 0)) 15 (omega (arith, c.before.hex-value.ensures, c.if1.false)) in
+    let good = le-leb (hex_value (get_or bytes i 0)) 15 (omega (arith, c.before.hex-value.ensures, c.if1.false)) in
     (omega arith, passed-more at-loop.loop.invariant.1 good)
 
 returns-2 : tie.Need-returns-2 invariant-loop decreases-loop

@@ -5,13 +5,13 @@ use mathlib.Core.Path.{ap, ◌∙◌}
 use Prim.Native.Nat.{◌-◌, ◌≤◌}
 use lib.ListN.{length, get_or}
 use Rattle.sequences.proofs.Loops.{Filled, filled_none, filled_more, filled-all, filled-length}
-use Rattle.text_input.specs.EventDigits.{hexValue}
+use Rattle.text_input.specs.EventDigits.{hex_value}
 use Rattle.text_input.proofs.Laws.{filled-rest, mapped}
 use Rattle.text_input.proofs.put_values.Statement.{statement}
 use Rattle.text_input.proofs.put_values.Tie as tie
 
 abbrev invariant-loop : tie.invariant-loop
-invariant-loop bytes₀ i₀ bytes i = (i ≤ length bytes₀) × Filled i (λ k. hexValue (get_or bytes₀ k 0)) bytes₀ bytes
+invariant-loop bytes₀ i₀ bytes i = (i ≤ length bytes₀) × Filled i (λ k. hex_value (get_or bytes₀ k 0)) bytes₀ bytes
 
 abbrev decreases-loop : tie.decreases-loop
 decreases-loop bytes₀ i₀ bytes i = length bytes₀ - i
@@ -39,7 +39,7 @@ loop-again c =
     let inv = c.before.before.before.loop.invariant in (
       omega (arith, filled-length inv.1),
       filled_more inv.1
-          (c.hex-value.ensures ∙ ap hexValue (filled-rest inv.1)) (omega (arith, filled-length inv.1)),
+          (c.hex-value.ensures ∙ ap hex_value (filled-rest inv.1)) (omega (arith, filled-length inv.1)),
     )
 
 same_length : tie.Need-same-length invariant-loop decreases-loop
@@ -49,7 +49,7 @@ returns : tie.Need-returns invariant-loop decreases-loop
 returns c =
     let bytes = c.before.before.before.args.bytes.now in
     let inv = c.before.loop.invariant in
-    filled-all (length bytes) inv.1 (omega (arith, filled-length inv.1)) (omega arith) ∙ mapped hexValue bytes
+    filled-all (length bytes) inv.1 (omega (arith, filled-length inv.1)) (omega arith) ∙ mapped hex_value bytes
 
 pub put-values-spec : {M : Type 1} → statement M
 put-values-spec =

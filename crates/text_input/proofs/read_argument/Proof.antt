@@ -5,7 +5,7 @@ use borrow.Author.Tests.{lt-leb}
 use mathlib.Core.Path.{sym, ◌∙◌}
 use lib.ListN.{length}
 use Rattle.sequences.proofs.Tests.{fails}
-use Rattle.text_input.specs.Given.{value_of, numberTests}
+use Rattle.text_input.specs.Given.{value_of, number_tests}
 use Rattle.text_input.proofs.Laws.{asks-help, unknown, asks-signals}
 use Rattle.text_input.proofs.read_argument.Statement.{statement}
 use Rattle.text_input.proofs.read_argument.Tie as tie
@@ -19,12 +19,12 @@ returns c = asks-help c.before.before.before.args.argument.now (sym c.before.is-
 returns-2 : tie.Need-returns-2
 returns-2 c =
     let bytes = c.before.before.before.before.args.argument.now in
-    unknown bytes (sym c.before.before.is-help.ensures ∙ c.before.if1.false) (fails (numberTests bytes) 0 (lt-leb 1 (length bytes) (omega arith)))
+    unknown bytes (sym c.before.before.is-help.ensures ∙ c.before.if1.false) (fails (number_tests bytes) 0 (lt-leb 1 (length bytes) (omega arith)))
 
 returns-3 : tie.Need-returns-3
 returns-3 c =
     let bytes = c.before.before.before.before.before.args.argument.now in
-    unknown bytes (sym c.before.before.before.is-help.ensures ∙ c.before.before.if1.false) (fails (numberTests bytes) 1 (lt-leb (length bytes) 3 (omega arith)))
+    unknown bytes (sym c.before.before.before.is-help.ensures ∙ c.before.before.if1.false) (fails (number_tests bytes) 1 (lt-leb (length bytes) 3 (omega arith)))
 
 value-requires : tie.Need-value-requires
 value-requires c κs = omega arith
@@ -32,7 +32,7 @@ value-requires c κs = omega arith
 returns-4 : tie.Need-returns-4
 returns-4 c =
     let bytes = c.before.before.before.before.before.before.before.args.argument.now in
-    unknown bytes (sym c.before.before.before.before.before.is-help.ensures ∙ c.before.before.before.before.if1.false) (fails (numberTests bytes) 2 (lt-leb (value_of bytes) 255 (omega (arith, c.before.value.ensures))))
+    unknown bytes (sym c.before.before.before.before.before.is-help.ensures ∙ c.before.before.before.before.if1.false) (fails (number_tests bytes) 2 (lt-leb (value_of bytes) 255 (omega (arith, c.before.value.ensures))))
 
 cast-t6 : tie.Need-overflow-cast-t6
 cast-t6 c = omega arith

@@ -3,7 +3,7 @@ use borrow.Author.Rules.{rules}
 use borrow.Author.Tests.{not-true, not-false}
 use mathlib.Core.Path.{◌≡◌, sym, ◌∙◌}
 use mathlib.Core.Bool.{false}
-use Rattle.text_input.specs.EventDigits.{allHex}
+use Rattle.text_input.specs.EventDigits.{all_hex}
 use Rattle.text_input.proofs.Laws.{asks-events, kept-argument, asks-run-help, run-unknown}
 use Rattle.text_input.proofs.read_events.Statement.{statement}
 use Rattle.text_input.proofs.read_events.Tie as tie
@@ -21,7 +21,7 @@ returns : tie.Need-returns
 returns c =
     let tested = c.before.before.before in
     let bytes = tested.before.before.before.before.args.argument.now in
-    let other : allHex bytes ≡ false = sym tested.before.all-hex.ensures ∙ not-true _ tested.if1.true in
+    let other : all_hex bytes ≡ false = sym tested.before.all-hex.ensures ∙ not-true _ tested.if1.true in
     (asks-run-help bytes other (sym c.before.is-help.ensures ∙ c.if2.true), kept-argument bytes other)
 
 same-length-2 : tie.Need-same-length-2
@@ -31,7 +31,7 @@ returns-2 : tie.Need-returns-2
 returns-2 c =
     let tested = c.before.before.before in
     let bytes = tested.before.before.before.before.args.argument.now in
-    let other : allHex bytes ≡ false = sym tested.before.all-hex.ensures ∙ not-true _ tested.if1.true in
+    let other : all_hex bytes ≡ false = sym tested.before.all-hex.ensures ∙ not-true _ tested.if1.true in
     (run-unknown bytes other (sym c.before.is-help.ensures ∙ c.if2.false), kept-argument bytes other)
 
 put-values-requires : tie.Need-put-values-requires

@@ -5,7 +5,7 @@ use borrow.Author.Tests.{not-true, not-false}
 use mathlib.Core.Path.{◌≡◌, sym, ◌∙◌}
 use mathlib.Core.Bool.{true}
 use Prim.Native.Nat.{◌-◌, ◌≤◌}
-use Rattle.text_input.specs.Given.{isDigit}
+use Rattle.text_input.specs.Given.{is_digit}
 use lib.ListN.{length, get_or}
 use Rattle.text_input.proofs.Laws.{Valued, valued-none, valued-few, valued-more, valued_not, valued-all, digit-range}
 use Rattle.text_input.proofs.value.Statement.{statement}
@@ -57,7 +57,7 @@ loop-again c =
     let at_test = c.before in
     let at-loop = at_test.before.before.before.before in
     let byte = get_or at-loop.before.before.args.digits.now at-loop.loop.i 0 in
-    let digit : isDigit byte ≡ true = sym at_test.before.is_digit.ensures ∙ not-false _ at_test.if1.false in
+    let digit : is_digit byte ≡ true = sym at_test.before.is_digit.ensures ∙ not-false _ at_test.if1.false in
     (omega arith, valued-more at-loop.loop.invariant.1 at_test.before.before.before.loop-test.true c.wide.result digit c.wide.ensures.0 (omega (arith, digit-range byte digit, c.wide.ensures.0)))
 
 returns-2 : tie.Need-returns-2 invariant-loop decreases-loop

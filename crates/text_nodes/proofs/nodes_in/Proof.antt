@@ -5,13 +5,13 @@ use lib.ListN.{replicate}
 use borrow.Author.Rules.{rules}
 use Rattle.sequences.proofs.Loops.{Filled, filled_none, filled_more}
 use Rattle.meaning.specs.RuleTexts.{node}
-use Rattle.text_nodes.specs.Occurrences.{nodeIn}
+use Rattle.text_nodes.specs.Occurrences.{node_in}
 use Rattle.text_nodes.proofs.Laws.{filled-front}
 use Rattle.text_nodes.proofs.nodes_in.Statement.{statement}
 use Rattle.text_nodes.proofs.nodes_in.Tie as tie
 
 abbrev invariant-loop : tie.invariant-loop
-invariant-loop laid count nodes₀ i₀ nodes i = (i ≤ count) × Filled i (nodeIn laid) (replicate 64 (node 0 0 0)) nodes
+invariant-loop laid count nodes₀ i₀ nodes i = (i ≤ count) × Filled i (node_in laid) (replicate 64 (node 0 0 0)) nodes
 
 abbrev decreases-loop : tie.decreases-loop
 decreases-loop laid count nodes₀ i₀ nodes i = count - i

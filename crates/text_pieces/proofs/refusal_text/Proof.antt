@@ -5,7 +5,7 @@ use mathlib.Core.Path.{◌∙◌, ap}
 use lib.ListN.{length}
 use borrow.Author.Tests.{le-leb, lt-leb}
 use Rattle.text_pieces.specs.Decimal.{decimal}
-use Rattle.text_pieces.specs.RefusalLine.{refusalText}
+use Rattle.text_pieces.specs.RefusalLine.{refusal_text}
 use Rattle.text_pieces.specs.declared.Text.TheVariants as Text
 use Rattle.text_pieces.proofs.Laws.{put-length, put-more, put_is, put_front}
 use Rattle.text_pieces.proofs.Decimal.{decimal-u64}
@@ -65,7 +65,7 @@ same_length : tie.Need-same-length
 same_length c = search rules
 
 returns-2 : tie.Need-returns-2
-unfolding refusalText
+unfolding refusal_text
 returns-2 c =
     let at-end = c.before.before in
     let at-decimal = at-end.before.before.before.before.before in
@@ -81,7 +81,7 @@ returns-2 c =
     let p = put_is at-decimal.put-decimal.ensures (decimal (code_of r).1) (ap decimal at_place.place.ensures) in
     let h = put-more (put-more (put-more (put-more at_first.put-bytes.ensures n) at-text.put-bytes2.ensures) p) at-end.put-bytes3.ensures in
     let room = le-leb 64 (length start.args.out.now) at_test.if1.false in
-    (rw room (ap Text.Written (h.next ∙ zero-add (length (refusalText r)))), rw room (put_front h (omega (arith, decimal-u64 at_place.place.result at_place.place.type-inv))))
+    (rw room (ap Text.Written (h.next ∙ zero-add (length (refusal_text r)))), rw room (put_front h (omega (arith, decimal-u64 at_place.place.result at_place.place.type-inv))))
 
 pub refusal-text-spec : {M : Type 1} → statement M
 refusal-text-spec =

@@ -5,7 +5,7 @@ use Rattle.valuation.proofs.Prefixes.{Fills, fills-none, fills-more, fills-to, p
 use mathlib.Core.Path.{◌≡◌}
 use Prim.Native.Nat.{◌-◌, ◌≤◌}
 use lib.ListN.{length, length-set}
-use Rattle.valuation.specs.Valued.{profileAt, fairsAt}
+use Rattle.valuation.specs.Valued.{profile_at, fairs_at}
 use Rattle.valuation.proofs.fill_half.Statement.{statement}
 use Rattle.valuation.proofs.fill_half.Tie as tie
 
@@ -66,12 +66,12 @@ returns c =
     let z : turn.y ≡ start.args.to = omega arith in (
       (
         turn.invariant.2,
-        fills-to turn.invariant.4 (profileAt start.args.count start.args.nodes start.args.event) (λ z. profile-size start.requires.0 start.args.event z)
+        fills-to turn.invariant.4 (profile_at start.args.count start.args.nodes start.args.event) (λ z. profile-size start.requires.0 start.args.event z)
             value-nodes.ensures.1.0 start.requires.1.1.0.1 start.args.to z,
       ),
       (
         turn.invariant.3,
-        fills-to turn.invariant.5 (fairsAt start.args.count start.args.nodes start.args.event) (λ z. fairs-size start.requires.0 start.args.event z)
+        fills-to turn.invariant.5 (fairs_at start.args.count start.args.nodes start.args.event) (λ z. fairs-size start.requires.0 start.args.event z)
             value-nodes.ensures.1.1 start.requires.1.1.1.1 start.args.to z,
       ),
     )

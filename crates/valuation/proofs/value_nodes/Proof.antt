@@ -89,7 +89,7 @@ returns c =
     let nodes = start.args.t4 in
     let count = start.args.count in
     let all = prefix-to event high nodes turn.i turn.m turn.invariant.4 count (omega arith) in
-    (prefix-temporals event high nodes count turn.m _ _ _ all, (prefix-profiles event high nodes count turn.m all (omega arith), all.of-fairs))
+    (prefix-temporals event high nodes count turn.m _ _ _ all, (prefix-profiles event high nodes count turn.m all (omega arith), all.of_fairs))
 
 pub value-nodes-spec : {M : Type 1} → statement M
 value-nodes-spec =

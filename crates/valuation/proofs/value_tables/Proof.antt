@@ -6,12 +6,12 @@ use Prim.Native.Nat.{◌-◌, ◌≤◌}
 use lib.ListN.{length, length-set}
 use Rattle.valuation.proofs.Entries.{table_none, table_more, table_to}
 use Rattle.valuation.specs.Entries.{Table}
-use Rattle.valuation.specs.Valued.{profileAt, fairsAt}
+use Rattle.valuation.specs.Valued.{profile_at, fairs_at}
 use Rattle.valuation.proofs.value_tables.Statement.{statement}
 use Rattle.valuation.proofs.value_tables.Tie as tie
 
 abbrev invariant-loop : tie.invariant-loop
-invariant-loop events labels count nodes profiles₀ fairs₀ e₀ profiles fairs e = (e ≤ events) × (length profiles ≡ length profiles₀) × (length fairs ≡ length fairs₀) × Table e labels (profileAt count nodes) profiles × Table e labels (fairsAt count nodes) fairs
+invariant-loop events labels count nodes profiles₀ fairs₀ e₀ profiles fairs e = (e ≤ events) × (length profiles ≡ length profiles₀) × (length fairs ≡ length fairs₀) × Table e labels (profile_at count nodes) profiles × Table e labels (fairs_at count nodes) fairs
 
 abbrev decreases-loop : tie.decreases-loop
 decreases-loop events labels count nodes profiles₀ fairs₀ e₀ profiles fairs e = events - e
