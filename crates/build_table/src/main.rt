@@ -1,5 +1,7 @@
 // Builds the table of a rule file: the rule file is read from standard input, and the table goes to standard output. A
 // refusal goes to standard error.
+#![tactic(auto)]
+
 ghost use Rattle.std.specs.Prelude.{◌≡◌, length};
 
 use console::{front, room};

@@ -1,4 +1,6 @@
 // Answers as one number: what was asked for, or a refusal with its number in the top byte and its place below.
+#![tactic(auto)]
+
 ghost use Rattle.std.specs.Prelude.{◌≡◌, ◌<◌, ◌^◌};
 ghost use Rattle.meaning.specs.TableFiles.{verdict_number};
 ghost use Rattle.meaning.specs.declared.Served.TheVariants.{Heard};
@@ -185,7 +187,7 @@ pub fn served_code(served: Served) -> u64
 }
 
 // An opening's number and counts, as opening answers them.
-#[derive(Drop)]
+#[derive(Clone, Copy)]
 pub struct Opening {
     pub number: u16,
     pub signals: u8,

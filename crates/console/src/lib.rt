@@ -1,5 +1,7 @@
 // What the test programs read and write: a stream of cases on standard input, and answers as text on standard output. What is read and what is
 // written no contract can say: a function that only writes has none, and its comment says what it writes.
+#![tactic(auto)]
+
 ghost use Rattle.std.specs.Prelude.{◌≡◌, ◌≤◌, length, take, replicate};
 ghost use Rattle.console.specs.Input.{Filled};
 

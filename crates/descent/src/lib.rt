@@ -1,10 +1,12 @@
 // A reader of signs by levels: it lays three bytes for each occurrence, the operator after its operands: the sign, and the numbers of its operands.
+#![tactic(auto)]
+
 ghost use Rattle.std.specs.Prelude.{◌≡◌, ℕ, ◌+◌, ◌≤◌, ◌<◌, length, set};
 ghost use Rattle.meaning.specs.Grammar.{rightward};
 ghost use Rattle.descent.specs.Laying.{put, laid_as, Read, Moved, Skips};
 
 // How far the signs were read, how many occurrences were laid, and the number of the last tree's root.
-#[derive(Drop)]
+#[derive(Clone, Copy)]
 pub struct Cursor {
     pub at: usize,
     pub count: usize,

@@ -1,4 +1,6 @@
 // A lent row of watches: a fresh one is made, and posts and turns change one watch of it.
+#![tactic(auto)]
+
 ghost use Rattle.std.specs.Prelude.{◌≡◌, ◌&&◌, ◌≤◌, length, set};
 ghost use Rattle.meaning.specs.Runs.{counts_fit, in_table};
 ghost use Rattle.meaning.specs.Desks.{fresh_in};
@@ -15,7 +17,7 @@ use watches::{fresh_watch, no_watch, row_fits};
 // ---- a fresh row
 
 // How many watches are filled, with which, and the answer.
-#[derive(Drop)]
+#[derive(Clone, Copy)]
 pub struct Filling {
     pub upto: usize,
     pub watch: Watch,

@@ -1,1 +1,2 @@
 // The laws of a desk over whole histories: theorems, no code.
+#![tactic(auto)]

@@ -1,4 +1,6 @@
 // One pass over a lent row of watches, which is only read: what a request over it comes to.
+#![tactic(auto)]
+
 ghost use Rattle.std.specs.Prelude.{◌≡◌, ◌≤◌, length};
 ghost use Rattle.meaning.specs.Desks.{watch_at};
 ghost use Rattle.desk_tasks.specs.Tasks.{pass_over};

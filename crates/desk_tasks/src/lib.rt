@@ -1,4 +1,6 @@
 // What is asked of a desk, what one pass over its row finds out, and what is then done to one watch.
+#![tactic(auto)]
+
 ghost use Rattle.std.specs.Prelude.{◌≡◌, cond, ◌&&◌, ◌≤◌, ◌<◌, leb};
 ghost use Rattle.meaning.specs.Runs.{in_table};
 ghost use Rattle.desk_tasks.specs.declared.Request.TheVariants.{Post, Turn};
@@ -12,7 +14,7 @@ use watches::{count_of, fits, oldest_event, row_fits, with_event, without_oldest
 use wire::wide;
 
 // With the opening that has a number: an event posted to a number, or a turn after the number last heard.
-#[derive(Drop)]
+#[derive(Clone, Copy)]
 pub enum Request {
     Post {
         opening: u16,
@@ -28,7 +30,7 @@ pub enum Request {
 // What is asked over a table of these counts, and what a pass over a row of so many watches has found of it: the lowest number of a watch that carries
 // another opening's number, of one that does not fit, of one with an event waiting, and of one with an event waiting that comes after the number last
 // heard; where there is none, the row's length. A pass looks at the watches below `upto`.
-#[derive(Drop)]
+#[derive(Clone, Copy)]
 pub struct Task {
     pub request: Request,
     pub signals: u8,
@@ -46,7 +48,7 @@ pub struct Task {
 }
 
 // What becomes of one watch, and the answer. With the row's length as its number no watch is changed.
-#[derive(Drop)]
+#[derive(Clone, Copy)]
 pub struct Service {
     pub number: usize,
     pub watch: Watch,
@@ -226,7 +228,7 @@ pub fn wanted(s: Task) -> usize
     }
 }
 
-#[derive(Drop)]
+#[derive(Clone, Copy)]
 enum Check {
     Passed,
     Refused(Refusal),

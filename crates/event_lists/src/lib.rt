@@ -1,4 +1,6 @@
 // Lists of events: the first that cannot happen.
+#![tactic(auto)]
+
 ghost use Rattle.std.specs.Prelude.{◌≡◌, true, ◌≤◌, eqb, length};
 ghost use Rattle.sequences.specs.Tabulate.{all_below};
 ghost use Rattle.meaning.specs.Bytes.{bit};

@@ -1,4 +1,6 @@
 // Events: how many there are, which of them can happen, which signals are on, and how many of a mask's.
+#![tactic(auto)]
+
 ghost use Rattle.std.specs.Prelude.{◌≡◌, ◌&&◌, ◌^◌, ◌≤◌, ◌<◌, leb, eqb};
 ghost use Rattle.meaning.specs.Bytes.{bit};
 ghost use Rattle.meaning.specs.Traces.{full_mask};

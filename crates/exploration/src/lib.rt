@@ -1,4 +1,6 @@
 // The breadth-first walk over the keys of remaining properties. A key is a set of at most 256 profiles, in four words.
+#![tactic(auto)]
+
 ghost use Rattle.std.specs.Prelude.{◌≡◌, List, [], ◌++◌, ℕ, ◌+◌, ◌^◌, ◌≤◌, ◌<◌, length, get_or, drop};
 ghost use Rattle.sequences.specs.Tabulate.{tabulate};
 ghost use Rattle.meaning.specs.Traces.{masked};
@@ -13,7 +15,7 @@ use profile_sets::{pack, same_key, spread, start_profiles, step_key};
 use wire::wide16;
 
 // How many keys there are now; or there was no room for one.
-#[derive(Drop)]
+#[derive(Clone, Copy)]
 pub enum Grown {
     To(usize),
     Full,

@@ -1,4 +1,6 @@
 // The refusal of a rule's text as a person reads it: the refusal's line, the text, and under it a mark at the place.
+#![tactic(auto)]
+
 ghost use Rattle.std.specs.Prelude.{◌≡◌, map, ◌+◌, ◌≤◌, min, length, replicate};
 ghost use Rattle.text_pieces.specs.Put.{Put};
 ghost use Rattle.fault_text.specs.Fault.{shown, marked, fault_answer, fault_after};

@@ -1,4 +1,6 @@
 // The least state that a round leaves with a state: states compared by their groups and their successors' groups, and found by slots, a hash table.
+#![tactic(auto)]
+
 ghost use Rattle.std.specs.Prelude.{◌≡◌, ◌+◌, ◌≤◌, ◌<◌};
 ghost use Rattle.sequences.specs.Tabulate.{least_below};
 ghost use Rattle.moore.specs.Grouping.{entry, together, same_step};

@@ -1,4 +1,6 @@
 // Makes of a machine the smallest one that shows the same: a state for each group of states that no word tells apart.
+#![tactic(auto)]
+
 ghost use Rattle.std.specs.Prelude.{◌≡◌, true, cond, List, ◌++◌, ℕ, ◌+◌, ◌^◌, ◌≤◌, ◌<◌, length, get_or, take, drop, eqb};
 ghost use Rattle.sequences.specs.Tabulate.{tabulate};
 ghost use Rattle.meaning.specs.Bytes.{bit};

@@ -1,4 +1,6 @@
 // The keys met, and their slots: a hash table with the numbers of the keys, chained. A key is a set of at most 256 profiles, in four words.
+#![tactic(auto)]
+
 ghost use Rattle.std.specs.Prelude.{◌≡◌, ◌<◌, replicate};
 ghost use Rattle.sequences.specs.Tabulate.{least_below};
 ghost use Rattle.profile_sets.specs.Arrays.{key_of, WordsFit};
@@ -9,7 +11,7 @@ use profile_sets::same_key;
 use wire::wide;
 
 // The number of a key, and how many keys there are now; or there is no room for it.
-#[derive(Drop)]
+#[derive(Clone, Copy)]
 pub enum Entered {
     At(usize, usize),
     Full,

@@ -1,4 +1,6 @@
 // The tables of the residual system, computed into arrays.
+#![tactic(auto)]
+
 ghost use Rattle.std.specs.Prelude.{◌≡◌, List, ℕ, ◌^◌, ◌≤◌, ◌<◌, length, take};
 ghost use Rattle.meaning.specs.Traces.{masked};
 ghost use Rattle.ltl.specs.Nodes.{splits, temporals};

@@ -1,9 +1,11 @@
 // The words of the product: the types of its answers. What they mean stands in specs/, which holds definitions only.
+#![tactic(auto)]
+
 ghost use Rattle.std.specs.Prelude.{◌≡◌};
 ghost use Rattle.meaning.specs.Refusals.{code_of};
 
 // Document 01's verdicts.
-#[derive(Drop)]
+#[derive(Clone, Copy)]
 pub enum Verdict {
     Undecided,
     Satisfied,
@@ -12,7 +14,7 @@ pub enum Verdict {
 }
 
 // The refusals of documents 01 and 02, in the order of their numbers, each with its place where that is not always 0.
-#[derive(Drop)]
+#[derive(Clone, Copy)]
 pub enum Refusal {
     Truncated(usize),
     WrongLength(usize),
@@ -109,7 +111,7 @@ impl Refusal {
 
 // A node of a rule file: its kind, and the first two bytes of its body, 0 where the body has none. An "at least" has an upper count, which is 4
 // where its body does not say it; every other node has 0 there.
-#[derive(Drop)]
+#[derive(Clone, Copy)]
 pub struct Node {
     pub kind: u8,
     pub a: u8,
@@ -118,70 +120,70 @@ pub struct Node {
 }
 
 // What the first record of a rule file says.
-#[derive(Drop)]
+#[derive(Clone, Copy)]
 pub struct Header {
     pub signals: u8,
     pub nodes: u8,
 }
 
 // The reading of the first record.
-#[derive(Drop)]
+#[derive(Clone, Copy)]
 pub enum HeaderReading {
     Header(Header),
     Refused(Refusal),
 }
 
 // The reading of what may stand between the first record and the nodes: the mask of the events that can happen, and the place where the nodes begin.
-#[derive(Drop)]
+#[derive(Clone, Copy)]
 pub enum MaskReading {
     Mask { mask: u16, nodes_at: usize },
     Refused(Refusal),
 }
 
 // The reading of one node's record.
-#[derive(Drop)]
+#[derive(Clone, Copy)]
 pub enum Reading {
     Node(Node),
     Refused(Refusal),
 }
 
 // What writing a text as a rule file returns: the file's length in bytes, or the refusal.
-#[derive(Drop)]
+#[derive(Clone, Copy)]
 pub enum Written {
     Rule(usize),
     Refused(Refusal),
 }
 
 // What building a table returns: the table's length in bytes, or the refusal.
-#[derive(Drop)]
+#[derive(Clone, Copy)]
 pub enum Built {
     Table(usize),
     Refused(Refusal),
 }
 
 // What checking a table's bytes finds.
-#[derive(Drop)]
+#[derive(Clone, Copy)]
 pub enum Checked {
     Table { signals: u8, states: u16 },
     Refused(Refusal),
 }
 
 // After how many events a verdict other than undecided was first shown.
-#[derive(Drop)]
+#[derive(Clone, Copy)]
 pub enum Decided {
     After(usize),
     Never,
 }
 
 // A state of an opened table: the number of its opening, and the state's own number in the table.
-#[derive(Drop)]
+#[derive(Clone, Copy)]
 pub struct State {
     pub opening: u16,
     pub number: u16,
 }
 
 // What a run of an opened table returns.
-#[derive(Drop)]
+#[derive(Clone, Copy)]
 pub enum Arrived {
     At {
         state: State,
@@ -192,7 +194,7 @@ pub enum Arrived {
 }
 
 // The same of a table's bytes, by the numbers of its states: what is left when the opening is not asked.
-#[derive(Drop)]
+#[derive(Clone, Copy)]
 pub enum Ran {
     Ended {
         state: u16,
@@ -203,14 +205,14 @@ pub enum Ran {
 }
 
 // What a state of a table shows, or a table over two recordings.
-#[derive(Drop)]
+#[derive(Clone, Copy)]
 pub enum Shown {
     Verdict(Verdict),
     Refused(Refusal),
 }
 
 // A row of a table: what its state shows, and its successors for event 0 upward. Past the last event, and on a refusal, they are 0.
-#[derive(Drop)]
+#[derive(Clone, Copy)]
 pub struct StateRow {
     pub shown: Shown,
     pub successors: [u16; 16],
@@ -221,7 +223,7 @@ pub struct StateRow {
 // the 32 slots the first `waiting` count, the oldest event in front; the others are free. It passes to other languages as it is, and whatever its bytes
 // are, it is a watch.
 #[repr(C)]
-#[derive(Drop)]
+#[derive(Clone, Copy)]
 pub struct Watch {
     pub state: u16,
     pub opening: u16,
@@ -234,7 +236,7 @@ pub struct Watch {
 
 // What a desk answers: the work is done; an event of a tunnel was heard, which led to a state with its verdict; no tunnel has an event waiting, and
 // the number that was given; or the refusal.
-#[derive(Drop)]
+#[derive(Clone, Copy)]
 pub enum Served {
     Done,
     Heard {
@@ -248,7 +250,7 @@ pub enum Served {
 }
 
 // A recorded event: which signals are known, and their values; bit s is signal s.
-#[derive(Drop)]
+#[derive(Clone, Copy)]
 pub struct Seen {
     pub known: u8,
     pub values: u8,

@@ -1,4 +1,6 @@
 // Reads a rule file and builds its table: the smallest that shows the rule's verdicts.
+#![tactic(auto)]
+
 ghost use Rattle.std.specs.Prelude.{◌≡◌, List, ℕ, ◌^◌, ◌≤◌, length, Bool};
 ghost use Rattle.meaning.specs.Traces.{masked};
 ghost use Rattle.moore.specs.Grouping.{Machine};

@@ -1,4 +1,6 @@
 // Words with a bit for each of 64 labels, and what one node gives in them: bit l of a word is for label l of the lower or of the upper half.
+#![tactic(auto)]
+
 ghost use Rattle.std.specs.Prelude.{◌≡◌};
 ghost use Rattle.ltl.specs.Sets.{on};
 ghost use Rattle.node_words.specs.Words.{plain_words, promise_words, Lanes, Flipped, Everywhere, LabelBits};
@@ -7,7 +9,7 @@ use events::{at_least, signal_on};
 use meaning::Node;
 
 // What valuing a node gives, a bit for each label.
-#[derive(Drop)]
+#[derive(Clone, Copy)]
 pub struct Words {
     pub value: u64,
     pub label: u64,

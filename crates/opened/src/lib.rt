@@ -1,4 +1,6 @@
 // A table is opened once and stepped many times from the caller's own bytes; every public function takes any input.
+#![tactic(auto)]
+
 ghost use Rattle.std.specs.Prelude.{◌≡◌, ◌∷◌, []};
 ghost use Rattle.meaning.specs.TableFiles.{checked_of};
 ghost use Rattle.meaning.specs.Runs.{row_read};
@@ -13,7 +15,7 @@ use meaning::{Arrived, Checked, Refusal, Served, Shown, State, StateRow, Watch};
 // ---- over a slice and its counts
 
 // The counts of a table, 0 and 0 where the bytes are none.
-#[derive(Drop)]
+#[derive(Clone, Copy)]
 struct Counts {
     signals: u8,
     states: u16,
@@ -45,7 +47,7 @@ fn outcome_in(signals: u8, states: u16) -> Checked
 // ---- over an opened table
 
 // An opened table: the caller's bytes, the counts that opening found and the number that the caller chose, in private fields, so that only `open` makes one.
-#[derive(Drop)]
+#[derive(Clone, Copy)]
 pub struct Opened<'a> {
     bytes: &'a [u8],
     signals: u8,

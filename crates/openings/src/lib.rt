@@ -1,4 +1,6 @@
 // Runs and steps of an opening: over its number, and bytes and counts in hand, whatever they are. A state of another opening is refused.
+#![tactic(auto)]
+
 ghost use Rattle.std.specs.Prelude.{◌≡◌, [], ◌∷◌};
 ghost use Rattle.meaning.specs.Openings.{state_of, carried, run_from_in};
 ghost use Rattle.openings.specs.Steps.{foreign_in, state_after, stepped_in};

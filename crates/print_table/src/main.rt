@@ -1,4 +1,6 @@
 // Prints the table of a rule file as text; a refusal prints as one line.
+#![tactic(auto)]
+
 ghost use Rattle.std.specs.Prelude.{◌≡◌, length};
 
 use console::front;

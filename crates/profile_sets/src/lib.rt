@@ -1,4 +1,6 @@
 // Sets of profiles in four words, the keys of remaining properties: packing, comparing, and the step at an event.
+#![tactic(auto)]
+
 ghost use Rattle.std.specs.Prelude.{◌≡◌, false, cond, ◌+◌, ◌≤◌, ◌<◌, length, get_or, eqb};
 ghost use Rattle.ltl.specs.Sets.{on};
 ghost use Rattle.ltl.specs.Residuals.{rule_true};

@@ -1,4 +1,6 @@
 // The labels that some continuation has: the core, and what leads to it along the edges between labels.
+#![tactic(auto)]
+
 ghost use Rattle.std.specs.Prelude.{◌≡◌, false, ◌+◌, ◌≤◌, ◌<◌, length, get_or};
 ghost use Rattle.meaning.specs.Traces.{masked};
 ghost use Rattle.ltl.specs.Sets.{on};

@@ -1,4 +1,6 @@
 // One recorded event: whether its bytes fit, whether two contradict each other, the two joined, and the possible events that agree with it.
+#![tactic(auto)]
+
 ghost use Rattle.std.specs.Prelude.{◌≡◌, true, cond, ◌+◌, ◌*◌, ◌^◌, ◌≤◌, ◌<◌, length, take};
 ghost use Rattle.meaning.specs.Traces.{masked};
 ghost use Rattle.meaning.specs.Recordings.{seen_at, seen_fits, contradict, join, choices};
@@ -57,7 +59,7 @@ pub fn joined(r: Seen, q: Seen) -> Seen
 }
 
 // The possible events that agree with a recorded one: the first so many of the slots, ascending.
-#[derive(Drop)]
+#[derive(Clone, Copy)]
 pub struct Choices {
     pub events: [u8; 16],
     pub count: usize,

@@ -1,4 +1,6 @@
 // Two recordings with gaps, joined and judged over all completions: one pass with the set of the states that completions reach.
+#![tactic(auto)]
+
 ghost use Rattle.std.specs.Prelude.{◌≡◌, true, ◌+◌, ◌*◌, ◌^◌, ◌≤◌, ◌<◌, length};
 ghost use Rattle.table_layout.specs.Masks.{MaskIn};
 ghost use Rattle.meaning.specs.Runs.{counts_fit};
@@ -13,7 +15,7 @@ use state_sets::{advance, all_show, start};
 use table_layout::{counts_fit, possible_mask};
 
 // What hearing one event of both recordings finds: whether every state that it leads to is in the table, or the refusal.
-#[derive(Drop)]
+#[derive(Clone, Copy)]
 pub enum Hearing {
     Heard(bool),
     Refused(Refusal),

@@ -1,5 +1,7 @@
 // Rounds that split the groups of a machine's states until none splits: those left together are those that no word tells apart. A group is named by
 // its least state. The rounds take every event as one that can happen; those that cannot are led to one state first.
+#![tactic(auto)]
+
 ghost use Rattle.std.specs.Prelude.{◌≡◌, List, ℕ, ◌≤◌, ◌<◌, length, replicate, take, eqb};
 ghost use Rattle.sequences.specs.Tabulate.{least_below};
 ghost use Rattle.meaning.specs.Bytes.{bit};

@@ -1,4 +1,6 @@
 // A refusal in words: what is wrong, and what to do.
+#![tactic(auto)]
+
 ghost use Rattle.std.specs.Prelude.{◌≡◌, ◌≤◌, length};
 ghost use Rattle.text_pieces.specs.Put.{Put};
 ghost use Rattle.refusal_words.specs.Words.{words_for, words_answer, words_after};

@@ -1,4 +1,6 @@
 // A relation between labels: its pairs, the edges that the profiles give, and their closure.
+#![tactic(auto)]
+
 ghost use Rattle.std.specs.Prelude.{◌≡◌, List, ℕ, ◌%◌, ◌≤◌, ◌<◌, length, eqb};
 ghost use Rattle.meaning.specs.Traces.{masked};
 ghost use Rattle.relations.specs.Relations.{entry, Matrix, EmptyRow, MarkedAt, Added, only_if, RowPassed, label_at, edge, through, closed};

@@ -1,13 +1,13 @@
 // What reading a rule file returns.
 use meaning::{Node, Refusal};
 
-#[derive(Drop)]
+#[derive(Clone, Copy)]
 pub enum Outcome {
     Accepted,
     Refused(Refusal),
 }
 
-#[derive(Drop)]
+#[derive(Clone, Copy)]
 pub struct Read {
     pub outcome: Outcome,
     pub signals: u8,

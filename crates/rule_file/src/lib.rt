@@ -1,4 +1,6 @@
 // Rule files, read record by record: the rule, or the first refusal in the order of document 01.
+#![tactic(auto)]
+
 ghost use Rattle.std.specs.Prelude.{◌≡◌, cond, [], ◌≤◌, replicate};
 ghost use Rattle.meaning.specs.RuleFiles.{Refused, nodes_from, judge};
 ghost use Rattle.rule_file.specs.Reading.{blank, read_of, handed_on_header, handed_on_mask, handed_on};

@@ -1,4 +1,6 @@
 // The nodes of rule files: what each kind has, and the checks of one node's body.
+#![tactic(auto)]
+
 ghost use Rattle.std.specs.Prelude.{◌≡◌, not, ◌&&◌, ◌≤◌, ◌<◌, leb};
 ghost use Rattle.meaning.specs.RuleFiles.{body_length, length_fits, upper_at, operands, operands_fit, ranges_fit};
 ghost use Rattle.rule_nodes.specs.Shapes.{shape, shape_of, node_of};
@@ -10,7 +12,7 @@ use wire::{byte_at, wide, wide16};
 // ---- kinds
 
 // What a kind of node has: so many bytes of body, so many of them operands, and whether it is temporal.
-#[derive(Drop)]
+#[derive(Clone, Copy)]
 pub struct Shape {
     pub body: u8,
     pub operands: u8,

@@ -1,4 +1,6 @@
 // The records of rule files: the first one, the mask's and a node's, each read or refused by the first check that fails.
+#![tactic(auto)]
+
 ghost use Rattle.std.specs.Prelude.{◌≡◌, ◌≤◌, ◌<◌};
 ghost use Rattle.meaning.specs.RuleFiles.{header_of, mask_of, reading_of};
 ghost use Rattle.rule_records.specs.Frames.{framed_of, refusal_in};
@@ -9,7 +11,7 @@ use rule_nodes::{eighth, length_fits, node_at, out_of_range, shape_of, wrong_ope
 use wire::{byte_at, u16_at, wide16};
 
 // A record's length and kind, once it is known to lie within the bytes.
-#[derive(Drop)]
+#[derive(Clone, Copy)]
 enum Framed {
     Record { length: u16, kind: u16 },
     Refused(Refusal),

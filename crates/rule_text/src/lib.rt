@@ -1,4 +1,6 @@
 // Writes the rule file of a rule's text.
+#![tactic(auto)]
+
 ghost use Rattle.std.specs.Prelude.{◌≡◌, ◌≤◌, length};
 ghost use Rattle.meaning.specs.Grammar.{Parses};
 ghost use Rattle.meaning.specs.RuleTexts.{rule_of, rule_bytes, tree_answer, output_of};

@@ -1,4 +1,6 @@
 // Reads rule files from standard input, each after its length in two bytes, and prints a line for each: the rule, its mask after its signals, or its refusal.
+#![tactic(auto)]
+
 use libc::{STDIN_FILENO, STDOUT_FILENO};
 use meaning::{Node, Refusal};
 use rule_file::{Outcome, Read};

@@ -1,4 +1,6 @@
 // Writes a rule's nodes as a rule file.
+#![tactic(auto)]
+
 ghost use Rattle.std.specs.Prelude.{◌≡◌, cond, [], ◌∷◌, ◌+◌, ◌≤◌, length, take};
 ghost use Rattle.meaning.specs.RuleFiles.{body_length, temporal, temporals};
 ghost use Rattle.meaning.specs.RuleTexts.{node_bytes, nodes_bytes, rule_bytes, any_out_of_range, rule_answer, output_of};

@@ -1,4 +1,6 @@
 // The loop of a run, which tests each state on the way.
+#![tactic(auto)]
+
 ghost use Rattle.std.specs.Prelude.{◌≡◌, ◌≤◌, length};
 ghost use Rattle.event_lists.specs.Bounds.{NoneAbove};
 ghost use Rattle.run_parts.specs.Parts.{Copied};

@@ -1,4 +1,6 @@
 // What a run reads: a state's record, and the successors copied into rows.
+#![tactic(auto)]
+
 ghost use Rattle.std.specs.Prelude.{◌≡◌, ◌++◌, ◌^◌, ◌≤◌, length, drop, replicate};
 ghost use Rattle.sequences.specs.Tabulate.{tabulate};
 ghost use Rattle.meaning.specs.TableFiles.{successor};

@@ -1,5 +1,7 @@
 // Runs a table from its start: the events are the argument, a digit of base 16 each, and the table is read from
 // standard input. Prints where the run arrives, or the refusal.
+#![tactic(auto)]
+
 ghost use Rattle.std.specs.Prelude.{◌≡◌, length};
 
 use console::{front, say, say_refusal, say_run};

@@ -1,4 +1,6 @@
 // Sets of a table's states: the start alone, the states that one of several events leads to, and whether all show one verdict.
+#![tactic(auto)]
+
 ghost use Rattle.std.specs.Prelude.{◌≡◌, true, false, cond, ◌≤◌, eqb, length, replicate, set};
 ghost use Rattle.meaning.specs.TableFiles.{verdict_byte};
 ghost use Rattle.state_sets.specs.Sets.{Spread, Moved, all_show};

@@ -1,4 +1,6 @@
 // The check of a table file: whether its bytes have the form of a table.
+#![tactic(auto)]
+
 ghost use Rattle.std.specs.Prelude.{◌≡◌, true, ◌+◌, ◌*◌, ◌^◌, ◌≤◌, ◌<◌, eqb, length};
 ghost use Rattle.sequences.specs.Tabulate.{every, all_below};
 ghost use Rattle.meaning.specs.Bytes.{bit, u16_at};

@@ -1,4 +1,6 @@
 // The layout of a table file: whether counts go with its length, where a state's record stands, and what stands in it.
+#![tactic(auto)]
+
 ghost use Rattle.std.specs.Prelude.{◌≡◌, cond, not, ◌+◌, ◌*◌, ◌^◌, ◌≤◌, ◌<◌, ltb, eqb, length};
 ghost use Rattle.sequences.specs.Tabulate.{all_below};
 ghost use Rattle.meaning.specs.Bytes.{u16_at};

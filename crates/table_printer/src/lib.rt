@@ -1,4 +1,6 @@
 // Prints the table of a rule file as text, into a lent buffer.
+#![tactic(auto)]
+
 ghost use Rattle.std.specs.Prelude.{◌≡◌, length};
 ghost use Rattle.table_printer.specs.Printing.{print_answer, print_after};
 

@@ -1,4 +1,6 @@
 // Runs over bytes and counts in hand, whatever they are: what is read is tested, so that no answer but a refusal leaves the table.
+#![tactic(auto)]
+
 ghost use Rattle.std.specs.Prelude.{◌≡◌, [], ◌∷◌, ◌≤◌};
 ghost use Rattle.meaning.specs.Runs.{ran_in, no_row, row_in};
 ghost use Rattle.table_run.specs.Tables.{admission, shown_by};
@@ -13,7 +15,7 @@ use table_layout::{counts_fit, possible_mask, successor_at, verdict_at};
 use wire::wide;
 
 // Whether a run may start, or a row be read.
-#[derive(Drop)]
+#[derive(Clone, Copy)]
 enum Admission {
     Granted,
     Refused(Refusal),

@@ -1,4 +1,6 @@
 // The text of a table, into a lent buffer.
+#![tactic(auto)]
+
 ghost use Rattle.std.specs.Prelude.{◌≡◌, ◌+◌, ◌*◌, ◌^◌, ◌≤◌, ◌∷◌, length};
 ghost use Rattle.text_pieces.specs.Put.{Put};
 ghost use Rattle.text_pieces.specs.Decimal.{decimal};

@@ -1,6 +1,8 @@
 // Checks, runs, steps and rewrites the tables of a stream of cases on standard input: a two-byte length and the table, a two-byte state, a
 // two-byte count and the events. Writes a line for each case. A table is opened with its length as the number; the same state with another number is
 // refused by 24, whatever state and events are.
+#![tactic(auto)]
+
 ghost use Rattle.std.specs.Prelude.{◌≤◌};
 
 use console::{fill, front, number, room, say, say_number, say_refusal, say_run};

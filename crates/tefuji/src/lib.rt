@@ -1,5 +1,7 @@
 // What other languages call; include/tefuji.h says it for C. A slice passes as a pointer and a length. An answer is one number: what was asked
 // for, or a refusal with its number in the top byte and its place below.
+#![tactic(auto)]
+
 ghost use Rattle.std.specs.Prelude.{◌≡◌};
 ghost use Rattle.meaning.specs.RuleFiles.{judge};
 ghost use Rattle.meaning.specs.TableFiles.{checked_of};

@@ -1,5 +1,7 @@
 // What the programs are given: the writer of rule files a number of signals as its argument and the text on its input,
 // the runner of tables its events as its argument.
+#![tactic(auto)]
+
 ghost use Rattle.std.specs.Prelude.{◌≡◌, ◌≤◌, length, map};
 ghost use Rattle.text_input.specs.Given.{same, within, is_digit, value_of, is_help, request_of, without_line_end};
 ghost use Rattle.text_input.specs.EventDigits.{hex_value, all_hex, run_request_of, events_in};
@@ -7,7 +9,7 @@ ghost use Rattle.text_input.specs.EventDigits.{hex_value, all_hex, run_request_o
 use wire::wide;
 
 // What an argument asks for: the rule file over so many signals, or the help text. Unknown where it is neither.
-#[derive(Drop)]
+#[derive(Clone, Copy)]
 pub enum Request {
     Signals(u8),
     Help,
@@ -102,7 +104,7 @@ pub fn without_line_end(text: &[u8]) -> &[u8]
 // ---- a list of events, a digit of base 16 each
 
 // What the argument of a run asks for: a run over events, or the help text. Unknown where it is neither.
-#[derive(Drop)]
+#[derive(Clone, Copy)]
 pub enum RunRequest {
     Events,
     Help,

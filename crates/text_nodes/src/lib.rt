@@ -1,4 +1,6 @@
 // From the signs of a text to the nodes of its rule.
+#![tactic(auto)]
+
 ghost use Rattle.std.specs.Prelude.{◌≡◌, ◌+◌, ◌*◌, ◌≤◌, length, take};
 ghost use Rattle.sequences.specs.Tabulate.{tabulate};
 ghost use Rattle.meaning.specs.RuleTexts.{kind_of, size, nodes_of};

@@ -1,4 +1,6 @@
 // Pieces of text put into a lent buffer: bytes, numbers in decimal, the line of a refusal.
+#![tactic(auto)]
+
 ghost use Rattle.std.specs.Prelude.{◌≡◌, ◌+◌, ◌≤◌, ◌<◌, length};
 ghost use Rattle.text_pieces.specs.Put.{Put};
 ghost use Rattle.text_pieces.specs.Decimal.{decimal};
@@ -8,7 +10,7 @@ use meaning::Refusal;
 use wire::wide16;
 
 // What writing a text returns: its length in bytes, or the refusal.
-#[derive(Drop)]
+#[derive(Clone, Copy)]
 pub enum Text {
     Written(usize),
     Refused(Refusal),

@@ -1,14 +1,16 @@
 // A pass over the bytes of a text: its signs, or the place at which it does not fit.
+#![tactic(auto)]
+
 ghost use Rattle.std.specs.Prelude.{◌≡◌, ℕ, ◌+◌, ◌≤◌, ◌<◌, [], length, eqb, cond};
 ghost use Rattle.grammar.specs.Machine.{operand, operator, digit, lost, step};
 ghost use Rattle.text_scan.specs.Modes.{state_of, Moves, Found};
 
 // What the machine awaits after a byte (specs/Modes), its depth of brackets, and the sign that the byte begins or ends, 255 for none.
-#[derive(Drop)]
+#[derive(Clone, Copy)]
 struct Step(u8, usize, u8);
 
 // So many signs, or the place of the fault.
-#[derive(Drop)]
+#[derive(Clone, Copy)]
 pub enum Scanned {
     Signs(usize),
     Outside(usize),

@@ -1,5 +1,7 @@
 // The values of a rule's nodes at an event before a label, and the rows of profiles and of fairness that they give.
 // 64 labels are valued at once: bit l of a word is for label l of the lower or of the upper half.
+#![tactic(auto)]
+
 ghost use Rattle.std.specs.Prelude.{◌≡◌, ℕ, ◌+◌, ◌^◌, ◌≤◌, ◌<◌, length, take, get_or, List, ◌∷◌, []};
 ghost use Rattle.ltl.specs.Sets.{put};
 ghost use Rattle.ltl.specs.Nodes.{split, splits, temporals};
@@ -12,7 +14,7 @@ use meaning::Node;
 use node_words::{holds, label_word, node_words};
 
 // The bits of the profiles and of the sets of fairness, a word for each bit; and how many nodes are temporal.
-#[derive(Drop)]
+#[derive(Clone, Copy)]
 pub struct Columns {
     pub profiles: [u64; 8],
     pub fairs: [u64; 8],
@@ -20,7 +22,7 @@ pub struct Columns {
 }
 
 // The profiles and the sets of fairness before each label.
-#[derive(Drop)]
+#[derive(Clone, Copy)]
 pub struct Rows {
     pub profiles: [u8; 128],
     pub fairs: [u8; 128],

@@ -1,4 +1,6 @@
 // One watch: whether it fits its table, and what a posted and a heard event make of it. How many watches a row has.
+#![tactic(auto)]
+
 ghost use Rattle.std.specs.Prelude.{◌≡◌, cond, ◌&&◌, ◌+◌, ◌-◌, ◌≤◌, ◌<◌, leb, eqb};
 ghost use Rattle.meaning.specs.Runs.{decides};
 ghost use Rattle.meaning.specs.Desks.{queue, fresh_watch, no_watch, oldest, with_event, without_oldest};

@@ -1,4 +1,6 @@
 // Numbers, and numbers in files: two bytes, low byte first. Past the end of the bytes there are zeros, so reading is total.
+#![tactic(auto)]
+
 ghost use Rattle.std.specs.Prelude.{◌≡◌, ◌+◌, ◌*◌, ◌≤◌, ◌<◌, length, get_or};
 ghost use Rattle.std.proofs.lemmas.List.Edits.{sets};
 ghost use Rattle.meaning.specs.Bytes.{u16_at};

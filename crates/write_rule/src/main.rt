@@ -1,5 +1,7 @@
 // Writes the rule file of a rule's text: the number of signals is the argument, the text is read from standard input, and the rule file goes to
 // standard output. A refusal goes to standard error, with the text and a mark under the refusal's place.
+#![tactic(auto)]
+
 ghost use Rattle.std.specs.Prelude.{◌≡◌, length};
 
 use console::front;
