@@ -1,0 +1,31 @@
+-- `event_lists::first_bad` meets its contract.
+use native.Mathlib.Omega.{arith}
+use mathlib.Core.Path.{◌≡◌, refl, sym, ap, ◌∙◌}
+use mathlib.Core.Bool.{not}
+use Prim.Native.Nat.{ℕ, ◌-◌, ◌≤◌}
+use borrow.Author.Rules.{rules}
+use lib.Dec.{eqb}
+use lib.ListN.{length}
+use Rattle.sequences.proofs.Loops.{Missed, missed-none, missed_more, missed-found, missed-end}
+use Rattle.meaning.specs.Bytes.{bit}
+use Rattle.event_lists.specs.Masks.{in_mask}
+use Rattle.event_lists.proofs.Laws.{none-outside}
+use Rattle.event_lists.proofs.first_bad.Goals as goal
+
+pub returns-then-all_in : goal.returns-then-all_in
+returns-then-all_in c = sym (missed-end (none-outside c.args.mask c.args.events.now (sym c.all_in.ensures ∙ c.if-all_in.true)) (length c.args.events.now) refl)
+
+pub loop-i-init : goal.loop-i-init
+loop-i-init c = (omega arith, missed-none)
+
+pub loop-i-preserved : goal.loop-i-preserved
+loop-i-preserved c = let read = c.can_happen.ensures ∙ ap (λ (e : ℕ). eqb (bit e c.args.mask) 1) c.wide-event.ensures.0 in
+    (omega arith, missed_more c.loop-i.invariant.1 (ap not (sym read ∙ c.if-can_happen.true)))
+
+pub returns-else-can_happen : goal.returns-else-can_happen
+returns-else-can_happen c = let read = c.can_happen.ensures ∙ ap (λ (e : ℕ). eqb (bit e c.args.mask) 1) c.wide-event.ensures.0 in
+    sym (missed-found c.loop-i.invariant.1 (length c.args.events.now) c.loop-i-test.true (ap not (sym read ∙ c.if-can_happen.false)))
+
+pub returns : goal.returns
+returns c = let e : c.loop-i.i ≡ length c.args.events.now = omega arith in
+    e ∙ sym (missed-end c.loop-i.invariant.1 (length c.args.events.now) e)

@@ -1,0 +1,9 @@
+-- `events::width` meets its contract.
+use native.Mathlib.Omega.{arith}
+use mathlib.Core.Path.{refl}
+use Rattle.events.proofs.Powers.{power_small}
+use borrow.Author.Rules.{rules}
+use Rattle.events.proofs.width.Goals as goal
+
+pub returns : goal.returns
+returns c = (c.power.ensures.0, power_small c.args.signals 4 c.power.result 16 c.power.ensures.0 (omega arith) refl)

@@ -1,0 +1,6 @@
+-- `rule_nodes::eighth` meets its contract. Only a temporal node is counted.
+use borrow.Author.Rules.{rules}
+use Rattle.rule_nodes.proofs.eighth.Goals as goal
+
+pub returns-then-temporal : goal.returns-then-temporal
+returns-then-temporal c = rw c.if-temporal.true

@@ -1,0 +1,10 @@
+-- `state_sets::start` meets its contract.
+use mathlib.Core.Path.{ap}
+use mathlib.Core.Bool.{Bool, true}
+use mathlib.Core.List.{List}
+use lib.ListN.{set}
+use borrow.Author.Rules.{rules}
+use Rattle.state_sets.proofs.start.Goals as goal
+
+pub returns : goal.returns
+returns c = ap (λ (l : List Bool). set l 0 true) c.none-only.ensures

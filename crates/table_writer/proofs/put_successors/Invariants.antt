@@ -1,0 +1,19 @@
+-- `table_writer::put_successors` meets its contract.
+use native.Mathlib.Omega.{arith}
+use borrow.Author.Rules.{rules}
+use mathlib.Core.Path.{◌≡◌, refl, ◌∙◌, ap}
+use Prim.Native.Nat.{ℕ, ◌-◌, ◌≤◌}
+use mathlib.Core.List.{List}
+use lib.ListN.{length}
+use Rattle.sequences.proofs.Stores.{Stored, stored-none, stored-length}
+use Rattle.meaning.specs.Traces.{masked}
+use Rattle.table_writer.proofs.Laws.{successors-more}
+use Rattle.table_bytes.specs.Written.{successor_bytes}
+use lib.Seq.{sets}
+use Rattle.table_writer.proofs.put_successors.Given as goal
+
+abbrev pub invariant-loop-e : goal.invariant-loop-e
+invariant-loop-e l = (l.e ≤ l.events) × (length l.out ≡ length l.initial.out) × Stored l.initial.out l.at (successor_bytes (masked l.events l.mask) l.e l.row) l.out
+
+abbrev pub decreases-loop-e : goal.decreases-loop-e
+decreases-loop-e l = l.events - l.e

@@ -1,0 +1,16 @@
+-- `text_input::put_values` meets its contract.
+use native.Mathlib.Omega.{arith}
+use borrow.Author.Rules.{rules}
+use mathlib.Core.Path.{ap, ◌∙◌}
+use Prim.Native.Nat.{◌-◌, ◌≤◌}
+use lib.ListN.{length, get_or}
+use Rattle.sequences.proofs.Loops.{Filled, filled_none, filled_more, filled-all, filled-length}
+use Rattle.text_input.specs.EventDigits.{hex_value}
+use Rattle.text_input.proofs.Laws.{filled-rest, mapped}
+use Rattle.text_input.proofs.put_values.Given as goal
+
+abbrev pub invariant-loop-i : goal.invariant-loop-i
+invariant-loop-i l = (l.i ≤ length l.initial.bytes) × Filled l.i (λ k. hex_value (get_or l.initial.bytes k 0)) l.initial.bytes l.bytes
+
+abbrev pub decreases-loop-i : goal.decreases-loop-i
+decreases-loop-i l = length l.initial.bytes - l.i

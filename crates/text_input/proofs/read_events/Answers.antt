@@ -1,0 +1,17 @@
+-- `text_input::read_events` meets its contract.
+use borrow.Author.Rules.{rules}
+use borrow.Author.Tests.{not-true, not-false}
+use mathlib.Core.Path.{◌≡◌, sym, ◌∙◌}
+use mathlib.Core.Bool.{false}
+use Rattle.text_input.specs.EventDigits.{all_hex}
+use Rattle.text_input.proofs.Laws.{asks-events, kept-argument, asks-run-help, run-unknown}
+use Rattle.text_input.proofs.read_events.Goals as goal
+
+pub returns-then-is_help : goal.returns-then-is_help
+returns-then-is_help c = let other : all_hex ?bytes ≡ false = sym ?tested.before.all-hex.ensures ∙ not-true _ ?tested.if1.true in record { value = asks-run-help ?bytes other (sym c.is_help.ensures ∙ c.if-is_help.true); argument_after = kept-argument ?bytes other; }
+
+pub returns-then-not-all_hex : goal.returns-then-not-all_hex
+returns-then-not-all_hex c = let other : all_hex ?bytes ≡ false = sym ?tested.before.all-hex.ensures ∙ not-true _ ?tested.if1.true in record { value = run-unknown ?bytes other (sym c.is_help.ensures ∙ c.if-is_help.false); argument_after = kept-argument ?bytes other; }
+
+pub returns : goal.returns
+returns c = let asked = asks-events c.args.argument.now (sym c.all_hex.ensures ∙ not-false _ c.if-not-all_hex.false) in record { value = asked.0; argument_after = c.put_values.ensures ∙ asked.1; }

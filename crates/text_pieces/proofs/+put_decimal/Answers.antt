@@ -1,0 +1,40 @@
+-- The measure is the number itself.
+use native.Mathlib.Omega.{arith}
+use borrow.Author.Rules.{rules}
+use mathlib.Core.Path.{ap}
+use Prim.Native.Nat.{ℕ, ◌<◌}
+use lib.ListN.{length, length-set}
+use borrow.Fn.Kinds.{In}
+use borrow.Fn.PlainCycle.{Measures, is, falls, and}
+use Rattle.text_pieces.proofs.Decimal.{decimal-one, decimal-length}
+use Rattle.text_pieces.proofs.Laws.{decimal-one-put, decimal-more-put}
+use Rattle.text_pieces.proofs.put_decimal.Reads as put-decimal
+use Rattle.text_pieces.proofs.put_decimal.Kinds as put-decimal-kinds
+use Rattle.text_pieces.proofs.digit.Reads as digit-reads
+use Rattle.text_pieces.proofs.+put_decimal.{statement}
+use Rattle.text_pieces.proofs.+put_decimal.Goals as goal
+
+pub bounds-out-at : goal.bounds-out-at
+bounds-out-at t c = omega (arith, ap length (decimal-one c.args.n (omega (arith, c.if-n-lt10.true))))
+
+pub overflow_add-result : goal.overflow_add-result
+overflow_add-result t c = omega (arith, ap length (decimal-one c.args.n (omega (arith, c.if-n-lt10.true))))
+
+pub returns-then-n-lt10 : goal.returns-then-n-lt10
+returns-then-n-lt10 t c = decimal-one-put c.args.out.now c.args.at c.args.n _ (omega (arith, c.if-n-lt10.true)) c.digit.ensures
+
+pub put_decimal-next-requires : goal.put_decimal-next-requires
+put_decimal-next-requires t c = (omega arith, omega (arith, decimal-length c.args.n (omega (arith, c.if-n-lt10.false))))
+
+pub bounds-out-next : goal.bounds-out-next
+bounds-out-next t c = omega (arith, decimal-length c.args.n (omega (arith, c.if-n-lt10.false)))
+
+pub overflow_add-result-2 : goal.overflow_add-result-2
+overflow_add-result-2 t c = omega (arith, decimal-length c.args.n (omega (arith, c.if-n-lt10.false)))
+
+-- UNMAPPED
+-- same-length-2 : (t : ℕ) → put-decimal-lts.Need-same-length-2 (calls t) (put-decimal-at t) put-decimal.Post
+-- same-length-2 t c = simp length-set c.before.before.before.put-decimal.auto.0
+
+pub returns : goal.returns
+returns t c = decimal-more-put c.args.n _ (omega (arith, c.if-n-lt10.false)) c.digit-2.ensures c.put_decimal-next.ensures

@@ -1,0 +1,6 @@
+-- `watches::fresh_watch` meets its contract.
+use borrow.Author.Rules.{rules}
+use Rattle.watches.proofs.fresh_watch.Goals as goal
+
+pub returns : goal.returns
+returns c = rw (c.filled_if-filled.ensures, c.is_decided.ensures)

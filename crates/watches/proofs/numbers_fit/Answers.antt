@@ -1,0 +1,6 @@
+-- `watches::numbers_fit` meets its contract.
+use borrow.Author.Rules.{rules}
+use Rattle.watches.proofs.numbers_fit.Goals as goal
+
+pub returns : goal.returns
+returns c = rw c.count_of-count.ensures
