@@ -3,7 +3,6 @@ use mathlib.Core.Path.{sym, ap₂, ◌∙◌}
 use Rattle.meaning.specs.Runs.{counts_fit}
 use Rattle.table_layout.proofs.Form.{header-counts}
 use Rattle.table_file.proofs.Checking.{checked-table, checked-rows, checked-header}
-use borrow.Author.Rules.{rules}
 use Rattle.table_file.proofs.check.Goals as goal
 
 pub rows_fit-requires : goal.rows_fit-requires

@@ -1,13 +1,10 @@
 -- `table_file::each_fits` meets its contract.
-use native.Mathlib.Omega.{arith}
-use borrow.Author.Rules.{rules}
-use mathlib.Core.Path.{sym, ◌∙◌, ap₂}
 use mathlib.Core.List.{List}
 use mathlib.Core.Bool.{Bool}
 use Prim.Native.Nat.{ℕ, ◌+◌, ◌-◌, ◌*◌, ◌≤◌}
 use lib.Dec.{eqb}
 use Rattle.meaning.specs.Bytes.{bit, u16_at}
-use Rattle.sequences.proofs.Loops.{Passed, passed_none, passed-more, passed-all, all-not}
+use Rattle.sequences.proofs.Loops.{Passed}
 use Rattle.table_file.specs.Successors.{fits_by}
 use Rattle.table_file.proofs.each_fits.Given as goal
 

@@ -9,7 +9,6 @@ use Rattle.meaning.specs.Bytes.{u16_at}
 use mathlib.Core.Bool.{true}
 use lib.Dec.{leb, eqb}
 use lib.ListN.{length}
-use borrow.Author.Rules.{rules}
 use Rattle.table_file.proofs.header_fits.Goals as goal
 
 pub returns-then-t-lt7 : goal.returns-then-t-lt7

@@ -7,7 +7,6 @@ use mathlib.Core.Bool.{true}
 use Rattle.meaning.specs.Bytes.{u16_at}
 use Rattle.meaning.specs.TableFiles.{row_at, row_tests}
 use lib.Dec.{eqb}
-use borrow.Author.Rules.{rules}
 use Rattle.table_file.proofs.row_fits.Goals as goal
 
 pub returns-then-wide16-width : goal.returns-then-wide16-width
@@ -22,7 +21,7 @@ returns-then-u16_at-ne513 c = let place : c.row_at-at.result ≡ row_at c.args.s
     (ne_eqb _ _ (λ h. c.if-u16_at-ne513.true (c.u16_at-2.ensures ∙ ap (λ (n : ℕ). u16_at c.args.t.now (n + 2)) place ∙ h))))
 
 pub returns : goal.returns
-returns c = let place : c.row_at-at.result ≡ row_at c.args.signals s = c.row_at-at.ensures.0 in
+returns c = let place : c.row_at-at.result ≡ row_at c.args.signals c.args.state = c.row_at-at.ensures.0 in
     let read = ap (u16_at c.args.t.now) (sym place) ∙ sym c.u16_at.ensures ∙ sym c.wide16.ensures.0 in
     let h₀ : eqb (u16_at c.args.t.now (row_at c.args.signals c.args.state)) (3 + 2 * 2 ^ c.args.signals) ≡ true
     = eq-eqb _ _ (read ∙ c.if-wide16-width.false ∙ ap (λ (w : ℕ). 3 + 2 * w) c.width.ensures.0) in

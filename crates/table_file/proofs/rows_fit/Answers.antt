@@ -1,11 +1,10 @@
 -- `table_file::rows_fit` meets its contract.
 use native.Mathlib.Omega.{arith}
-use borrow.Author.Rules.{rules}
 use mathlib.Core.Path.{sym, ◌∙◌}
-use Prim.Native.Nat.{ℕ, ◌-◌, ◌≤◌}
+use Prim.Native.Nat.{ℕ}
 use mathlib.Core.List.{List}
 use mathlib.Core.Bool.{Bool}
-use Rattle.sequences.proofs.Loops.{Passed, passed_none, passed-more, passed-all, all-not}
+use Rattle.sequences.proofs.Loops.{passed_none, passed-more, passed-all, all-not}
 use Rattle.meaning.specs.TableFiles.{row_tests}
 use Rattle.table_layout.proofs.Form.{counts-few, counts_some, row_inside}
 use Rattle.sequences.specs.Tabulate.{every}

@@ -1,7 +1,6 @@
 -- `table_file::successors_fit` meets its contract.
 use mathlib.Core.Path.{ap, ◌∙◌}
 use Prim.Native.Nat.{ℕ, ◌+◌, ◌*◌}
-use borrow.Author.Rules.{rules}
 use lib.Dec.{eqb, ltb}
 use Rattle.sequences.specs.Tabulate.{all_below}
 use Rattle.meaning.specs.Bytes.{bit, u16_at}

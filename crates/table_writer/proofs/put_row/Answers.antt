@@ -20,5 +20,5 @@ put_successors-requires c = (omega (arith, c.width-n.ensures.1), simp length-set
 --     at-put-successors.put-successors.auto.0 ∙ simp length-set (at-put-u162.put-u162.auto.0 ∙ at-put-u16.put-u16.auto.0)
 
 pub returns : goal.returns
-returns c = row-stored (masked (2 ^ c.args.signals) c.args.mask) c.args.out.now c.put_u16.new.0 c.put_u16-2.new.0 _ c.args.row c.args.at c.args.signals c.args.verdict c.width-n.result _ c.width-n.ensures.0 refl
+returns c = row-stored (masked (2 ^ c.args.signals) c.args.mask) c.args.out.now c.put_u16.new.out c.put_u16-2.new.out _ c.args.row c.args.at c.args.signals c.args.verdict c.width-n.result _ c.width-n.ensures.0 refl
     c.put_u16.ensures c.put_u16-2.ensures c.put_successors.ensures
