@@ -81,10 +81,11 @@ module _ (w x : ℕ → ℕ) where
   pub run-label : {fs : List Formula} {j : ℕ} {s : ℕ → Valued} (ns : List Split) → ((i : ℕ) → Known w i fs j (s i))
       → Consistent s ns → FairFrom j s ns → (i : ℕ) → LabelRight w i fs j (x i) ns
   run-label [] k c f i = tt
-  run-label (plain p ∷ ns) k c f i = run-label ns (more-plain p k) c f i
-  run-label {j = j} {s} (temporal t ∷ ns) k c f i = (
+  run-label {fs = fs} {j = j} {s = s} (plain p ∷ ns) k c f i =
+      run-label {fs = fs ++ (plain_formula fs p ∷ [])} {j = j} {s = λ n. value (w n) (x (suc n)) (s n) (plain p)} ns (more-plain p k) c f i
+  run-label {fs = fs} {j = j} {s = s} (temporal t ∷ ns) k c f i = (
     rw (← (c i)) (iff-trans (obligation-right (k i) t (on (x (suc i)) j) (head-right t ns k c f i)) (t_same _ _ (sym (label-here (k i) (w i) (x (suc i)) t ns)))),
-    run-label ns (λ n. known-temporal (k n) (x (suc n)) t (head-right t ns k c f n)) c (λ q l h. f q (omega arith) (omega arith)) i,
+    run-label {fs = fs ++ (temporal_formula fs t ∷ [])} {j = suc j} {s = λ n. value (w n) (x (suc n)) (s n) (temporal t)} ns (λ n. known-temporal (k n) (x (suc n)) t (head-right t ns k c f n)) c (λ q l h. f q (omega arith) (omega arith)) i,
   )
 
   -- the labels of a fair run are right

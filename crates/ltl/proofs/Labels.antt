@@ -63,16 +63,20 @@ module _ (w : ℕ → ℕ) (i y : ℕ) where
   pub values-right : {fs : List Formula} {j : ℕ} {s : Valued} → Known w i fs j s → (ns : List Split) → LabelRight w (suc i) fs j y ns
       → Known w i (split_formulas fs ns) (j + temporals ns) (value_all (w i) y s ns)
   values-right {j = j} k [] l = rw add-zero k
-  values-right k (plain p ∷ ns) l = values-right (plain_more k p) ns l
-  values-right {j = j} k (temporal t ∷ ns) l = rw (add-suc, ← suc-add) (values-right (temporal-more k t l.0) ns l.1)
+  values-right {fs = fs} {j = j} {s = s} k (plain p ∷ ns) l =
+      values-right {fs = fs ++ (plain_formula fs p ∷ [])} {j = j} {s = value (w i) y s (plain p)} (plain_more k p) ns l
+  values-right {fs = fs} {j = j} {s = s} k (temporal t ∷ ns) l =
+      rw (add-suc, ← suc-add)
+      (values-right {fs = fs ++ (temporal_formula fs t ∷ [])} {j = suc j} {s = value (w i) y s (temporal t)} (temporal-more k t l.0) ns l.1)
 
   pub label-right : {fs : List Formula} {j : ℕ} {s : Valued} → Known w i fs j s → (ns : List Split) → LabelRight w (suc i) fs j y ns
       → LabelRight w i fs j (value_all (w i) y s ns).label ns
   label-right k [] l = tt
-  label-right k (plain p ∷ ns) l = label-right (plain_more k p) ns l
-  label-right {j = j} {s} k (temporal t ∷ ns) l = (
+  label-right {fs = fs} {j = j} {s = s} k (plain p ∷ ns) l =
+      label-right {fs = fs ++ (plain_formula fs p ∷ [])} {j = j} {s = value (w i) y s (plain p)} (plain_more k p) ns l
+  label-right {fs = fs} {j = j} {s = s} k (temporal t ∷ ns) l = (
     iff-trans (obligation-right k t (on y j) (temporal-right k t (on y j) l.0)) (t_same _ _ (sym (label-here k (w i) y t ns))),
-    label-right (temporal-more k t l.0) ns l.1,
+    label-right {fs = fs ++ (temporal_formula fs t ∷ [])} {j = suc j} {s = value (w i) y s (temporal t)} (temporal-more k t l.0) ns l.1,
   )
 
 pub valued-temporals : (e y : ℕ) (ns : List Split) → (valued e y ns).temporals ≡ temporals ns

@@ -1,6 +1,6 @@
 -- The split nodes stand for the formulas that the rule file's nodes stand for, and no more of them are temporal than a rule file's judgement counts.
 use mathlib.Core.Path.{◌≡◌, refl, sym, ap, ◌∙◌}
-use mathlib.Core.Bool.{Bool, true, cond}
+use mathlib.Core.Bool.{Bool, true, false, cond}
 use mathlib.Core.List.{List, [], ◌∷◌, ◌++◌}
 use Prim.Native.Nat.{ℕ, ◌+◌, ◌≤◌, ◌<◌}
 use native.Mathlib.Decide.{dec_lt}
@@ -40,6 +40,7 @@ split-weight n = go (dec_lt n.kind 10)
   where
     late : (b : Bool) → T b → weight (split n) ≤ cond b 1 0
     late true t = weight-le (split n)
+    late false t = elim t [ ]
 
     go : Dec (n.kind < 10) → weight (split n) ≤ cond (RuleFiles.temporal n.kind) 1 0
     go (yes h) =

@@ -94,5 +94,5 @@ module _ {E : ℕ → ℕ → ℕ → Type 0} {c : ℕ} (round : Walk E c c) whe
   pub word : {x : ℕ} (w : Walk E x c) (i : ℕ) → event round (after round (record { label = x; rest = w }) i).rest ≡ turn (events w) (events round) i
   word (one s) zero = refl
   word (step s w) zero = refl
-  word (one s) (suc i) = word round i ∙ sym (turn-loop (events round) i)
-  word (step s w) (suc i) = word w i
+  word {x = x} (one s) (suc i) = word {x = c} round i ∙ sym (turn-loop (events round) i)
+  word {x = x} (step {y = y} s w) (suc i) = word {x = y} w i

@@ -39,7 +39,7 @@ module _ (e y : ℕ) where
 
   pub sized-all : {s : Valued} → Sized s → (ns : List Split) → Sized (value_all e y s ns)
   sized-all z [] = z
-  sized-all z (n ∷ ns) = sized-all (sized-value z n) ns
+  sized-all {s = s} z (n ∷ ns) = sized-all {s = value e y s n} (sized-value z n) ns
 
   pub count-all : (s : Valued) (ns : List Split) → (value_all e y s ns).count ≡ s.count + length ns
   count-all s [] = sym (add-zero s.count)

@@ -67,5 +67,5 @@ module _ {Σ : Alphabet} {L : Property} (S : System Σ L) where
         let t : ℕ = follow (monitor_with rows verdict) 0 w in
         let l : t < length keys = stands-in w a in
         let h : SameResidual Σ L w (C.access t) = stands_same w a in
-        let e : T (S.full (get_or keys t S.start)) ↔ AllSatisfy Σ L (C.access t) = rw (C.key t l) (S.full-is (C.access t) (C.word t l)) in
+        let e : T (S.full (get_or keys t S.start)) ↔ AllSatisfy Σ L (C.access t) = rw (C.key t l) (S.full_is (C.access t) (C.word t l)) in
         (λ x. all-carries Σ L (C.access t) w (same-sym Σ L w (C.access t) h) (e.0 x), λ x. e.1 (all-carries Σ L w (C.access t) h x))
