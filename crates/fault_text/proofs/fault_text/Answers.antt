@@ -36,7 +36,7 @@ put_marked-requires c = let small : (code_of c.args.refusal).1 < 2 ^ 64 = omega 
 pub returns-in-Written : goal.returns-in-Written
 unfolding fault_text
 returns-in-Written c = let small : (code_of c.args.refusal).1 < 2 ^ 64 = omega (arith, c.place-place.ensures, c.place-place.type_inv) in
-    let long : 4096 ≤ length out = omega (arith, c.if-out-lt4096.false) in
+    let long : 4096 ≤ length c.args.out.now = omega (arith, c.if-out-lt4096.false) in
     let line = line-put c.args.refusal c.args.out.now long c.refusal_text-line.result _ c.in-Written.n small
     c.refusal_text-line.ensures.value c.refusal_text-line.ensures.out_after c.in-Written.is in
     let below = put_is c.put_marked.ensures.put (marked c.args.text.now (code_of c.args.refusal).1) (ap (λ (k : ℕ). marked c.args.text.now k) c.place-place.ensures) in
@@ -44,6 +44,6 @@ returns-in-Written c = let small : (code_of c.args.refusal).1 < 2 ^ 64 = omega (
     let room = le-leb 4096 (length c.args.out.now) long in record { answer = rw room (ap Text.Written (h.next ∙ zero-add (length (fault_text c.args.refusal c.args.text.now)))); output = rw room (put_front h (omega (arith, line.next, line-length c.args.refusal small, c.put_marked.ensures.upper_bound))); }
 
 pub returns-in-Refused : goal.returns-in-Refused
-returns-in-Refused c =  record { answer = (absurd (line-never c.args.refusal c.args.out.now (omega (arith, c.if-out-lt4096.false)) c.refusal_text-line.result c.in-Refused.why
-    c.refusal_text-line.ensures.value c.in-Refused.is)).0; output = (absurd (line-never c.args.refusal c.args.out.now (omega (arith, c.if-out-lt4096.false)) c.refusal_text-line.result c.in-Refused.why
-    c.refusal_text-line.ensures.value c.in-Refused.is)).1; }
+returns-in-Refused c =  record { answer = absurd (line-never c.args.refusal c.args.out.now (omega (arith, c.if-out-lt4096.false)) c.refusal_text-line.result c.in-Refused.why
+    c.refusal_text-line.ensures.value c.in-Refused.is); output = absurd (line-never c.args.refusal c.args.out.now (omega (arith, c.if-out-lt4096.false)) c.refusal_text-line.result c.in-Refused.why
+    c.refusal_text-line.ensures.value c.in-Refused.is); }

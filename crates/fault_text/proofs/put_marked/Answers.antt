@@ -21,10 +21,10 @@ use Rattle.fault_text.proofs.Laws.{shown-size, shown-length, take-capped}
 use Rattle.fault_text.proofs.put_marked.Goals as goal
 
 pub slice_bounds-put_shown-end : goal.slice_bounds-put_shown-end
-slice_bounds-put_shown-end c = sym (length-take-le ?at_count.capped.result c.args.text.now (omega (arith, ?at_count.capped.ensures)))
+slice_bounds-put_shown-end c = sym (length-take-le c.capped-n.result c.args.text.now (omega (arith, c.capped-n.ensures)))
 
 pub put_shown-end-requires : goal.put_shown-end-requires
-put_shown-end-requires c = omega (arith, shown-size c.args.text.now ?at_count.capped.result ?at_count.capped.ensures)
+put_shown-end-requires c = omega (arith, shown-size c.args.text.now c.capped-n.result c.capped-n.ensures)
 
 pub put_bytes-below-requires : goal.put_bytes-below-requires
 put_bytes-below-requires c = let size = shown-length c.args.text.now c.capped-n.result c.capped-n.ensures in

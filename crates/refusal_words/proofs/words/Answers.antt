@@ -18,5 +18,5 @@ returns-then-out-lt128 c = let l = lt-leb 128 (length c.args.out.now) c.if-out-l
 pub returns : goal.returns
 returns c = let sentence = put_is c.put_words-n.ensures.put (words_for (code_of c.args.refusal).0) (ap words_for c.number.ensures) in
     let h = put-more sentence c.put_bytes-end.ensures in
-    let inside : c.put_bytes-end.result ≤ length out = omega (arith, c.put_words-n.ensures.upper_bound, c.put_bytes-end.ensures.next, c.if-out-lt128.false) in
+    let inside : c.put_bytes-end.result ≤ length c.args.out.now = omega (arith, c.put_words-n.ensures.upper_bound, c.put_bytes-end.ensures.next, c.if-out-lt128.false) in
     let room = le-leb 128 (length c.args.out.now) c.if-out-lt128.false in record { answer = rw room (ap Text.Written (h.next ∙ zero-add (length (words_of c.args.refusal)))); output = rw room (put_front h inside); }

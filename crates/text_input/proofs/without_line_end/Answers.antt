@@ -26,4 +26,4 @@ pub slice_bounds-result-end : goal.slice_bounds-result-end
 slice_bounds-result-end c = sym (length-take-le (length c.args.text.now - 1) c.args.text.now (omega arith))
 
 pub returns : goal.returns
-returns c = rw (eq-eqb (get_or c.args.text.now (length c.args.text.now - 1) 0) 10 (omega (arith, ?c.before.if2.false)))
+returns c = rw (eq-eqb (get_or c.args.text.now (length c.args.text.now - 1) 0) 10 (omega (arith, c.if-text-last-ne10.false)))
