@@ -17,7 +17,6 @@ use Rattle.text_pieces.specs.Put.{Put, at_front}
 use Rattle.text_pieces.proofs.Laws.{put-more, put_byte, put_is}
 use Rattle.text_pieces.specs.RefusalLine.{refusal_text, line_answer, line_after}
 use Rattle.text_pieces.specs.declared.Text.{Text}
-use Rattle.text_pieces.specs.declared.Text.TheVariants as Text
 use Rattle.text_pieces.proofs.Decimal.{decimal-u16, decimal-u64}
 use Rattle.meaning.specs.Refusals.{code_of}
 use Rattle.meaning.specs.declared.Refusal.{Refusal}

@@ -6,7 +6,6 @@ use Rattle.meaning.specs.declared.Refusal.TheVariants.{ShortOutput}
 use Rattle.text_pieces.specs.Put.{at_front}
 use Rattle.text_pieces.specs.RefusalLine.{refusal_text}
 use Rattle.text_pieces.specs.declared.Text.{Text}
-use Rattle.text_pieces.specs.declared.Text.TheVariants as Text
 
 -- a byte as it shows: itself from 32 to 126, `?` (63) elsewhere
 unfoldable pub shown : ℕ → ℕ

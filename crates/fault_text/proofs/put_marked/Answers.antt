@@ -1,6 +1,5 @@
 -- `fault_text::put_marked` meets its contract.
 use native.Mathlib.Omega.{arith}
-use borrow.Author.Rules.{rules}
 use mathlib.Core.Path.{sym, ap}
 use mathlib.Core.List.{List, map}
 use Prim.Native.Nat.{ℕ, min}
@@ -48,4 +47,4 @@ pub returns : goal.returns
 returns c = let size = shown-length c.args.text.now c.capped-n.result c.capped-n.ensures in
     let room = length-replicate {A = ℕ} c.capped.result 32 in
     let line = put_is c.put_shown-end.ensures (map shown (take 1024 c.args.text.now)) (ap (λ (t : List ℕ). map shown t) (take-capped 1024 c.capped-n.result c.args.text.now c.capped-n.ensures)) in
-    let spaces = put_is c.put_spaces-mark.ensures (replicate (min c.args.place 1024) 32) (ap (λ (k : ℕ). replicate k 32) c.capped.ensures) in record { put = put-more (put-more (put-more line c.put_bytes-below.ensures) spaces) c.put_bytes.ensures; upper_bound = omega (arith, c.put_shown-end.ensures.next, c.put_bytes-below.ensures.next, c.put_spaces-mark.ensures.next, c.put_bytes.ensures.next, c.capped.ensures); }
+    let spaces = put_is c.put_spaces-mark.ensures (replicate (min c.args.place 1024) 32) (ap (λ (k : ℕ). replicate k 32) c.capped.ensures) in record { put = put-more (put-more (put-more line c.put_bytes-below.ensures) spaces) c.put_bytes.ensures; upper_bound = omega (arith, c.put_shown-end.ensures.next, c.put_bytes-below.ensures.next, c.put_spaces-mark.ensures.next, c.put_bytes.ensures.next, c.capped.ensures) }

@@ -1,12 +1,7 @@
 -- `fault_text::put_shown` meets its contract.
 use native.Mathlib.Omega.{arith}
 use borrow.Author.Rules.{rules}
-use mathlib.Core.List.{map}
-use Prim.Native.Nat.{◌+◌, ◌-◌, ◌≤◌}
-use lib.ListN.{length, take}
-use Rattle.text_pieces.specs.Put.{Put}
 use Rattle.text_pieces.proofs.Laws.{put-none, put-length}
-use Rattle.fault_text.specs.Fault.{shown}
 use Rattle.fault_text.proofs.Laws.{shown-more, shown-all}
 use Rattle.fault_text.proofs.put_shown.Goals as goal
 

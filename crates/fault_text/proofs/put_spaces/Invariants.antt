@@ -1,11 +1,7 @@
 -- `fault_text::put_spaces` meets its contract.
-use native.Mathlib.Omega.{arith}
-use borrow.Author.Rules.{rules}
 use Prim.Native.Nat.{◌+◌, ◌-◌, ◌≤◌}
 use lib.ListN.{replicate}
 use Rattle.text_pieces.specs.Put.{Put}
-use Rattle.text_pieces.proofs.Laws.{put-none, put-length}
-use Rattle.fault_text.proofs.Laws.{spaces-more, spaces-all}
 use Rattle.fault_text.proofs.put_spaces.Given as goal
 
 abbrev pub invariant-loop-i : goal.invariant-loop-i
