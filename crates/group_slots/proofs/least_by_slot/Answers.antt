@@ -1,6 +1,5 @@
 -- `grouping::least_by_slot` meets its contract.
 use native.Mathlib.Omega.{arith}
-use borrow.Author.Rules.{rules}
 use mathlib.Core.Path.{◌≡◌, sym, ap, ◌∙◌}
 use Prim.Native.Nat.{ℕ}
 use Rattle.sequences.specs.Tabulate.{least_below}

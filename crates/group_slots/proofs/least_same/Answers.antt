@@ -1,10 +1,7 @@
 -- `grouping::least_same` meets its contract.
 use native.Mathlib.Omega.{arith}
-use borrow.Author.Rules.{rules}
 use mathlib.Core.Path.{sym, ◌∙◌}
-use Prim.Native.Nat.{◌-◌, ◌≤◌}
-use Rattle.sequences.proofs.Loops.{Missed, missed_more, missed-found, missed-end}
-use Rattle.moore.specs.Grouping.{same_step}
+use Rattle.sequences.proofs.Loops.{missed_more, missed-found, missed-end}
 use Rattle.group_slots.specs.Groups.{unmasked}
 use Rattle.group_slots.proofs.Comparing.{missed-before}
 use Rattle.group_slots.proofs.least_same.Goals as goal

@@ -1,11 +1,8 @@
 -- `grouping::slot_of` meets its contract.
 use native.Mathlib.Omega.{arith}
-use borrow.Author.Rules.{rules}
-use mathlib.Core.Path.{◌≡◌, ap, ◌∙◌}
-use Prim.Native.Nat.{ℕ, ◌-◌, ◌%◌, ◌≤◌, ◌<◌}
+use mathlib.Core.Path.{ap, ◌∙◌}
+use Prim.Native.Nat.{ℕ, ◌%◌}
 use lib.ListN.{get_or}
-use Rattle.moore.specs.Grouping.{entry}
-use Rattle.group_slots.specs.Slots.{mixed}
 use Rattle.group_slots.proofs.Slots.{mixed-none, mixed-more, mixed-end}
 use Rattle.group_slots.proofs.slot_of.Goals as goal
 

@@ -2,9 +2,7 @@
 use native.Mathlib.Omega.{arith}
 use mathlib.Core.Path.{refl, sym, ap, ap₂, ◌∙◌}
 use mathlib.Core.Bool.{Bool, cond, ◌&&◌}
-use Prim.Native.Nat.{◌-◌, ◌^◌, ◌≤◌}
-use borrow.Author.Rules.{rules}
-use Rattle.recorded_events.proofs.Laws.{Chosen, chosen_none, chosen_more, chosen-all, agree-bits}
+use Rattle.recorded_events.proofs.Laws.{chosen_none, chosen_more, chosen-all, agree-bits}
 use Rattle.recorded_events.proofs.choices_of.Goals as goal
 
 pub loop-e-init : goal.loop-e-init

@@ -1,6 +1,5 @@
 -- `recorded_events::seen_fits` meets its contract.
 use native.Mathlib.Omega.{arith}
-use borrow.Author.Rules.{rules}
 use Rattle.recorded_events.proofs.Laws.{wrong-known, wrong-values, low_fits}
 use Rattle.recorded_events.proofs.seen_fits.Goals as goal
 
