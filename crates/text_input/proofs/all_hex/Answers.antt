@@ -1,14 +1,13 @@
 -- `text_input::all_hex` meets its contract.
 use native.Mathlib.Omega.{arith}
-use borrow.Author.Rules.{rules}
 use borrow.Author.Tests.{le-leb, lt-leb}
 use mathlib.Core.Path.{sym}
 use mathlib.Core.List.{List}
 use mathlib.Core.Bool.{Bool}
-use Prim.Native.Nat.{ℕ, ◌-◌, ◌≤◌}
+use Prim.Native.Nat.{ℕ}
 use lib.Dec.{leb}
 use lib.ListN.{length, get_or}
-use Rattle.sequences.proofs.Loops.{Passed, passed_none, passed-more, passed-all, all-not}
+use Rattle.sequences.proofs.Loops.{passed_none, passed-more, passed-all, all-not}
 use Rattle.text_input.specs.EventDigits.{hex_value}
 use Rattle.text_input.proofs.all_hex.Goals as goal
 

@@ -1,6 +1,5 @@
 -- `text_input::hex_value` meets its contract.
 use native.Mathlib.Omega.{arith}
-use borrow.Author.Rules.{rules}
 use mathlib.Core.Path.{sym, ◌∙◌}
 use Rattle.text_input.proofs.Laws.{within-range}
 use Rattle.text_input.proofs.hex_value.Goals as goal
@@ -26,14 +25,14 @@ overflow_sub-result-then-is_within-2 c = let at = within-range 65 70 c.args.b
 
 pub returns-then-is_within-2 : goal.returns-then-is_within-2
 returns-then-is_within-2 c = rw (
-      sym c.is_digit.ensures ∙ c.if-is_digit.false,
-      sym c.is_within.ensures ∙ c.if-is_within.false,
-      sym c.is_within-2.ensures ∙ c.if-is_within-2.true,
-    )
+  sym c.is_digit.ensures ∙ c.if-is_digit.false,
+  sym c.is_within.ensures ∙ c.if-is_within.false,
+  sym c.is_within-2.ensures ∙ c.if-is_within-2.true,
+)
 
 pub returns : goal.returns
 returns c = rw (
-      sym c.is_digit.ensures ∙ c.if-is_digit.false,
-      sym c.is_within.ensures ∙ c.if-is_within.false,
-      sym c.is_within-2.ensures ∙ c.if-is_within-2.false,
-    )
+  sym c.is_digit.ensures ∙ c.if-is_digit.false,
+  sym c.is_within.ensures ∙ c.if-is_within.false,
+  sym c.is_within-2.ensures ∙ c.if-is_within-2.false,
+)

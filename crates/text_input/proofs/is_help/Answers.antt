@@ -1,5 +1,4 @@
 -- `text_input::is_help` meets its contract.
-use borrow.Author.Rules.{rules}
 use mathlib.Core.Path.{ap₂}
 use mathlib.Core.Bool.{◌||◌}
 use Rattle.text_input.proofs.is_help.Goals as goal

@@ -1,10 +1,8 @@
 -- `text_input::put_values` meets its contract.
 use native.Mathlib.Omega.{arith}
-use borrow.Author.Rules.{rules}
 use mathlib.Core.Path.{ap, ◌∙◌}
-use Prim.Native.Nat.{◌-◌, ◌≤◌}
-use lib.ListN.{length, get_or}
-use Rattle.sequences.proofs.Loops.{Filled, filled_none, filled_more, filled-all, filled-length}
+use lib.ListN.{length}
+use Rattle.sequences.proofs.Loops.{filled_none, filled_more, filled-all, filled-length}
 use Rattle.text_input.specs.EventDigits.{hex_value}
 use Rattle.text_input.proofs.Laws.{filled-rest, mapped}
 use Rattle.text_input.proofs.put_values.Goals as goal
@@ -23,10 +21,10 @@ loop-i-smaller c = omega (arith, filled-length c.loop-i.invariant.1)
 
 pub loop-i-preserved : goal.loop-i-preserved
 loop-i-preserved c = (
-      omega (arith, filled-length c.loop-i.invariant.1),
-      filled_more c.loop-i.invariant.1
-          (c.hex_value-value.ensures ∙ ap hex_value (filled-rest c.loop-i.invariant.1)) (omega (arith, filled-length c.loop-i.invariant.1)),
-    )
+  omega (arith, filled-length c.loop-i.invariant.1),
+  filled_more c.loop-i.invariant.1
+      (c.hex_value-value.ensures ∙ ap hex_value (filled-rest c.loop-i.invariant.1)) (omega (arith, filled-length c.loop-i.invariant.1)),
+)
 
 -- UNMAPPED
 -- same_length : tie.Need-same-length invariant-loop decreases-loop

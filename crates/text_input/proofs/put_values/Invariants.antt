@@ -1,12 +1,8 @@
 -- `text_input::put_values` meets its contract.
-use native.Mathlib.Omega.{arith}
-use borrow.Author.Rules.{rules}
-use mathlib.Core.Path.{ap, ◌∙◌}
 use Prim.Native.Nat.{◌-◌, ◌≤◌}
 use lib.ListN.{length, get_or}
-use Rattle.sequences.proofs.Loops.{Filled, filled_none, filled_more, filled-all, filled-length}
+use Rattle.sequences.proofs.Loops.{Filled}
 use Rattle.text_input.specs.EventDigits.{hex_value}
-use Rattle.text_input.proofs.Laws.{filled-rest, mapped}
 use Rattle.text_input.proofs.put_values.Given as goal
 
 abbrev pub invariant-loop-i : goal.invariant-loop-i

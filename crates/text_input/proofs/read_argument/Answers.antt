@@ -1,6 +1,5 @@
 -- `text_input::read_argument` meets its contract.
 use native.Mathlib.Omega.{arith}
-use borrow.Author.Rules.{rules}
 use borrow.Author.Tests.{lt-leb}
 use mathlib.Core.Path.{sym, ◌∙◌}
 use lib.ListN.{length}

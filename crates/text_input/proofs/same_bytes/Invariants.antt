@@ -1,14 +1,10 @@
 -- `text_input::same_bytes` meets its contract.
-use native.Mathlib.Omega.{arith}
-use borrow.Author.Rules.{rules}
-use borrow.Author.Tests.{eq-eqb, ne_eqb}
-use mathlib.Core.Path.{sym}
 use mathlib.Core.List.{List}
 use mathlib.Core.Bool.{Bool}
 use Prim.Native.Nat.{ℕ, ◌-◌, ◌≤◌}
 use lib.Dec.{eqb}
 use lib.ListN.{length, get_or}
-use Rattle.sequences.proofs.Loops.{Passed, passed_none, passed-more, passed-all, all-not}
+use Rattle.sequences.proofs.Loops.{Passed}
 use Rattle.text_input.proofs.same_bytes.Given as goal
 
 abbrev test : List ℕ → List ℕ → ℕ → Bool

@@ -1,6 +1,5 @@
 -- `text_input::without_line_end` meets its contract.
 use native.Mathlib.Omega.{arith}
-use borrow.Author.Rules.{rules}
 use borrow.Author.Tests.{eq-eqb, ne_eqb}
 use mathlib.Core.Path.{sym}
 use Prim.Native.Nat.{◌-◌}
