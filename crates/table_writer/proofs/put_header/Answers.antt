@@ -1,9 +1,6 @@
 -- `table_writer::put_header` meets its contract.
 use native.Mathlib.Omega.{arith}
-use mathlib.Core.Path.{◌∙◌}
-use Prim.Native.Nat.{◌-◌}
 use lib.ListN.{length-set}
-use borrow.Author.Rules.{rules}
 use Rattle.table_writer.proofs.put_header.Goals as goal
 
 pub bounds-out-1 : goal.bounds-out-1
@@ -20,10 +17,6 @@ bounds-out-4 c = simp length-set (omega arith)
 
 pub put_u16-requires : goal.put_u16-requires
 put_u16-requires c = simp length-set (omega arith)
-
--- UNMAPPED
--- same_length : tie.Need-same-length
--- same_length c = c.before.before.put-u16.auto.0 ∙ simp length-set
 
 pub returns : goal.returns
 returns c = c.put_u16.ensures

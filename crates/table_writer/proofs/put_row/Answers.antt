@@ -1,23 +1,14 @@
 -- `table_writer::put_row` meets its contract.
 use native.Mathlib.Omega.{arith}
-use mathlib.Core.Path.{refl, ◌∙◌}
-use Prim.Native.Nat.{◌-◌, ◌^◌}
+use mathlib.Core.Path.{refl}
+use Prim.Native.Nat.{◌^◌}
 use lib.ListN.{length-set}
 use Rattle.meaning.specs.Traces.{masked}
 use Rattle.table_writer.proofs.Laws.{row-stored}
-use borrow.Author.Rules.{rules}
 use Rattle.table_writer.proofs.put_row.Goals as goal
 
 pub put_successors-requires : goal.put_successors-requires
 put_successors-requires c = (omega (arith, c.width-n.ensures.1), simp length-set (omega (arith, c.put_u16-2.auto.out, c.put_u16.auto.out, c.width-n.ensures.0)))
-
--- UNMAPPED
--- same_length : tie.Need-same-length
--- same_length c =
---     let at-put-successors = c.before.before in
---     let at-put-u162 = at-put-successors.before.before.before.before in
---     let at-put-u16 = at-put-u162.before.before.before.before in
---     at-put-successors.put-successors.auto.0 ∙ simp length-set (at-put-u162.put-u162.auto.0 ∙ at-put-u16.put-u16.auto.0)
 
 pub returns : goal.returns
 returns c = row-stored (masked (2 ^ c.args.signals) c.args.mask) c.args.out.now c.put_u16.new.out c.put_u16-2.new.out _ c.args.row c.args.at c.args.signals c.args.verdict c.width-n.result _ c.width-n.ensures.0 refl

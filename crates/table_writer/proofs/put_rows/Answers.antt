@@ -1,11 +1,10 @@
 -- `table_writer::put_rows` meets its contract.
 use native.Mathlib.Omega.{arith}
-use borrow.Author.Rules.{rules}
 use mathlib.Core.Path.{◌≡◌, refl, ◌∙◌, ap}
-use Prim.Native.Nat.{ℕ, ◌-◌, ◌^◌, ◌≤◌}
+use Prim.Native.Nat.{ℕ, ◌^◌}
 use mathlib.Core.List.{List, []}
-use lib.ListN.{length, get_or}
-use Rattle.sequences.proofs.Stores.{Stored, stored-none, stored-length}
+use lib.ListN.{get_or}
+use Rattle.sequences.proofs.Stores.{stored-none, stored-length}
 use Rattle.meaning.specs.Traces.{masked}
 use Rattle.table_writer.proofs.Laws.{rows_more, row_within}
 use Rattle.table_bytes.specs.Written.{row_bytes, rows_bytes}
@@ -30,10 +29,6 @@ loop-s-preserved c = let w : c.wide16-i.result ≡ c.loop-s.s = c.wide16-i.ensur
     let stored = c.put_row.ensures ∙ ap (λ (n : ℕ). sets c.loop-s.out c.row_at.result (bytes n)) w in
     let h = rows_more (masked (2 ^ c.args.signals) c.args.mask) c.args.signals c.args.verdicts.now c.args.rows.now c.loop-s.s _ c.row_at.result c.loop-s.invariant.2 c.row_at.ensures.0 stored in
     (omega arith, stored-length h ∙ refl, h)
-
--- UNMAPPED
--- same_length : tie.Need-same-length invariant-loop decreases-loop
--- same_length c = c.before.loop.invariant.1
 
 pub returns : goal.returns
 returns c = let z : c.loop-s.s ≡ c.args.states = omega arith in

@@ -1,15 +1,10 @@
 -- `table_writer::put_rows` meets its contract.
-use native.Mathlib.Omega.{arith}
-use borrow.Author.Rules.{rules}
-use mathlib.Core.Path.{◌≡◌, refl, ◌∙◌, ap}
-use Prim.Native.Nat.{ℕ, ◌-◌, ◌^◌, ◌≤◌}
-use mathlib.Core.List.{List, []}
-use lib.ListN.{length, get_or}
-use Rattle.sequences.proofs.Stores.{Stored, stored-none, stored-length}
+use mathlib.Core.Path.{◌≡◌}
+use Prim.Native.Nat.{◌-◌, ◌^◌, ◌≤◌}
+use lib.ListN.{length}
+use Rattle.sequences.proofs.Stores.{Stored}
 use Rattle.meaning.specs.Traces.{masked}
-use Rattle.table_writer.proofs.Laws.{rows_more, row_within}
-use Rattle.table_bytes.specs.Written.{row_bytes, rows_bytes}
-use lib.Seq.{sets}
+use Rattle.table_bytes.specs.Written.{rows_bytes}
 use Rattle.table_writer.proofs.put_rows.Given as goal
 
 abbrev pub invariant-loop-s : goal.invariant-loop-s

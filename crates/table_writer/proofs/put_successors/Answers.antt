@@ -1,11 +1,9 @@
 -- `table_writer::put_successors` meets its contract.
 use native.Mathlib.Omega.{arith}
-use borrow.Author.Rules.{rules}
 use mathlib.Core.Path.{◌≡◌, refl, ◌∙◌, ap}
-use Prim.Native.Nat.{ℕ, ◌-◌, ◌≤◌}
+use Prim.Native.Nat.{ℕ}
 use mathlib.Core.List.{List}
-use lib.ListN.{length}
-use Rattle.sequences.proofs.Stores.{Stored, stored-none, stored-length}
+use Rattle.sequences.proofs.Stores.{stored-none, stored-length}
 use Rattle.meaning.specs.Traces.{masked}
 use Rattle.table_writer.proofs.Laws.{successors-more}
 use Rattle.table_bytes.specs.Written.{successor_bytes}
@@ -19,14 +17,10 @@ pub put_u16-requires : goal.put_u16-requires
 put_u16-requires c = omega (arith, c.loop-e.invariant.1)
 
 pub loop-e-preserved : goal.loop-e-preserved
-loop-e-preserved c = let h = successors-more (masked c.args.events c.args.mask) c.args.t5 c.loop-e.e _ _ c.loop-e.invariant.2 c.written_successor-to.ensures c.put_u16.ensures in
+loop-e-preserved c = let h = successors-more (masked c.args.events c.args.mask) c.args.row c.loop-e.e _ _ c.loop-e.invariant.2 c.written_successor-to.ensures c.put_u16.ensures in
     (omega arith, stored-length h, h)
-
--- UNMAPPED
--- same_length : tie.Need-same-length invariant-loop decreases-loop
--- same_length c = c.before.loop.invariant.1
 
 pub returns : goal.returns
 returns c = let z : c.loop-e.e ≡ c.args.events = omega arith in
-    let bytes : ℕ → List ℕ = λ n. successor_bytes (masked c.args.events c.args.mask) n c.args.t5 in
+    let bytes : ℕ → List ℕ = λ n. successor_bytes (masked c.args.events c.args.mask) n c.args.row in
     c.loop-e.invariant.2.is ∙ ap (λ (n : ℕ). sets c.args.out.now c.args.at (bytes n)) z

@@ -1,15 +1,10 @@
 -- `table_writer::put_successors` meets its contract.
-use native.Mathlib.Omega.{arith}
-use borrow.Author.Rules.{rules}
-use mathlib.Core.Path.{◌≡◌, refl, ◌∙◌, ap}
-use Prim.Native.Nat.{ℕ, ◌-◌, ◌≤◌}
-use mathlib.Core.List.{List}
+use mathlib.Core.Path.{◌≡◌}
+use Prim.Native.Nat.{◌-◌, ◌≤◌}
 use lib.ListN.{length}
-use Rattle.sequences.proofs.Stores.{Stored, stored-none, stored-length}
+use Rattle.sequences.proofs.Stores.{Stored}
 use Rattle.meaning.specs.Traces.{masked}
-use Rattle.table_writer.proofs.Laws.{successors-more}
 use Rattle.table_bytes.specs.Written.{successor_bytes}
-use lib.Seq.{sets}
 use Rattle.table_writer.proofs.put_successors.Given as goal
 
 abbrev pub invariant-loop-e : goal.invariant-loop-e

@@ -3,7 +3,6 @@ use mathlib.Core.Path.{◌≡◌, sym, ◌∙◌}
 use mathlib.Core.Bool.{true, false}
 use lib.Dec.{eqb}
 use Rattle.meaning.specs.Bytes.{bit}
-use borrow.Author.Rules.{rules}
 use Rattle.table_writer.proofs.written_successor.Goals as goal
 
 pub returns-then-mask_has : goal.returns-then-mask_has
