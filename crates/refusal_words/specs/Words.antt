@@ -6,7 +6,6 @@ use Rattle.meaning.specs.declared.Refusal.{Refusal}
 use Rattle.meaning.specs.declared.Refusal.TheVariants.{ShortOutput}
 use Rattle.text_pieces.specs.Put.{at_front}
 use Rattle.text_pieces.specs.declared.Text.{Text}
-use Rattle.text_pieces.specs.declared.Text.TheVariants as Text
 
 -- the words of the refusal with each number, from 0; there is none with 0
 unfoldable pub sentences : List (List ℕ)
