@@ -1,12 +1,7 @@
 -- `state_sets::advance` meets its contract. The loop's invariant: the successors of the members passed are in the set, no others are, and each is in the table.
-use mathlib.Core.Path.{◌≡◌, ap, subst}
-use mathlib.Core.Bool.{Bool, true, false, cond}
-use Prim.Native.Nat.{ℕ, ◌-◌, ◌≤◌}
-use native.Mathlib.Omega.{arith}
-use borrow.Author.Rules.{rules}
-use lib.ListN.{get_or}
-use Rattle.state_sets.specs.Sets.{Spread, Moved}
-use Rattle.state_sets.proofs.Laws.{moved_none, moved_more, moved_out, moved_to}
+use mathlib.Core.Bool.{true}
+use Prim.Native.Nat.{◌-◌, ◌≤◌}
+use Rattle.state_sets.specs.Sets.{Moved}
 use Rattle.state_sets.proofs.advance.Given as goal
 
 abbrev pub invariant-loop-s : goal.invariant-loop-s

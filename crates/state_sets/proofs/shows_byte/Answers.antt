@@ -1,7 +1,6 @@
 -- `state_sets::shows_byte` meets its contract.
 use mathlib.Core.Path.{ap, ◌∙◌}
 use Prim.Native.Nat.{ℕ, ◌+◌}
-use borrow.Author.Rules.{rules}
 use lib.Dec.{eqb}
 use lib.ListN.{get_or}
 use Rattle.state_sets.proofs.shows_byte.Goals as goal
