@@ -41,7 +41,7 @@ examples =
     ∷ fits "s0 | s1 ^ s2 & s0 U s1" (bin 15 s0 (bin 14 s1 (bin 13 s2 (bin 12 s0 s1))))
     ∷ fits "s0 U s1 & s2 ^ s0 | s1" (bin 15 (bin 14 (bin 13 (bin 12 s0 s1) s2) s0) s1)
     ∷ fits "s0 -> s1 <-> s2 -> s0" (bin 17 (bin 16 s0 s1) (bin 16 s2 s0))
-    ∷ fits "true_us0" (bin 12 (leaf 4) s0)
+    ∷ fits "trueUs0" (bin 12 (leaf 4) s0)
     ∷ fits "  ( ( false ) )  " (leaf 5)
     ∷ fails "" 0
     ∷ fails "   " 3

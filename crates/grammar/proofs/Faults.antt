@@ -1,14 +1,14 @@
 -- Where the machine is lost is the place of the fault: up to there some further text makes the text fit, and with the byte there none does.
-use mathlib.Core.Path.{◌≡◌, refl, sym, ap, ◌∙◌, subst}
+use mathlib.Core.Path.{◌≡◌, refl, ap, ◌∙◌, subst}
 use mathlib.Core.Logic.{◌⊎◌, inl, inr, ⊎_elim}
-use mathlib.Core.Bool.{Bool, true, false}
+use mathlib.Core.Bool.{false}
 use mathlib.Core.List.{List, [], ◌∷◌, ◌++◌, append_assoc}
-use Prim.Native.Nat.{ℕ, zero, suc, ◌+◌, ◌≤◌, ◌<◌}
+use Prim.Native.Nat.{ℕ, zero, suc, ◌≤◌, ◌<◌}
 use native.Mathlib.Omega.{arith}
 use lib.ListN.{length, take}
 use borrow.Author.Tests.{eq-eqb}
 use Rattle.meaning.specs.Grammar.{Fits, Viable, FaultAt}
-use Rattle.grammar.specs.Machine.{State, operand, operator, digit, within, dead, Move, Row, lost, look, closed, resume, rows, step, run, is_dead, passed}
+use Rattle.grammar.specs.Machine.{State, operand, operator, digit, within, dead, Move, closed, resume, rows, step, run, is_dead, passed}
 use Rattle.grammar.proofs.Fitting.{Each, look-each, passes, fitting}
 
 -- a state from which some text ends well, and one such text

@@ -1,16 +1,13 @@
 -- The machine ends where an operator may stand outside all brackets exactly on the texts that fit, and sees their signs; so a text has one tree at most.
 use mathlib.Core.Path.{◌≡◌, refl, sym, ap, ◌∙◌, subst}
-use mathlib.Core.Logic.{◌⊎◌, inl, inr, ⊎_elim}
-use mathlib.Core.Bool.{Bool, true, false}
-use mathlib.Core.List.{List, [], ◌∷◌, ◌++◌, append_assoc, append-nil}
+use mathlib.Core.List.{List, [], ◌∷◌, ◌++◌}
 use Prim.Native.Nat.{ℕ, zero, suc, ◌+◌, ◌-◌, ◌≤◌, ◌<◌}
 use native.Mathlib.Decide.{ℕ_discrete}
 use native.Mathlib.Omega.{arith}
-use lib.ListN.{length, take, get_or}
 use borrow.Author.Tests.{eq-eqb, ne_eqb}
-use Rattle.meaning.specs.Grammar.{Tree, Parses, spelling, Spells, ended, space, sign, Fits, Viable, FaultAt}
+use Rattle.meaning.specs.Grammar.{Tree, Parses, spelling, Spells, ended, space, sign, Fits}
 use Rattle.grammar.specs.Descent.{Level}
-use Rattle.grammar.specs.Machine.{State, operand, operator, digit, within, dead, Move, Row, row, lost, look, closed, resume, rows, step, run, seen, is_dead, passed}
+use Rattle.grammar.specs.Machine.{State, operand, operator, digit, within, dead, Move, Row, lost, look, closed, rows, step, run, seen}
 use Rattle.grammar.proofs.Follow.{Open, leaf-on, prefix-on, open-on, Shut, done, close-on, sign-on}
 use Rattle.grammar.proofs.Parsing.{reading, follows, unique, complete, level-same}
 

@@ -190,6 +190,7 @@ length-of e = ap (λ (l : List ℕ). length l) e
 mutual
   sound : (k n d : ℕ) (ts : List ℕ) → n ≤ 6 → 16 * length ts + 2 * n + 2 ≤ k → Open d ts → Sound n d ts
   sound zero n d ts b h o = absurd (omega arith)
+  sound (suc k) zero d [] b h o = elim o [ ]
   sound (suc k) zero d (x ∷ ts) b h (leaf-on l s) = sound-leaf l s
   sound (suc k) zero d (x ∷ ts) b h (prefix-on l u o) = sound-prefix l u (sound k 0 d ts (omega arith) (omega arith) o)
   sound (suc k) zero d (x ∷ ts) b h (open-on e o) = sound-round e (sound k 6 (suc d) ts (omega arith) (omega arith) o)

@@ -14,9 +14,5 @@ bounds-out-at c = omega (arith, put-length c.loop-i.invariant.1)
 pub loop-i-preserved : goal.loop-i-preserved
 loop-i-preserved c = (search rules, shown-more c.args.out.now c.args.text.now _ c.args.at c.loop-i.i _ c.loop-i-test.true c.printable.ensures c.loop-i.invariant.1)
 
--- UNMAPPED
--- same_length : tie.Need-same-length invariant-loop decreases-loop
--- same_length c = put-length c.before.loop.invariant.1
-
 pub returns : goal.returns
 returns c = shown-all c.args.out.now c.args.text.now _ c.args.at c.loop-i.i _ (omega arith) c.loop-i.invariant.1

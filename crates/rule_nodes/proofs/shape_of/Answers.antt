@@ -2,6 +2,7 @@
 use mathlib.Core.Path.{sym, ap, ◌∙◌}
 use Rattle.rule_nodes.specs.Shapes.{shape_of}
 use Rattle.rule_nodes.proofs.Shapes.{shape-constant, shape-binary, shape-last}
+use native.Mathlib.Omega.{arith}
 use borrow.Author.Rules.{rules}
 use Rattle.rule_nodes.proofs.shape_of.Goals as goal
 
@@ -21,10 +22,10 @@ pub returns-in-11 : goal.returns-in-11
 returns-in-11 c = c.new-in-11.ensures ∙ sym (ap shape_of c.in-11.is)
 
 pub returns-in-0-to-1 : goal.returns-in-0-to-1
-returns-in-0-to-1 c = c.new-in-0-to-1.ensures ∙ shape-constant c.args.kind c.in-0-to-1.if-kind-lt2-own.true
+returns-in-0-to-1 c = c.new-in-0-to-1.ensures ∙ shape-constant c.args.kind (omega arith)
 
 pub returns-in-5-to-9 : goal.returns-in-5-to-9
-returns-in-5-to-9 c = c.new-in-5-to-9.ensures ∙ shape-binary c.args.kind c.if-kind-lt2.false c.in-5-to-9.if-kind-lt10-own.true c.in_default-1.rest.0.0.0.0.1 c.in_default-1.rest.0.0.0.1 c.in_default-1.rest.0.0.1
+returns-in-5-to-9 c = c.new-in-5-to-9.ensures ∙ shape-binary c.args.kind (omega arith) (omega arith) (omega arith) (omega arith) (omega arith)
 
 pub returns-in_default : goal.returns-in_default
-returns-in_default c = c.new-in_default.ensures ∙ shape-last c.args.kind c.in_default.if-kind-lt10-own.false c.requires c.in_default-1.rest.0.1 c.in_default-1.rest.1
+returns-in_default c = c.new-in_default.ensures ∙ shape-last c.args.kind (omega arith) c.requires (omega arith) (omega arith)

@@ -26,9 +26,5 @@ loop-i-preserved c = (
       (c.hex_value-value.ensures ∙ ap hex_value (filled-rest c.loop-i.invariant.1)) (omega (arith, filled-length c.loop-i.invariant.1)),
 )
 
--- UNMAPPED
--- same_length : tie.Need-same-length invariant-loop decreases-loop
--- same_length c = filled-length c.before.loop.invariant.1
-
 pub returns : goal.returns
 returns c = filled-all (length c.args.bytes.now) c.loop-i.invariant.1 (omega (arith, filled-length c.loop-i.invariant.1)) (omega arith) ∙ mapped hex_value c.args.bytes.now
