@@ -1,5 +1,4 @@
 -- `rule_nodes::eighth` meets its contract. Only a temporal node is counted.
-use borrow.Author.Rules.{rules}
 use Rattle.rule_nodes.proofs.eighth.Goals as goal
 
 pub returns-then-temporal : goal.returns-then-temporal

@@ -1,7 +1,6 @@
 -- `rule_nodes::length_fits` meets its contract. The kind's own length, or an "at least" with its upper count.
 use native.Mathlib.Omega.{arith}
 use Rattle.rule_nodes.proofs.Fits.{length-own, length-other, length-wide}
-use borrow.Author.Rules.{rules}
 use Rattle.rule_nodes.proofs.length_fits.Goals as goal
 
 pub returns-then-wide16-wide : goal.returns-then-wide16-wide

@@ -2,7 +2,6 @@
 use native.Mathlib.Omega.{arith}
 use borrow.Author.Tests.{le-leb, lt-leb}
 use Rattle.meaning.specs.RuleFiles.{body_length}
-use borrow.Author.Rules.{rules}
 use Rattle.rule_nodes.proofs.node_at.Goals as goal
 
 pub returns-then-body-lt1 : goal.returns-then-body-lt1

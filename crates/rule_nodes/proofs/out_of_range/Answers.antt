@@ -1,7 +1,6 @@
 -- `rule_nodes::out_of_range` meets its contract. By the kind: a signal, a mask and two counts, or neither.
 use native.Mathlib.Omega.{arith}
 use Rattle.rule_nodes.proofs.Fits.{ranges-signal, ranges-other, ranges-mask, ranges-count, ranges-upper}
-use borrow.Author.Rules.{rules}
 use Rattle.rule_nodes.proofs.out_of_range.Goals as goal
 
 pub returns-then-kind-eq2 : goal.returns-then-kind-eq2

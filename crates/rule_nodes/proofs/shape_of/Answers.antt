@@ -3,7 +3,6 @@ use mathlib.Core.Path.{sym, ap, ◌∙◌}
 use Rattle.rule_nodes.specs.Shapes.{shape_of}
 use Rattle.rule_nodes.proofs.Shapes.{shape-constant, shape-binary, shape-last}
 use native.Mathlib.Omega.{arith}
-use borrow.Author.Rules.{rules}
 use Rattle.rule_nodes.proofs.shape_of.Goals as goal
 
 pub returns-in-2 : goal.returns-in-2

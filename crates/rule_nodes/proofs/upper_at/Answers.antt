@@ -1,7 +1,6 @@
 -- `rule_nodes::upper_at` meets its contract. Of an "at least" the third byte, or 4.
 use native.Mathlib.Omega.{arith}
 use borrow.Author.Tests.{eq-eqb, ne_eqb}
-use borrow.Author.Rules.{rules}
 use Rattle.rule_nodes.proofs.upper_at.Goals as goal
 
 pub returns-then-kind-ne3 : goal.returns-then-kind-ne3
