@@ -28,7 +28,7 @@ use Rattle.meaning.specs.declared.Served.TheVariants as Served
 use Rattle.table_layout.proofs.Form.{test-event}
 use Rattle.building.proofs.Running.{word-run}
 use Rattle.rounds.proofs.Rounds.{after-in}
-use Rattle.desk_histories.proofs.Rows.{Good, oldest-event, row_fits, none-foreign, none-wrong}
+use Rattle.desk_histories.proofs.Rows.{Good, oldest-event, row-fits, none-foreign, none-wrong}
 
 module _ (o : Opening) where
   abbrev pub Σ : Alphabet
@@ -101,7 +101,7 @@ module _ (o : Opening) where
         ∷ [])
         (done j e)
     unfolding post_by post_of
-    post-checked j e = rw (form, row_fits o.number Σ S n d g some few, none-foreign o.number Σ S n d g, none-wrong o.number Σ S n d g, le-ltb (length d) (length d) (omega arith))
+    post-checked j e = rw (form, row-fits o.number Σ S n d g some few, none-foreign o.number Σ S n d g, none-wrong o.number Σ S n d g, le-ltb (length d) (length d) (omega arith))
 
     pub posted : (j e : ℕ) → Added n d j e ⊎ Denied n d j e
     posted j e = go (leb (length d) j) (is_event Σ e) (leb 32 (watch_at d j).waiting) (eqb (counted (watch_at d j)) 4294967295) refl refl refl refl
@@ -129,7 +129,7 @@ module _ (o : Opening) where
       turn-checked : turn_of o d l
           ≡ cond (ltb (passed d l) (length d)) (heard_by o.number d at (run_of o.table (watch_at d at).state (oldest (watch_at d at) ∷ []))) (record { answer = Served.NoneWaits l; desk = d })
       unfolding turn_by turn_of
-      turn-checked = rw (form, row_fits o.number Σ S n d g some few, none-foreign o.number Σ S n d g, none-wrong o.number Σ S n d g, le-ltb (length d) (length d) (omega arith))
+      turn-checked = rw (form, row-fits o.number Σ S n d g some few, none-foreign o.number Σ S n d g, none-wrong o.number Σ S n d g, le-ltb (length d) (length d) (omega arith))
 
       least : Least (length d) (λ k. leb 1 (watch_at d (after (length d) l k)).waiting) (passed d l)
       least = least-below (length d) (λ k. leb 1 (watch_at d (after (length d) l k)).waiting)

@@ -4,7 +4,7 @@
 --     queue-more, queue-less     what waits then
 --     Good                       a row of n such watches
 --     good-fresh, good-set       a fresh row, and one with a watch replaced
---     row_fits, none-foreign, none-wrong       the tests of a desk pass
+--     row-fits, none-foreign, none-wrong       the tests of a desk pass
 use mathlib.Core.Path.{◌≡◌, refl, sym, ap, ◌∙◌, subst}
 use mathlib.Core.List.{List, [], ◌∷◌, ◌++◌, map}
 use mathlib.Core.Bool.{true, not}
@@ -113,8 +113,8 @@ module _ (k : ℕ) (Σ : Alphabet) (S : ℕ) where
         go j m (yes q) = subst (λ (m : ℕ). Fits (watch_at (set d i w) m)) (sym q) (subst Fits (sym (get_or-set_same d i w no_watch (omega (arith, g.size)))) f)
         go j m (no q) = subst Fits (sym (get_or-set_other d i j w no_watch q)) (g.fits j m)
 
-    pub row_fits : 1 ≤ n → n ≤ 64 → row_fits d ≡ true
-    row_fits h l = rw (g.size, le-leb 1 n h, le-leb n 64 l)
+    pub row-fits : 1 ≤ n → n ≤ 64 → row_fits d ≡ true
+    row-fits h l = rw (g.size, le-leb 1 n h, le-leb n 64 l)
 
     pub none-foreign : first_foreign k d ≡ length d
     none-foreign =

@@ -49,6 +49,7 @@ on-true false e = absurd (omega arith)
 
 true-on : (b : Bool) → T b → bit 0 (cond b 1 0) ≡ 1
 true-on true t = refl
+true-on false t = elim t [ ]
 
 pub double-negation-needed :
     (AllSatisfy (alphabet_of either) (property_of either) []

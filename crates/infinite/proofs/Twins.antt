@@ -1,5 +1,5 @@
 -- Every infinite continuation has a twin among the lassos, one that satisfies the nodes of a rule after the same lists.
-use mathlib.Core.Path.{◌≡◌, refl, subst}
+use mathlib.Core.Path.{◌≡◌, refl, subst, sym}
 use mathlib.Core.Logic.{◌↔◌}
 use mathlib.Core.List.{List, [], ◌∷◌, ◌++◌}
 use Prim.Native.Nat.{ℕ, suc, ◌+◌, ◌^◌}
@@ -53,7 +53,9 @@ module _ (ns : List Split) {u v : ℕ → ℕ} (j : Joint ns u v) where
     label = here;
     event = e;
     left = right-shift a [] 0 here ns (right-back u ns 0 j.label j.left);
-    right = right-shift b [] 0 here ns (rw (here, j.event) (right-back v ns 0 j.label j.right));
+    right =
+    right-shift b [] 0 here ns
+    (subst (λ (x : ℕ). LabelRight v 0 [] 0 (valued x j.label ns).label ns) (sym j.event) (right-back v ns 0 j.label j.right));
   }
 
   joint-same : (a : ℕ) → Sat u (operand (split_formulas [] ns) a) 0 ↔ Sat v (operand (split_formulas [] ns) a) 0
