@@ -4,9 +4,11 @@
 
 ghost use Rattle.std.specs.Prelude.{◌≡◌, length};
 
-use console::{front, room};
-use libc::{STDERR_FILENO, STDIN_FILENO, STDOUT_FILENO};
+use console::{arg_count, front, read_full, room, say, say_failure};
 use meaning::{Built, Refusal};
+use std::env::Env;
+use std::io;
+use std::io::Write;
 use text_input::{Request, read_argument};
 use text_pieces::{Text, refusal_text};
 
@@ -18,72 +20,68 @@ fn input() -> [u8; 4096]
 }
 
 // Only writes: how the program is used.
-fn usage(fd: i32) {
-    io::write_all(fd, b"usage: build_table <RULE >TABLE\n");
-    io::write_all(
-        fd,
+fn usage<W: Write>(out: &mut W) -> io::Result<()> {
+    say(out, b"usage: build_table <RULE >TABLE\n")?;
+    say(
+        out,
         b"Builds the smallest table of a rule file. A refusal goes to standard error.\n",
-    );
-    io::write_all(
-        fd,
+    )?;
+    say(
+        out,
         b"Example: echo 'G (s0 -> X (!s0 U s1))' | write_rule 2 | build_table | run_table 101\n",
-    );
+    )
 }
 
 // Only writes: the refusal's line, on standard error.
-fn say_refused(why: Refusal) {
+fn say_refused(rt: &HostRuntime, why: Refusal) -> io::Result<()> {
     let mut line = [0u8; 64];
     let said = refusal_text(why, &mut line);
     if let Text::Written(n) = said {
-        io::write_all(STDERR_FILENO, front(&line, n));
+        say(&mut rt.stderr(), front(&line, n))?;
     }
+    Ok(())
 }
 
 // Only writes: the table on standard output, or the refusal.
-fn answer(rule: &[u8]) {
+fn answer(rt: &HostRuntime, rule: &[u8]) -> io::Result<()> {
     let mut table = room();
     let built = monitor::build(rule, &mut table);
     match built {
-        Built::Refused(why) => say_refused(why),
-        Built::Table(n) => {
-            if !io::write_all(STDOUT_FILENO, front(&table, n)) {
-                os::fail(b"build_table: standard output");
-            }
-        }
+        Built::Refused(why) => say_refused(rt, why),
+        Built::Table(n) => match say(&mut rt.stdout(), front(&table, n)) {
+            Ok(()) => Ok(()),
+            Err(why) => say_failure(rt, "build_table: standard output", why),
+        },
     }
 }
 
-// Reads the rule file and answers. A program starts with errno 0, so any other value is that of a read that failed.
-fn read_and_answer() {
+// Reads the rule file and answers. A failed read is said on standard error, and nothing is answered.
+fn read_and_answer(rt: &HostRuntime) -> io::Result<()> {
     let mut rule = input();
-    let n = io::read_full(STDIN_FILENO, &mut rule);
-    if os::errno() != 0 {
-        os::fail(b"build_table: standard input");
-        return;
+    match read_full(&mut rt.stdin(), &mut rule) {
+        Ok(n) => answer(rt, front(&rule, n)),
+        Err(why) => say_failure(rt, "build_table: standard input", why),
     }
-    answer(front(&rule, n));
 }
 
 // The usage: on standard output where the one argument asks for it, and otherwise on standard error.
-fn say_usage() {
-    if os::arg_count() != 2 {
-        usage(STDERR_FILENO);
-        return;
+fn say_usage(rt: &HostRuntime) -> io::Result<()> {
+    if arg_count(rt) != 2 {
+        return usage(&mut rt.stderr());
     }
     let mut word = [0u8; 8];
-    let n = os::arg(1, &mut word);
+    let n = rt.arg(1, &mut word).unwrap_or(0);
     let request = read_argument(front(&word, n));
     match request {
-        Request::Help => usage(STDOUT_FILENO),
-        Request::Signals(_) => usage(STDERR_FILENO),
-        Request::Unknown => usage(STDERR_FILENO),
+        Request::Help => usage(&mut rt.stdout()),
+        Request::Signals(_) => usage(&mut rt.stderr()),
+        Request::Unknown => usage(&mut rt.stderr()),
     }
 }
 
-fn main() {
-    if os::arg_count() == 1 {
-        read_and_answer();
-        return;
+fn main(rt: HostRuntime) -> io::Result<()> {
+    if arg_count(&rt) == 1 {
+        return read_and_answer(&rt);
     }
-    say_usage();
+    say_usage(&rt)
 }

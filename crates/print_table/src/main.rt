@@ -3,7 +3,8 @@
 
 ghost use Rattle.std.specs.Prelude.{◌≡◌, length};
 
-use console::front;
+use console::{front, read_full, say};
+use std::io;
 use text_pieces::Text;
 
 // What is taken: the first 4,096 bytes of standard input, or all if there are fewer.
@@ -20,12 +21,13 @@ fn page() -> [u8; 32768]
     [0; 32768]
 }
 
-fn main() {
+fn main(rt: HostRuntime) -> io::Result<()> {
     let mut rule = input();
-    let n = io::read_full(0, &mut rule);
+    let n = read_full(&mut rt.stdin(), &mut rule)?;
     let mut text = page();
     let written = table_printer::print_rule(front(&rule, n), &mut text);
     if let Text::Written(length) = written {
-        io::write_all(1, front(&text, length));
+        say(&mut rt.stdout(), front(&text, length))?;
     }
+    Ok(())
 }

@@ -1,93 +1,102 @@
 // Reads rule files from standard input, each after its length in two bytes, and prints a line for each: the rule, its mask after its signals, or its refusal.
 #![tactic(auto)]
 
-use libc::{STDIN_FILENO, STDOUT_FILENO};
+use console::{read_full, say, say_number};
 use meaning::{Node, Refusal};
 use rule_file::{Outcome, Read};
+use std::io;
 use wire::{u16_at, wide, wide16};
 
-fn print_number(n: u8) {
-    io::print_decimal(STDOUT_FILENO, n as u64);
+fn print_number<W: io::Write>(out: &mut W, n: u8) -> io::Result<()> {
+    say_number(out, wide(n))
 }
 
-fn print_node(node: Node) {
-    io::write_all(STDOUT_FILENO, b" ");
-    print_number(node.kind);
-    io::write_all(STDOUT_FILENO, b".");
-    print_number(node.a);
-    io::write_all(STDOUT_FILENO, b".");
-    print_number(node.b);
-    io::write_all(STDOUT_FILENO, b".");
-    print_number(node.upper);
+fn print_node<W: io::Write>(out: &mut W, node: Node) -> io::Result<()> {
+    say(out, b" ")?;
+    print_number(out, node.kind)?;
+    say(out, b".")?;
+    print_number(out, node.a)?;
+    say(out, b".")?;
+    print_number(out, node.b)?;
+    say(out, b".")?;
+    print_number(out, node.upper)
 }
 
-fn print_nodes(nodes: [Node; 64], count: usize) {
+fn print_nodes<W: io::Write>(out: &mut W, nodes: [Node; 64], count: usize) -> io::Result<()> {
     let mut i: usize = 0;
     while i < 64 {
         if count <= i {
-            return;
+            return Ok(());
         }
-        print_node(nodes[i]);
+        print_node(out, nodes[i])?;
         i += 1;
     }
+    Ok(())
 }
 
-fn print_rule(read: Read) {
-    io::write_all(STDOUT_FILENO, b"rule ");
-    print_number(read.signals);
-    io::write_all(STDOUT_FILENO, b" ");
-    io::print_decimal(STDOUT_FILENO, read.mask as u64);
-    io::write_all(STDOUT_FILENO, b" ");
-    print_number(read.count);
-    io::write_all(STDOUT_FILENO, b":");
+fn print_rule<W: io::Write>(out: &mut W, read: Read) -> io::Result<()> {
+    say(out, b"rule ")?;
+    print_number(out, read.signals)?;
+    say(out, b" ")?;
+    say_number(out, wide16(read.mask))?;
+    say(out, b" ")?;
+    print_number(out, read.count)?;
+    say(out, b":")?;
     let nodes = read.nodes;
-    print_nodes(nodes, wide(read.count));
-    io::write_all(STDOUT_FILENO, b"\n");
+    print_nodes(out, nodes, wide(read.count))?;
+    say(out, b"\n")
 }
 
-fn print_refusal(refusal: Refusal) {
-    io::write_all(STDOUT_FILENO, b"refused ");
-    print_number(refusal.number());
-    io::write_all(STDOUT_FILENO, b" at ");
-    io::print_decimal(STDOUT_FILENO, refusal.place() as u64);
-    io::write_all(STDOUT_FILENO, b"\n");
+fn print_refusal<W: io::Write>(out: &mut W, refusal: Refusal) -> io::Result<()> {
+    say(out, b"refused ")?;
+    print_number(out, refusal.number())?;
+    say(out, b" at ")?;
+    say_number(out, refusal.place())?;
+    say(out, b"\n")
 }
 
-fn answer(bytes: &[u8]) {
+fn answer<W: io::Write>(out: &mut W, bytes: &[u8]) -> io::Result<()> {
     let read = rule_file::read(bytes);
     let outcome = read.outcome;
     let Outcome::Refused(refusal) = outcome else {
-        print_rule(read);
-        return;
+        return print_rule(out, read);
     };
-    print_refusal(refusal);
+    print_refusal(out, refusal)
 }
 
 // The next case, or false at the end of the input.
-fn one_case(head: &mut [u8], space: &mut [u8]) -> bool {
-    if io::read_full(STDIN_FILENO, head) < 2 {
-        return false;
+fn one_case<R: io::Read, W: io::Write>(
+    input: &mut R,
+    out: &mut W,
+    head: &mut [u8],
+    space: &mut [u8],
+) -> io::Result<bool> {
+    if read_full(input, head)? < 2 {
+        return Ok(false);
     }
     let n = wide16(u16_at(head, 0));
     if space.len() < n {
-        return false;
+        return Ok(false);
     }
-    if io::read_full(STDIN_FILENO, &mut space[..n]) < n {
-        return false;
+    if read_full(input, &mut space[..n])? < n {
+        return Ok(false);
     }
-    answer(&space[..n]);
-    true
+    answer(out, &space[..n])?;
+    Ok(true)
 }
 
-fn main() {
+fn main(rt: HostRuntime) -> io::Result<()> {
+    let mut input = rt.stdin();
+    let mut out = rt.stdout();
     let mut head = [0u8; 2];
-    let mut space = io::buffer();
+    let mut space = [0u8; 4096];
     let mut cases: u32 = 0;
     while cases < 100000 {
-        if one_case(&mut head, &mut space) {
+        if one_case(&mut input, &mut out, &mut head, &mut space)? {
             cases += 1;
         } else {
-            return;
+            return Ok(());
         }
     }
+    Ok(())
 }

@@ -7,6 +7,8 @@ ghost use Rattle.std.specs.Prelude.{◌≤◌};
 
 use console::{fill, front, number, room, say, say_number, say_refusal, say_run};
 use meaning::{Arrived, Built, Checked, State};
+use std::io;
+use std::io::{Read, Write};
 
 // A state's row, read from the table. In a checked table a successor is below 256 where its event can happen; what else is read is not written again.
 fn row_of(t: &[u8], signals: u8, state: u16) -> [u8; 16]
@@ -102,67 +104,75 @@ fn kept_apart(t: &[u8], opening: u16, state: u16, events: &[u8]) -> bool {
     }
 }
 
-fn say_case(t: &[u8], state: u16, events: &[u8]) {
+fn say_case<W: Write>(out: &mut W, t: &[u8], state: u16, events: &[u8]) -> io::Result<()> {
     let checked = table_file::check(t);
     match checked {
-        Checked::Refused(why) => say_refusal(why),
+        Checked::Refused(why) => say_refusal(out, why)?,
         Checked::Table { signals, states } => {
-            say(b"table ");
-            say_number(wire::wide(signals));
-            say(b" ");
-            say_number(wire::wide16(states));
-            say(b": ");
+            say(out, b"table ")?;
+            say_number(out, wire::wide(signals))?;
+            say(out, b" ")?;
+            say_number(out, wire::wide16(states))?;
+            say(out, b": ")?;
             let opening = (t.len() % 65536) as u16;
             let from = State {
                 opening,
                 number: state,
             };
             let arrived = opened::open_and_run(t, opening, from, events);
-            say_run(arrived);
+            say_run(out, arrived)?;
             if !stepped(t, opening, from, events, arrived) {
-                say(b" stepped elsewhere");
+                say(out, b" stepped elsewhere")?;
             }
             if !kept_apart(t, opening, state, events) {
-                say(b" taken from another opening");
+                say(out, b" taken from another opening")?;
             }
             if signals <= 4 {
                 if states <= 256 {
                     if rewritten(t, signals, states) {
-                        say(b" rewritten");
+                        say(out, b" rewritten")?;
                     }
                 }
             }
         }
     }
-    say(b"\n");
+    say(out, b"\n")
 }
 
 // Reads and answers one case; false at the end of the input.
-fn case(table: &mut [u8], events: &mut [u8]) -> bool {
-    let n = number();
-    if !fill(table, n) {
-        return false;
+fn case<R: Read, W: Write>(
+    input: &mut R,
+    out: &mut W,
+    table: &mut [u8],
+    events: &mut [u8],
+) -> io::Result<bool> {
+    let n = number(input)?;
+    if !fill(input, table, n)? {
+        return Ok(false);
     }
-    let state = number();
+    let state = number(input)?;
     if 65535 < state {
-        return false;
+        return Ok(false);
     }
-    let m = number();
-    if !fill(events, m) {
-        return false;
+    let m = number(input)?;
+    if !fill(input, events, m)? {
+        return Ok(false);
     }
-    say_case(front(table, n), state as u16, front(events, m));
-    true
+    say_case(out, front(table, n), state as u16, front(events, m))?;
+    Ok(true)
 }
 
-fn main() {
+fn main(rt: HostRuntime) -> io::Result<()> {
+    let mut input = rt.stdin();
+    let mut out = rt.stdout();
     let mut table = room();
-    let mut events = io::buffer();
+    let mut events = [0u8; 4096];
     let mut left: u32 = 100000;
     while 0 < left {
-        if !case(&mut table, &mut events) {
-            return;
+        if !case(&mut input, &mut out, &mut table, &mut events)? {
+            return Ok(());
         }
         left -= 1;
     }
+    Ok(())
 }

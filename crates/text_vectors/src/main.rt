@@ -5,8 +5,9 @@
 ghost use Rattle.std.specs.Prelude.{◌≤◌, length};
 
 use console::{fill, front, number, say, say_number, say_refusal};
-use libc::STDOUT_FILENO;
 use meaning::Written;
+use std::io;
+use std::io::{Read, Write};
 
 // Fills the buffer with one value.
 fn paint(buffer: &mut [u8]) {
@@ -18,24 +19,26 @@ fn paint(buffer: &mut [u8]) {
 }
 
 // Only writes: the bytes, two digits for each.
-fn say_bytes(bytes: &[u8]) {
+fn say_bytes<W: Write>(out: &mut W, bytes: &[u8]) -> io::Result<()> {
     let mut i: usize = 0;
     while i < bytes.len() {
-        io::print_hex(STDOUT_FILENO, wire::wide(bytes[i]) as u64, 2);
+        let b = bytes[i];
+        write!(out, "{b:02x}")?;
         i += 1;
     }
+    Ok(())
 }
 
-fn say_case(text: &[u8], signals: u8, rule: &mut [u8]) {
+fn say_case<W: Write>(out: &mut W, text: &[u8], signals: u8, rule: &mut [u8]) -> io::Result<()> {
     paint(rule);
     let written = rule_text::write(text, signals, rule);
     match written {
-        Written::Rule(n) => say_number(n),
-        Written::Refused(why) => say_refusal(why),
+        Written::Rule(n) => say_number(out, n)?,
+        Written::Refused(why) => say_refusal(out, why)?,
     }
-    say(b" ");
-    say_bytes(rule);
-    say(b"\n");
+    say(out, b" ")?;
+    say_bytes(out, rule)?;
+    say(out, b"\n")
 }
 
 fn part(buffer: &mut [u8], n: usize) -> &mut [u8]
@@ -45,31 +48,40 @@ fn part(buffer: &mut [u8], n: usize) -> &mut [u8]
 }
 
 // Reads and answers one case; false at the end of the input.
-fn case(text: &mut [u8], signals: &mut [u8], rule: &mut [u8]) -> bool {
-    let n = number();
-    if !fill(text, n) {
-        return false;
+fn case<R: Read, W: Write>(
+    input: &mut R,
+    out: &mut W,
+    text: &mut [u8],
+    signals: &mut [u8],
+    rule: &mut [u8],
+) -> io::Result<bool> {
+    let n = number(input)?;
+    if !fill(input, text, n)? {
+        return Ok(false);
     }
-    if !fill(signals, 1) {
-        return false;
+    if !fill(input, signals, 1)? {
+        return Ok(false);
     }
-    let k = number();
+    let k = number(input)?;
     if rule.len() < k {
-        return false;
+        return Ok(false);
     }
-    say_case(front(text, n), wire::byte_at(signals, 0), part(rule, k));
-    true
+    say_case(out, front(text, n), wire::byte_at(signals, 0), part(rule, k))?;
+    Ok(true)
 }
 
-fn main() {
-    let mut text = io::buffer();
+fn main(rt: HostRuntime) -> io::Result<()> {
+    let mut input = rt.stdin();
+    let mut out = rt.stdout();
+    let mut text = [0u8; 4096];
     let mut signals = [0u8; 1];
-    let mut rule = io::buffer();
+    let mut rule = [0u8; 4096];
     let mut left: u32 = 100000;
     while 0 < left {
-        if !case(&mut text, &mut signals, &mut rule) {
-            return;
+        if !case(&mut input, &mut out, &mut text, &mut signals, &mut rule)? {
+            return Ok(());
         }
         left -= 1;
     }
+    Ok(())
 }

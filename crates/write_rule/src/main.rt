@@ -4,10 +4,12 @@
 
 ghost use Rattle.std.specs.Prelude.{◌≡◌, length};
 
-use console::front;
+use console::{arg_count, front, read_full, say, say_failure};
 use fault_text::fault_text;
-use libc::{STDERR_FILENO, STDIN_FILENO, STDOUT_FILENO};
 use meaning::{Refusal, Written};
+use std::env::Env;
+use std::io;
+use std::io::Write;
 use text_input::{Request, read_argument, without_line_end};
 use text_pieces::Text;
 
@@ -19,72 +21,69 @@ fn input() -> [u8; 1026]
 }
 
 // Only writes: how the program is used.
-fn usage(fd: i32) {
-    io::write_all(fd, b"usage: write_rule SIGNALS <TEXT >RULE\n");
-    io::write_all(
-        fd,
+fn usage<W: Write>(out: &mut W) -> io::Result<()> {
+    say(out, b"usage: write_rule SIGNALS <TEXT >RULE\n")?;
+    say(
+        out,
         b"Writes the rule file of a rule's text: signals s0 to s3, true, false, ! X F G, brackets,\n",
-    );
-    io::write_all(
-        fd,
+    )?;
+    say(
+        out,
         b"U & ^ | -> <-> (tightest first). One line end at the end of the text is dropped.\n",
-    );
-    io::write_all(
-        fd,
+    )?;
+    say(
+        out,
         b"SIGNALS is the number of signals, 1 to 4. A refusal goes to standard error, with a mark\n",
-    );
-    io::write_all(fd, b"under its place.\n");
-    io::write_all(
-        fd,
+    )?;
+    say(out, b"under its place.\n")?;
+    say(
+        out,
         b"Example: echo 'G (s0 -> X (!s0 U s1))' | write_rule 2 | print_table\n",
-    );
+    )
 }
 
 // Only writes: the refusal, the text and the mark, on standard error.
-fn say_fault(refusal: Refusal, text: &[u8]) {
-    let mut page = io::buffer();
+fn say_fault(rt: &HostRuntime, refusal: Refusal, text: &[u8]) -> io::Result<()> {
+    let mut page = [0u8; 4096];
     let said = fault_text(refusal, text, &mut page);
     if let Text::Written(n) = said {
-        io::write_all(STDERR_FILENO, front(&page, n));
+        say(&mut rt.stderr(), front(&page, n))?;
     }
+    Ok(())
 }
 
 // Only writes: the rule file on standard output, or the refusal. The buffer has room for every rule file.
-fn answer(text: &[u8], signals: u8) {
-    let mut rule = io::buffer();
+fn answer(rt: &HostRuntime, text: &[u8], signals: u8) -> io::Result<()> {
+    let mut rule = [0u8; 4096];
     let written = rule_text::write(text, signals, &mut rule);
     match written {
-        Written::Refused(refusal) => say_fault(refusal, text),
-        Written::Rule(n) => {
-            if !io::write_all(STDOUT_FILENO, front(&rule, n)) {
-                os::fail(b"write_rule: standard output");
-            }
-        }
+        Written::Refused(refusal) => say_fault(rt, refusal, text),
+        Written::Rule(n) => match say(&mut rt.stdout(), front(&rule, n)) {
+            Ok(()) => Ok(()),
+            Err(why) => say_failure(rt, "write_rule: standard output", why),
+        },
     }
 }
 
-// Reads the text and answers it. `os::arg` left errno 0, so any other value is that of a read that failed.
-fn read_and_answer(signals: u8) {
+// Reads the text and answers it. A failed read is said on standard error, and nothing is answered.
+fn read_and_answer(rt: &HostRuntime, signals: u8) -> io::Result<()> {
     let mut text = input();
-    let n = io::read_full(STDIN_FILENO, &mut text);
-    if os::errno() != 0 {
-        os::fail(b"write_rule: standard input");
-        return;
+    match read_full(&mut rt.stdin(), &mut text) {
+        Ok(n) => answer(rt, without_line_end(front(&text, n)), signals),
+        Err(why) => say_failure(rt, "write_rule: standard input", why),
     }
-    answer(without_line_end(front(&text, n)), signals);
 }
 
-fn main() {
-    if os::arg_count() != 2 {
-        usage(STDERR_FILENO);
-        return;
+fn main(rt: HostRuntime) -> io::Result<()> {
+    if arg_count(&rt) != 2 {
+        return usage(&mut rt.stderr());
     }
     let mut word = [0u8; 8];
-    let n = os::arg(1, &mut word);
+    let n = rt.arg(1, &mut word).unwrap_or(0);
     let request = read_argument(front(&word, n));
     match request {
-        Request::Signals(signals) => read_and_answer(signals),
-        Request::Help => usage(STDOUT_FILENO),
-        Request::Unknown => usage(STDERR_FILENO),
+        Request::Signals(signals) => read_and_answer(&rt, signals),
+        Request::Help => usage(&mut rt.stdout()),
+        Request::Unknown => usage(&mut rt.stderr()),
     }
 }
