@@ -22,7 +22,7 @@ use Rattle.meaning.specs.declared.State.{State}
 use Rattle.meaning.specs.declared.Served.{Served}
 use Rattle.meaning.specs.declared.Served.TheVariants as Served
 use Rattle.table_layout.proofs.Form.{states-some, table-header}
-use Rattle.desk_histories.proofs.Rows.{good-fresh, row_fits}
+use Rattle.desk_histories.proofs.Rows.{good-fresh, row-fits}
 use Rattle.desk_histories.proofs.Answers.{Σ, S, Fine}
 use Rattle.desk_histories.proofs.Moves.{good-by, good-all}
 use Rattle.desk_histories.proofs.Histories.{next-right, verdict-right}
@@ -55,8 +55,8 @@ module _ {I : Type 0} (F : Family I) (i : I) (n l : ℕ) (some : 1 ≤ n) (few :
 
     refused-by : (a : Action) → asked (F.opening j) c a ≡ refused c.desk (WrongOpening 0)
     unfolding post_by post_of turn_by turn_of
-    refused-by (Post k e) = rw (form-at F j, row_fits o.number (Σ o) (S o) n c.desk g some few, first-foreign, lt-ltb 0 (length c.desk) (omega (arith, g.size)))
-    refused-by Turn = rw (form-at F j, row_fits o.number (Σ o) (S o) n c.desk g some few, first-foreign, lt-ltb 0 (length c.desk) (omega (arith, g.size)))
+    refused-by (Post k e) = rw (form-at F j, row-fits o.number (Σ o) (S o) n c.desk g some few, first-foreign, lt-ltb 0 (length c.desk) (omega (arith, g.size)))
+    refused-by Turn = rw (form-at F j, row-fits o.number (Σ o) (S o) n c.desk g some few, first-foreign, lt-ltb 0 (length c.desk) (omega (arith, g.size)))
 
     still : (a : Action) → onward (F.opening j) c a ≡ c
     still a = ap (λ (y : Outcome). record { desk = y.desk; last = last_after y.answer c.last }) (refused-by a)
