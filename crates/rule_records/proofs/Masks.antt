@@ -13,7 +13,6 @@ use Rattle.meaning.specs.RuleFiles.{first_of, frame_checks, mask_of}
 use Rattle.meaning.specs.declared.Refusal.{Refusal}
 use Rattle.meaning.specs.declared.Refusal.TheVariants.{OutOfRange, NoEvent}
 use Rattle.meaning.specs.declared.MaskReading.{MaskReading}
-use Rattle.meaning.specs.declared.MaskReading.TheVariants as MaskReading
 use Rattle.rule_records.specs.Frames.{framed_of}
 use Rattle.rule_records.specs.declared.Framed.TheVariants as Framed
 use Rattle.rule_records.proofs.Checks.{Cleared, cleared_more, first-refused, first-none, first-cleared, fails_at, refusal_at}

@@ -5,7 +5,6 @@ use Rattle.meaning.specs.RuleFiles.{first_of}
 use Rattle.meaning.specs.declared.Refusal.{Refusal}
 use Rattle.meaning.specs.declared.Refusal.TheVariants.{Truncated, WrongLength}
 use Rattle.rule_records.specs.declared.Framed.{Framed}
-use Rattle.rule_records.specs.declared.Framed.TheVariants as Framed
 
 -- the checks of a record before its kind is looked at
 unfoldable pub framed_of : List ℕ → ℕ → Framed

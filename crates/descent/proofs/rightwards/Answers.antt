@@ -1,0 +1,12 @@
+-- `descent::rightwards` meets its contract.
+use borrow.Author.Tests.{eq-eqb, ne_eqb}
+use Rattle.meaning.specs.Grammar.{rightward}
+use Rattle.descent.proofs.rightwards.Goals as goal
+
+pub returns-then-n-eq0 : goal.returns-then-n-eq0
+unfolding rightward
+returns-then-n-eq0 c = rw (eq-eqb _ _ c.if-n-eq0.true)
+
+pub returns-else-n-eq0 : goal.returns-else-n-eq0
+unfolding rightward
+returns-else-n-eq0 c = rw (ne_eqb _ _ c.if-n-eq0.false)
