@@ -1,6 +1,5 @@
 -- `watches::count_of` meets its contract.
 use native.Mathlib.Omega.{arith}
-use borrow.Author.Rules.{rules}
 use Rattle.watches.proofs.count_of.Goals as goal
 
 pub overflow_add-result : goal.overflow_add-result

@@ -1,5 +1,4 @@
 -- `watches::fills_at` meets its contract.
-use borrow.Author.Rules.{rules}
 use Rattle.watches.proofs.fills_at.Goals as goal
 
 pub returns : goal.returns

@@ -1,5 +1,4 @@
 -- `watches::fresh_watch` meets its contract.
-use borrow.Author.Rules.{rules}
 use Rattle.watches.proofs.fresh_watch.Goals as goal
 
 pub returns : goal.returns

@@ -1,5 +1,4 @@
 -- `watches::is_decided` meets its contract: in each arm the definition computes.
-use borrow.Author.Rules.{rules}
 use Rattle.watches.proofs.is_decided.Goals as goal
 
 pub returns-in-Undecided : goal.returns-in-Undecided

@@ -2,9 +2,7 @@
 use native.Mathlib.Omega.{arith}
 use borrow.Author.Rules.{rules}
 use mathlib.Core.Path.{refl, ◌∙◌}
-use Prim.Native.Nat.{◌-◌, ◌+◌, ◌≤◌}
-use lib.ListN.{get_or}
-use Rattle.sequences.proofs.Loops.{Filled, filled_none, filled_more, filled-to}
+use Rattle.sequences.proofs.Loops.{filled_none, filled_more, filled-to}
 use Rattle.watches.proofs.Laws.{up_is}
 use Rattle.watches.proofs.moved_up.Goals as goal
 
@@ -15,4 +13,4 @@ pub loop-i-preserved : goal.loop-i-preserved
 loop-i-preserved c = (omega arith, filled_more c.loop-i.invariant.1 refl (omega arith))
 
 pub returns : goal.returns
-returns c = filled-to 31 c.loop-i.invariant.1 (omega arith) ∙ up_is c.args.t1 (search rules)
+returns c = filled-to 31 c.loop-i.invariant.1 (omega arith) ∙ up_is c.args.events (search rules)

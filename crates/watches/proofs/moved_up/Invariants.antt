@@ -1,11 +1,7 @@
 -- `watches::moved_up` meets its contract.
-use native.Mathlib.Omega.{arith}
-use borrow.Author.Rules.{rules}
-use mathlib.Core.Path.{refl, ◌∙◌}
 use Prim.Native.Nat.{◌-◌, ◌+◌, ◌≤◌}
 use lib.ListN.{get_or}
-use Rattle.sequences.proofs.Loops.{Filled, filled_none, filled_more, filled-to}
-use Rattle.watches.proofs.Laws.{up_is}
+use Rattle.sequences.proofs.Loops.{Filled}
 use Rattle.watches.proofs.moved_up.Given as goal
 
 abbrev pub invariant-loop-i : goal.invariant-loop-i

@@ -1,5 +1,4 @@
 -- `watches::numbers_fit` meets its contract.
-use borrow.Author.Rules.{rules}
 use Rattle.watches.proofs.numbers_fit.Goals as goal
 
 pub returns : goal.returns

@@ -1,6 +1,5 @@
 -- `watches::one_less` meets its contract.
 use native.Mathlib.Omega.{arith}
-use borrow.Author.Rules.{rules}
 use Rattle.watches.proofs.one_less.Goals as goal
 
 pub returns-then-waiting-lt1 : goal.returns-then-waiting-lt1

@@ -12,7 +12,7 @@ pub returns-then-waiting-lt2 : goal.returns-then-waiting-lt2
 returns-then-waiting-lt2 c = first-in c.args.mask c.args.w (omega (arith, c.if-waiting-lt2.true, c.if-waiting-lt1.false)) (search rules) refl c.wide.ensures.0 c.can_happen.ensures
 
 pub slice_bounds-slots_fit-end : goal.slice_bounds-slots_fit-end
-slice_bounds-slots_fit-end c = in-slots ?c.before.wide16.result c.args.w.waiting c.args.w.events ?c.before.wide16.ensures.0 c.requires (search rules)
+slice_bounds-slots_fit-end c = in-slots c.wide16-end.result c.args.w.waiting c.args.w.events c.wide16-end.ensures.0 c.requires (search rules)
 
 pub returns : goal.returns
-returns c = all_of c.args.mask c.args.w ?wide.wide16.result ?wide.wide16.ensures.0 c.slots_fit.ensures
+returns c = all_of c.args.mask c.args.w c.wide16-end.result c.wide16-end.ensures.0 c.slots_fit.ensures

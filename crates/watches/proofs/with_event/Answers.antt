@@ -1,5 +1,4 @@
 -- `watches::with_event` meets its contract.
-use borrow.Author.Rules.{rules}
 use Rattle.watches.proofs.with_event.Goals as goal
 
 pub returns : goal.returns

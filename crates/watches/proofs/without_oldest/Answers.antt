@@ -1,12 +1,11 @@
 -- `watches::without_oldest` meets its contract.
-use borrow.Author.Rules.{rules}
 use Rattle.watches.proofs.without_oldest.Goals as goal
 
 pub returns : goal.returns
 returns c = rw (
-      c.number_if.ensures,
-      c.filled_if.ensures,
-      c.fills_at-fill.ensures,
-      c.moved_up-up.ensures,
-      c.one_less-waiting.ensures,
-    )
+  c.number_if.ensures,
+  c.filled_if.ensures,
+  c.fills_at-fill.ensures,
+  c.moved_up-up.ensures,
+  c.one_less-waiting.ensures,
+)
