@@ -21,7 +21,6 @@ use Rattle.meaning.specs.declared.Refusal.TheVariants.{TrailingBytes}
 use Rattle.meaning.specs.declared.HeaderReading.TheVariants as HeaderReading
 use Rattle.meaning.specs.declared.MaskReading.TheVariants as MaskReading
 use Rattle.meaning.specs.declared.Reading.{Reading}
-use Rattle.meaning.specs.declared.Reading.TheVariants as Reading
 use Rattle.rule_records.proofs.Records.{node-told}
 use Rattle.rule_file.specs.Reading.{blank, padded, read_of}
 use Rattle.rule_file.specs.declared.answer.Outcome.TheVariants as Outcome

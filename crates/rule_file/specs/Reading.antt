@@ -4,11 +4,8 @@ use Rattle.meaning.specs.RuleFiles.{Rule, Judgement, Accepted, Refused}
 use Rattle.meaning.specs.declared.Node.{Node}
 use Rattle.meaning.specs.declared.Refusal.TheVariants.{Truncated}
 use Rattle.meaning.specs.declared.HeaderReading.{HeaderReading}
-use Rattle.meaning.specs.declared.HeaderReading.TheVariants as HeaderReading
 use Rattle.meaning.specs.declared.MaskReading.{MaskReading}
-use Rattle.meaning.specs.declared.MaskReading.TheVariants as MaskReading
 use Rattle.meaning.specs.declared.Reading.{Reading}
-use Rattle.meaning.specs.declared.Reading.TheVariants as Reading
 use Rattle.rule_file.specs.declared.answer.Read.{Read}
 use Rattle.rule_file.specs.declared.answer.Outcome.TheVariants as Outcome
 
