@@ -13,7 +13,6 @@ use Rattle.meaning.specs.declared.Verdict.{Verdict}
 use Rattle.meaning.specs.declared.Decided.{Decided}
 use Rattle.meaning.specs.declared.Decided.TheVariants.{After, Never}
 use Rattle.meaning.specs.declared.Ran.{Ran}
-use Rattle.meaning.specs.declared.Ran.TheVariants as Ran
 use Rattle.meaning.specs.declared.Ran.TheVariants.{Ended}
 use Rattle.meaning.specs.declared.Refusal.TheVariants.{WrongTable}
 use Rattle.run_parts.specs.Parts.{decides_at}
