@@ -4,27 +4,20 @@ use Rattle.meaning.specs.Refusals.{code_of}
 use Rattle.meaning.specs.TableFiles.{verdict_number}
 use Rattle.meaning.specs.declared.Refusal.{Refusal}
 use Rattle.meaning.specs.declared.Built.{Built}
-use Rattle.meaning.specs.declared.Built.TheVariants as Built
 use Rattle.meaning.specs.declared.Written.{Written}
-use Rattle.meaning.specs.declared.Written.TheVariants as Written
 use Rattle.meaning.specs.declared.Checked.{Checked}
-use Rattle.meaning.specs.declared.Checked.TheVariants as Checked
 use Rattle.meaning.specs.declared.Decided.{Decided}
 use Rattle.meaning.specs.declared.Decided.TheVariants.{After, Never}
 use Rattle.meaning.specs.declared.State.{State}
 use Rattle.meaning.specs.declared.Arrived.{Arrived}
-use Rattle.meaning.specs.declared.Arrived.TheVariants as Arrived
 use Rattle.meaning.specs.declared.Shown.{Shown}
-use Rattle.meaning.specs.declared.Shown.TheVariants as Shown
 use Rattle.meaning.specs.declared.Served.{Served}
-use Rattle.meaning.specs.declared.Served.TheVariants as Served
 use Rattle.meaning.specs.declared.Watch.{Watch}
 use Rattle.meaning.specs.Openings.{state_of, run_from_in}
 use Rattle.meaning.specs.Recordings.{judged_in}
 use Rattle.meaning.specs.Desks.{Outcome, fresh_in, post_in, turn_in}
 use Rattle.codes.specs.declared.Opening.{Opening}
 use Rattle.text_pieces.specs.declared.Text.{Text}
-use Rattle.text_pieces.specs.declared.Text.TheVariants as Text
 
 -- "Every refusal returns a number and a place." A place of 2^56 or more, which no memory holds, is shown as 2^56 - 1.
 abbrev pub place_code : ℕ → ℕ

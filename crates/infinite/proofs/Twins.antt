@@ -54,8 +54,8 @@ module _ (ns : List Split) {u v : ℕ → ℕ} (j : Joint ns u v) where
     event = e;
     left = right-shift a [] 0 here ns (right-back u ns 0 j.label j.left);
     right =
-    right-shift b [] 0 here ns
-    (subst (λ (x : ℕ). LabelRight v 0 [] 0 (valued x j.label ns).label ns) (sym j.event) (right-back v ns 0 j.label j.right));
+        right-shift b [] 0 here ns
+        (subst (λ (x : ℕ). LabelRight v 0 [] 0 (valued x j.label ns).label ns) (sym j.event) (right-back v ns 0 j.label j.right));
   }
 
   joint-same : (a : ℕ) → Sat u (operand (split_formulas [] ns) a) 0 ↔ Sat v (operand (split_formulas [] ns) a) 0

@@ -6,7 +6,6 @@ use Rattle.meaning.specs.declared.Refusal.TheVariants.{ShortOutput}
 use Rattle.text_pieces.specs.Put.{at_front}
 use Rattle.text_pieces.specs.Decimal.{decimal}
 use Rattle.text_pieces.specs.declared.Text.{Text}
-use Rattle.text_pieces.specs.declared.Text.TheVariants as Text
 
 -- "refused 6 at 11"
 unfoldable pub refusal_text : Refusal → List ℕ

@@ -1,5 +1,4 @@
 -- `codes::arrived_code` meets its contract.
-use borrow.Author.Rules.{rules}
 use mathlib.Core.Path.{sym, ap, ◌∙◌}
 use Rattle.codes.specs.Codes.{arrived_code}
 use Rattle.codes.proofs.arrived_code.Goals as goal

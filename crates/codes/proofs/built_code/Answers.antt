@@ -1,5 +1,4 @@
 -- `codes::built_code` meets its contract.
-use borrow.Author.Rules.{rules}
 use mathlib.Core.Path.{sym, ap, ◌∙◌}
 use Rattle.codes.specs.Codes.{built_code}
 use Rattle.codes.proofs.built_code.Goals as goal

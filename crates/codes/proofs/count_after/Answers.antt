@@ -1,5 +1,4 @@
 -- `codes::count_after` meets its contract.
-use borrow.Author.Rules.{rules}
 use mathlib.Core.Path.{sym, ap, ◌∙◌}
 use Rattle.meaning.specs.declared.Arrived.{Arrived}
 use Rattle.codes.specs.Codes.{count_after}

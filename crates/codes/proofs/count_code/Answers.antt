@@ -1,6 +1,5 @@
 -- `codes::count_code` meets its contract.
 use mathlib.Core.Path.{sym, ap}
-use borrow.Author.Rules.{rules}
 use Rattle.codes.specs.Codes.{count_code}
 use Rattle.codes.proofs.count_code.Goals as goal
 

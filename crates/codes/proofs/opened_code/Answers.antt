@@ -1,5 +1,4 @@
 -- `codes::opened_code` meets its contract.
-use borrow.Author.Rules.{rules}
 use mathlib.Core.Path.{sym, ap, ◌∙◌}
 use Rattle.codes.specs.Codes.{opened_code}
 use Rattle.codes.proofs.opened_code.Goals as goal

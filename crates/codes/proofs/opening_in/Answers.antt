@@ -1,5 +1,4 @@
 -- `codes::opening_in` meets its contract.
-use borrow.Author.Rules.{rules}
 use Prim.Native.Nat.{◌/◌}
 use borrow.Author.Tests.{lt-ltb, le-ltb}
 use Rattle.codes.proofs.opening_in.Goals as goal

@@ -1,5 +1,4 @@
 -- `codes::refusal_code` meets its contract.
-use borrow.Author.Rules.{rules}
 use Rattle.codes.proofs.refusal_code.Goals as goal
 
 pub returns : goal.returns

@@ -1,5 +1,4 @@
 -- `codes::served_code` meets its contract.
-use borrow.Author.Rules.{rules}
 use mathlib.Core.Path.{sym, ap, ◌∙◌}
 use Rattle.codes.specs.Codes.{served_code}
 use Rattle.codes.proofs.served_code.Goals as goal

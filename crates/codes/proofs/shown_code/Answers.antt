@@ -1,5 +1,4 @@
 -- `codes::shown_code` meets its contract.
-use borrow.Author.Rules.{rules}
 use mathlib.Core.Path.{sym, ap, ◌∙◌}
 use Rattle.codes.specs.Codes.{shown_code}
 use Rattle.codes.proofs.shown_code.Goals as goal

@@ -1,5 +1,4 @@
 -- `codes::text_code` meets its contract.
-use borrow.Author.Rules.{rules}
 use mathlib.Core.Path.{sym, ap, ◌∙◌}
 use Rattle.codes.specs.Codes.{text_code}
 use Rattle.codes.proofs.text_code.Goals as goal

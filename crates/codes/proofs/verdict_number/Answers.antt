@@ -1,7 +1,6 @@
 -- `codes::verdict_number` meets its contract.
 use mathlib.Core.Path.{sym, ap}
 use native.Mathlib.Omega.{arith}
-use borrow.Author.Rules.{rules}
 use Rattle.meaning.specs.TableFiles.{verdict_number}
 use Rattle.codes.proofs.verdict_number.Goals as goal
 

@@ -1,5 +1,4 @@
 -- `codes::written_code` meets its contract.
-use borrow.Author.Rules.{rules}
 use mathlib.Core.Path.{sym, ap, ◌∙◌}
 use Rattle.codes.specs.Codes.{written_code}
 use Rattle.codes.proofs.written_code.Goals as goal

@@ -1,7 +1,6 @@
 -- `event_lists::all_in` meets its contract.
 use native.Mathlib.Omega.{arith}
 use mathlib.Core.Path.{sym}
-use borrow.Author.Rules.{rules}
 use Rattle.event_lists.proofs.Laws.{above_in}
 use Rattle.event_lists.proofs.all_in.Goals as goal
 

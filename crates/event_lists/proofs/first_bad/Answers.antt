@@ -2,13 +2,11 @@
 use native.Mathlib.Omega.{arith}
 use mathlib.Core.Path.{◌≡◌, refl, sym, ap, ◌∙◌}
 use mathlib.Core.Bool.{not}
-use Prim.Native.Nat.{ℕ, ◌-◌, ◌≤◌}
-use borrow.Author.Rules.{rules}
+use Prim.Native.Nat.{ℕ}
 use lib.Dec.{eqb}
 use lib.ListN.{length}
-use Rattle.sequences.proofs.Loops.{Missed, missed-none, missed_more, missed-found, missed-end}
+use Rattle.sequences.proofs.Loops.{missed-none, missed_more, missed-found, missed-end}
 use Rattle.meaning.specs.Bytes.{bit}
-use Rattle.event_lists.specs.Masks.{in_mask}
 use Rattle.event_lists.proofs.Laws.{none-outside}
 use Rattle.event_lists.proofs.first_bad.Goals as goal
 

@@ -1,8 +1,7 @@
 -- `event_lists::most` meets its contract.
 use native.Mathlib.Omega.{arith}
-use borrow.Author.Rules.{rules}
 use mathlib.Core.Path.{◌≡◌, subst}
-use Prim.Native.Nat.{ℕ, ◌-◌, ◌≤◌}
+use Prim.Native.Nat.{ℕ}
 use lib.ListN.{length}
 use Rattle.event_lists.specs.Bounds.{NoneAbove}
 use Rattle.event_lists.proofs.Laws.{above-none, above_more}

@@ -1,11 +1,7 @@
 -- `event_lists::most` meets its contract.
-use native.Mathlib.Omega.{arith}
-use borrow.Author.Rules.{rules}
-use mathlib.Core.Path.{◌≡◌, subst}
-use Prim.Native.Nat.{ℕ, ◌-◌, ◌≤◌}
+use Prim.Native.Nat.{◌-◌, ◌≤◌}
 use lib.ListN.{length}
 use Rattle.event_lists.specs.Bounds.{NoneAbove}
-use Rattle.event_lists.proofs.Laws.{above-none, above_more}
 use Rattle.event_lists.proofs.most.Given as goal
 
 abbrev pub invariant-loop-i : goal.invariant-loop-i

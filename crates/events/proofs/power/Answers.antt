@@ -1,7 +1,6 @@
 -- `events::power` meets its contract. A shift of 1 within the word.
 use native.Mathlib.Omega.{arith}
 use Rattle.events.proofs.Powers.{shift_small}
-use borrow.Author.Rules.{rules}
 use Rattle.events.proofs.power.Goals as goal
 
 pub returns : goal.returns

@@ -4,7 +4,6 @@ use mathlib.Core.Path.{sym, ap}
 use Prim.Native.Nat.{ℕ}
 use lib.Dec.{eqb}
 use Rattle.events.proofs.Counting.{off-above}
-use borrow.Author.Rules.{rules}
 use Rattle.events.proofs.signal_on.Goals as goal
 
 pub returns : goal.returns

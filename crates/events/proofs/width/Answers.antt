@@ -2,7 +2,6 @@
 use native.Mathlib.Omega.{arith}
 use mathlib.Core.Path.{refl}
 use Rattle.events.proofs.Powers.{power_small}
-use borrow.Author.Rules.{rules}
 use Rattle.events.proofs.width.Goals as goal
 
 pub returns : goal.returns

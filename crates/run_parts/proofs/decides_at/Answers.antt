@@ -1,7 +1,6 @@
 -- `run_parts::decides_at` meets its contract.
 use mathlib.Core.Path.{sym, ◌∙◌, ap}
 use Rattle.meaning.specs.Runs.{decides}
-use borrow.Author.Rules.{rules}
 use Rattle.run_parts.proofs.decides_at.Goals as goal
 
 pub returns-in-Undecided : goal.returns-in-Undecided

@@ -1,10 +1,8 @@
 -- `run_parts::fill_rows` meets its contract.
 use native.Mathlib.Omega.{arith}
-use borrow.Author.Rules.{rules}
 use mathlib.Core.Path.{◌∙◌}
-use Prim.Native.Nat.{◌-◌, ◌≤◌}
-use Rattle.sequences.proofs.Loops.{Filled, filled_none, filled_more, filled-length}
-use Rattle.run_parts.proofs.Laws.{flat, copied}
+use Rattle.sequences.proofs.Loops.{filled_none, filled_more, filled-length}
+use Rattle.run_parts.proofs.Laws.{copied}
 use Rattle.run_parts.proofs.fill_rows.Goals as goal
 
 pub loop-k-init : goal.loop-k-init

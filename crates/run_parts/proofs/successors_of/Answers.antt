@@ -1,11 +1,9 @@
 -- `run_parts::successors_of` meets its contract.
 use native.Mathlib.Omega.{arith}
-use borrow.Author.Rules.{rules}
 use mathlib.Core.Path.{◌∙◌, ap}
-use Prim.Native.Nat.{ℕ, ◌-◌, ◌+◌, ◌*◌, ◌^◌, ◌≤◌}
+use Prim.Native.Nat.{ℕ, ◌+◌, ◌*◌, ◌^◌}
 use Rattle.meaning.specs.Bytes.{u16_at}
-use Rattle.meaning.specs.TableFiles.{successor}
-use Rattle.sequences.proofs.Loops.{Filled, filled_none, filled_more, filled-to}
+use Rattle.sequences.proofs.Loops.{filled_none, filled_more, filled-to}
 use Rattle.run_parts.proofs.successors_of.Goals as goal
 
 pub loop-e-init : goal.loop-e-init

@@ -1,14 +1,13 @@
 -- `table_layout::all_below` meets its contract.
 use native.Mathlib.Omega.{arith}
-use borrow.Author.Rules.{rules}
 use mathlib.Core.Path.{sym}
 use borrow.Author.Tests.{lt-ltb, le-ltb}
 use mathlib.Core.List.{List}
 use mathlib.Core.Bool.{Bool}
-use Prim.Native.Nat.{ℕ, ◌+◌, ◌-◌, ◌*◌, ◌≤◌}
+use Prim.Native.Nat.{ℕ, ◌+◌, ◌*◌}
 use lib.Dec.{ltb}
 use Rattle.meaning.specs.Bytes.{u16_at}
-use Rattle.sequences.proofs.Loops.{Passed, passed_none, passed-more, passed-all, all-not}
+use Rattle.sequences.proofs.Loops.{passed_none, passed-more, passed-all, all-not}
 use Rattle.table_layout.proofs.all_below.Goals as goal
 
 abbrev test : List ℕ → ℕ → ℕ → ℕ → Bool
@@ -23,9 +22,9 @@ returns-then-bound-to c = let fails = le-ltb (u16_at c.args.t.now (c.args.at + 2
 
 pub loop-e-preserved : goal.loop-e-preserved
 loop-e-preserved c = (
-      omega arith,
-      passed-more c.loop-e.invariant.1 (lt-ltb (u16_at c.args.t.now (c.args.at + 2 * c.loop-e.e)) c.args.bound (omega (arith, c.if-bound-to.false, c.two_at-to.ensures))),
-    )
+  omega arith,
+  passed-more c.loop-e.invariant.1 (lt-ltb (u16_at c.args.t.now (c.args.at + 2 * c.loop-e.e)) c.args.bound (omega (arith, c.if-bound-to.false, c.two_at-to.ensures))),
+)
 
 pub returns : goal.returns
 returns c = sym (passed-all c.loop-e.invariant.1 c.args.events (omega arith))

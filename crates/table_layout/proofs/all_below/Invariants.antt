@@ -1,14 +1,10 @@
 -- `table_layout::all_below` meets its contract.
-use native.Mathlib.Omega.{arith}
-use borrow.Author.Rules.{rules}
-use mathlib.Core.Path.{sym}
-use borrow.Author.Tests.{lt-ltb, le-ltb}
 use mathlib.Core.List.{List}
 use mathlib.Core.Bool.{Bool}
 use Prim.Native.Nat.{ℕ, ◌+◌, ◌-◌, ◌*◌, ◌≤◌}
 use lib.Dec.{ltb}
 use Rattle.meaning.specs.Bytes.{u16_at}
-use Rattle.sequences.proofs.Loops.{Passed, passed_none, passed-more, passed-all, all-not}
+use Rattle.sequences.proofs.Loops.{Passed}
 use Rattle.table_layout.proofs.all_below.Given as goal
 
 abbrev test : List ℕ → ℕ → ℕ → ℕ → Bool

@@ -1,15 +1,11 @@
 -- `table_layout::mask_at` meets its contract.
-use native.Mathlib.Omega.{arith}
-use mathlib.Core.Path.{ap}
 use mathlib.Core.List.{List}
 use mathlib.Core.Bool.{Bool, not}
 use Prim.Native.Nat.{ℕ, ◌+◌, ◌-◌, ◌*◌, ◌≤◌}
-use borrow.Author.Rules.{rules}
 use lib.Dec.{eqb}
 use Rattle.meaning.specs.Bytes.{u16_at}
 use Rattle.meaning.specs.TableFiles.{no_successor}
 use Rattle.table_layout.specs.Masks.{Marked}
-use Rattle.table_layout.proofs.Masks.{marked-none, marked_more, marked-to}
 use Rattle.table_layout.proofs.mask_at.Given as goal
 
 abbrev possible_at : List ℕ → ℕ → ℕ → Bool

@@ -2,7 +2,6 @@
 use mathlib.Core.Path.{◌∙◌, ap₂}
 use Prim.Native.Nat.{ℕ, ◌+◌, ◌*◌}
 use Rattle.meaning.specs.Bytes.{u16_at}
-use borrow.Author.Rules.{rules}
 use Rattle.table_layout.proofs.successor_at.Goals as goal
 
 pub returns : goal.returns

@@ -4,7 +4,6 @@ use Prim.Native.Nat.{ℕ, ◌+◌}
 use Rattle.meaning.specs.TableFiles.{verdict_of, verdict_byte}
 use lib.ListN.{get_or}
 use Rattle.table_layout.proofs.Form.{verdict-else}
-use borrow.Author.Rules.{rules}
 use Rattle.table_layout.proofs.verdict_at.Goals as goal
 
 pub returns-in-1 : goal.returns-in-1

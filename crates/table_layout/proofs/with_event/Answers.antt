@@ -4,7 +4,6 @@ use mathlib.Core.Path.{◌≡◌, ap, ◌∙◌}
 use Prim.Native.Nat.{ℕ, suc, ◌+◌, ◌*◌, ◌%◌, ◌^◌, ◌<◌}
 use native.Mathlib.Nat.{one-mul, pow-suc}
 use lib.Pow.{pow_mono, shl_exact}
-use borrow.Author.Rules.{rules}
 use Rattle.table_layout.proofs.with_event.Goals as goal
 
 shifted : (k : ℕ) → k < 16 → (1 * 2 ^ k) % 2 ^ 16 ≡ 2 ^ k

@@ -1,9 +1,6 @@
 -- `text_pieces::put_bytes` meets its contract.
 use native.Mathlib.Omega.{arith}
 use borrow.Author.Rules.{rules}
-use Prim.Native.Nat.{◌+◌, ◌-◌, ◌≤◌}
-use lib.ListN.{length, take}
-use Rattle.text_pieces.specs.Put.{Put}
 use Rattle.text_pieces.proofs.Laws.{put-none, put-length, bytes-more, bytes-all}
 use Rattle.text_pieces.proofs.put_bytes.Goals as goal
 
