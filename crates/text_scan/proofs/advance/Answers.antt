@@ -1,7 +1,6 @@
 -- `text_scan::advance` meets its contract.
 use Rattle.text_scan.proofs.Laws.{last-mode}
 use mathlib.Core.Path.{◌≡◌}
-use borrow.Author.Rules.{rules}
 use Rattle.text_scan.proofs.advance.Goals as goal
 
 pub returns-in-0 : goal.returns-in-0

@@ -2,7 +2,6 @@
 use native.Mathlib.Numerals.{add-one}
 use native.Mathlib.Omega.{arith}
 use borrow.Author.Tests.{ne_eqb}
-use borrow.Author.Rules.{rules}
 use Rattle.text_scan.proofs.at_operand.Goals as goal
 
 pub returns-in-32 : goal.returns-in-32
@@ -34,17 +33,17 @@ returns-in-102 c = record { is = rw c.in-102.is; known = omega arith; near = ome
 
 pub returns-in_default : goal.returns-in_default
 returns-in_default c = record {
-      is = rw (
-        ne_eqb _ _ c.in_default.in_default-own.rest.0.0.0.0.0.0.0.0.1,
-        ne_eqb _ _ c.in_default.in_default-own.rest.0.0.0.0.0.0.0.1,
-        ne_eqb _ _ c.in_default.in_default-own.rest.0.0.0.0.0.0.1,
-        ne_eqb _ _ c.in_default.in_default-own.rest.0.0.0.0.0.1,
-        ne_eqb _ _ c.in_default.in_default-own.rest.0.0.0.0.1,
-        ne_eqb _ _ c.in_default.in_default-own.rest.0.0.0.1,
-        ne_eqb _ _ c.in_default.in_default-own.rest.0.0.1,
-        ne_eqb _ _ c.in_default.in_default-own.rest.0.1,
-        ne_eqb _ _ c.in_default.in_default-own.rest.1,
-      );
-      known = omega arith;
-      near = omega arith;
-    }
+  is = rw (
+    ne_eqb _ _ c.in_default.in_default-own.rest.0.0.0.0.0.0.0.0.1,
+    ne_eqb _ _ c.in_default.in_default-own.rest.0.0.0.0.0.0.0.1,
+    ne_eqb _ _ c.in_default.in_default-own.rest.0.0.0.0.0.0.1,
+    ne_eqb _ _ c.in_default.in_default-own.rest.0.0.0.0.0.1,
+    ne_eqb _ _ c.in_default.in_default-own.rest.0.0.0.0.1,
+    ne_eqb _ _ c.in_default.in_default-own.rest.0.0.0.1,
+    ne_eqb _ _ c.in_default.in_default-own.rest.0.0.1,
+    ne_eqb _ _ c.in_default.in_default-own.rest.0.1,
+    ne_eqb _ _ c.in_default.in_default-own.rest.1,
+  );
+  known = omega arith;
+  near = omega arith;
+}

@@ -2,7 +2,6 @@
 use native.Mathlib.Omega.{arith}
 use borrow.Author.Tests.{ne_eqb}
 use Rattle.text_scan.proofs.Laws.{closed-pos}
-use borrow.Author.Rules.{rules}
 use Rattle.text_scan.proofs.at_operator.Goals as goal
 
 pub returns-in-32 : goal.returns-in-32
@@ -34,16 +33,16 @@ returns-in-60 c = record { is = rw c.in-60.is; known = omega arith; near = omega
 
 pub returns-in_default : goal.returns-in_default
 returns-in_default c = record {
-      is = rw (
-        ne_eqb _ _ c.in_default.in_default-own.rest.0.0.0.0.0.0.0.1,
-        ne_eqb _ _ c.in_default.in_default-own.rest.0.0.0.0.0.0.1,
-        ne_eqb _ _ c.in_default.in_default-own.rest.0.0.0.0.0.1,
-        ne_eqb _ _ c.in_default.in_default-own.rest.0.0.0.0.1,
-        ne_eqb _ _ c.in_default.in_default-own.rest.0.0.0.1,
-        ne_eqb _ _ c.in_default.in_default-own.rest.0.0.1,
-        ne_eqb _ _ c.in_default.in_default-own.rest.0.1,
-        ne_eqb _ _ c.in_default.in_default-own.rest.1,
-      );
-      known = omega arith;
-      near = omega arith;
-    }
+  is = rw (
+    ne_eqb _ _ c.in_default.in_default-own.rest.0.0.0.0.0.0.0.1,
+    ne_eqb _ _ c.in_default.in_default-own.rest.0.0.0.0.0.0.1,
+    ne_eqb _ _ c.in_default.in_default-own.rest.0.0.0.0.0.1,
+    ne_eqb _ _ c.in_default.in_default-own.rest.0.0.0.0.1,
+    ne_eqb _ _ c.in_default.in_default-own.rest.0.0.0.1,
+    ne_eqb _ _ c.in_default.in_default-own.rest.0.0.1,
+    ne_eqb _ _ c.in_default.in_default-own.rest.0.1,
+    ne_eqb _ _ c.in_default.in_default-own.rest.1,
+  );
+  known = omega arith;
+  near = omega arith;
+}

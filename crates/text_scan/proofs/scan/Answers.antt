@@ -1,13 +1,9 @@
 -- `text_scan::scan` meets its contract.
-use mathlib.Core.Path.{◌≡◌, refl, ◌∙◌}
-use mathlib.Core.Logic.{⊎_elim}
-use Prim.Native.Nat.{◌-◌, ◌≤◌, ◌<◌}
+use mathlib.Core.Path.{refl, ◌∙◌}
 use native.Mathlib.Omega.{arith}
-use borrow.Author.Rules.{rules}
-use lib.ListN.{length, take}
-use Rattle.text_scan.specs.Modes.{Scanning}
 use Rattle.text_scan.proofs.Laws.{scanning-start, scanning-seen, scanning-step, found-lost, found-fits, found-short, Kept, kept-stored, kept_same}
 use Rattle.text_scan.proofs.scan.Goals as goal
+use Rattle.text_scan.proofs.scan.Goals.{then-m, else-m}
 
 pub loop-i-init : goal.loop-i-init
 loop-i-init c = (omega arith, omega arith, omega arith, omega arith, refl, scanning-start _)
@@ -17,7 +13,7 @@ returns-then-m-eq11 c = found-lost c.loop-i.invariant.5 c.loop-i-test.true c.adv
 
 pub loop-i-preserved : goal.loop-i-preserved
 loop-i-preserved c = let k : Kept c.loop-i.signs c.loop-i.count c.advance-m.result.2 c.if-m.signs c.if-m.count =
-    ⊎_elim (λ w. kept-stored w.1 w.2 (omega arith) w.0.taken) (λ w. kept_same w.1 w.2 w.0.left) c.if-m.branch in (
+    elim c.if-m.branch [ then-m w ↦ kept-stored w.signs-is w.count-is (omega arith) w.if-m.true | else-m w ↦ kept_same w.signs-is w.count-is w.if-m.false ] in (
       omega arith,
       omega (arith, k.few),
       omega (arith, c.advance-m.ensures.near),

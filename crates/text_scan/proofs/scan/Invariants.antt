@@ -1,12 +1,8 @@
 -- `text_scan::scan` meets its contract.
-use mathlib.Core.Path.{◌≡◌, refl, ◌∙◌}
-use mathlib.Core.Logic.{⊎_elim}
+use mathlib.Core.Path.{◌≡◌}
 use Prim.Native.Nat.{◌-◌, ◌≤◌, ◌<◌}
-use native.Mathlib.Omega.{arith}
-use borrow.Author.Rules.{rules}
 use lib.ListN.{length, take}
 use Rattle.text_scan.specs.Modes.{Scanning}
-use Rattle.text_scan.proofs.Laws.{scanning-start, scanning-seen, scanning-step, found-lost, found-fits, found-short, Kept, kept-stored, kept_same}
 use Rattle.text_scan.proofs.scan.Given as goal
 
 abbrev pub invariant-loop-i : goal.invariant-loop-i
