@@ -22,7 +22,6 @@ use Rattle.meaning.specs.declared.Refusal.{Refusal}
 use Rattle.meaning.specs.declared.Refusal.TheVariants.{WrongEvent, WrongState, WrongTable}
 use Rattle.meaning.specs.declared.Checked.TheVariants as Checked
 use Rattle.meaning.specs.declared.Ran.{Ran}
-use Rattle.meaning.specs.declared.Ran.TheVariants as Ran
 use Rattle.table_layout.proofs.Form.{test-event, table-counts, table-verdict, table-inside, table-content}
 use Rattle.event_lists.proofs.Laws.{all-events}
 
