@@ -1,0 +1,7 @@
+-- `node_words::holds` meets its contract. A set in a word has no number past 63.
+use native.Mathlib.Omega.{arith}
+use Rattle.node_words.proofs.Lanewise.{on-past}
+use Rattle.node_words.proofs.holds.Goals as goal
+
+pub returns : goal.returns
+returns c = on-past c.args.set c.args.i (omega arith) (omega arith)
