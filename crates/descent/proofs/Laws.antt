@@ -1,8 +1,8 @@
 -- What each way through `level` and `more` shows.
 use mathlib.Core.Path.{◌≡◌, refl, sym, ap, ◌∙◌, subst}
-use mathlib.Core.Bool.{Bool, true, false}
-use mathlib.Core.List.{List, [], ◌∷◌, ◌++◌}
-use Prim.Native.Nat.{ℕ, zero, suc, ◌+◌, ◌-◌, ◌*◌, ◌≤◌, ◌<◌}
+use mathlib.Core.Bool.{true, false}
+use mathlib.Core.List.{List, [], ◌∷◌}
+use Prim.Native.Nat.{ℕ, zero, suc, ◌+◌, ◌-◌, ◌≤◌, ◌<◌}
 use native.Mathlib.Numerals.{add-one}
 use native.Mathlib.Omega.{arith}
 use lib.ListN.{length, get_or, set, drop, drop_of_length-le}
@@ -11,7 +11,7 @@ use Rattle.meaning.specs.Grammar.{Tree, leaf, pre, bin, rightward}
 use Rattle.grammar.specs.Descent.{Level, More}
 use Rattle.grammar.proofs.Descending.{level-leaf, level-other, level-inside, level-over, level-up, more-end, more-none, more_left, more-right}
 use native.Mathlib.Decide.{dec_lt}
-use Rattle.descent.specs.Laying.{Laid, put, lay, laid_as, Read, Onward, Moved, Skips}
+use Rattle.descent.specs.Laying.{put, lay, laid_as, Read, Moved, Skips}
 use Rattle.descent.specs.declared.Cursor.{Cursor}
 
 pub set_past : (s : List ℕ) (i v : ℕ) → length s ≤ i → set s i v ≡ s

@@ -1,10 +1,7 @@
 -- `descent::level`, `more` and `tight`, which call one another, meet their contracts. The signs that are left fall, or else the level does.
-use mathlib.Core.Path.{◌≡◌, refl, sym, ◌∙◌, subst}
-use Prim.Native.Nat.{ℕ, ◌<◌, ◌≤◌, ◌+◌, ◌-◌, ◌*◌}
-use lib.ListN.{length}
+use mathlib.Core.Path.{refl, sym, ◌∙◌}
 use native.Mathlib.Omega.{arith}
-use borrow.Author.Rules.{rules}
-use Rattle.descent.proofs.Laws.{read-over, read-leaf, read-pre, read-in, read-in-end, Climbed, climbed-none, climbed-more, climbed-skip, climbed-all, moved-end, moved_none, moved-left, moved-right}
+use Rattle.descent.proofs.Laws.{read-over, read-leaf, read-pre, read-in, read-in-end, climbed-none, climbed-more, climbed-skip, climbed-all, moved-end, moved_none, moved-left, moved-right}
 use Rattle.descent.proofs.+level_more_tight.Goals as goal
 
 pub level-loop-m-init : goal.level-loop-m-init
@@ -19,14 +16,10 @@ level-loop-m-smaller t c = omega (arith, c.going_on-m-in-loop-m.ensures.low, c.l
 
 pub level-loop-m-preserved : goal.level-loop-m-preserved
 level-loop-m-preserved t c = (
-      c.going_on-m-in-loop-m.ensures.high,
-      c.more-c.auto.out.1.1.1.0 ∙ c.loop-m.invariant.1,
-      climbed-skip _ c.more-c.ensures.within (climbed-more _ c.loop-m.invariant.2 c.more-c.ensures) c.going_on-m-in-loop-m.ensures,
-    )
-
--- UNMAPPED
--- level-same-length : (t : ℕ) → level-lts.Need-same-length (level-calls t) (level-at t) level.Post level-Inv-loop level-μ-loop
--- level-same-length t c = let at-loop = c.before in at-loop.loop.invariant.1 ∙ at-loop.before.before.before.before.tight.auto.1.1.0
+  c.going_on-m-in-loop-m.ensures.high,
+  c.more-c.auto.out ∙ c.loop-m.invariant.1,
+  climbed-skip _ c.more-c.ensures.within (climbed-more _ c.loop-m.invariant.2 c.more-c.ensures) c.going_on-m-in-loop-m.ensures,
+)
 
 pub level-returns : goal.level-returns
 level-returns t c = climbed-all _ (omega (arith, c.loop-m-test.false)) c.loop-m.invariant.2 c.tight-c.ensures
@@ -44,7 +37,7 @@ pub tight-returns-else-x-lt6 : goal.tight-returns-else-x-lt6
 tight-returns-else-x-lt6 t c = read-pre _ c.if-at-signs.true c.if-x-lt6.false c.if-x-eq10.false c.tight-c.ensures c.emit-else-x-lt6.ensures.0 c.emit-else-x-lt6.ensures.1
 
 pub tight-returns-else-at-signs : goal.tight-returns-else-at-signs
-tight-returns-else-at-signs t c = read-over _ c.if-at-signs.false c.requires.1 c.emit-else-at-signs.ensures.0 c.emit-else-at-signs.ensures.1
+tight-returns-else-at-signs t c = read-over _ c.if-at-signs.false c.requires c.emit-else-at-signs.ensures.0 c.emit-else-at-signs.ensures.1
 
 pub more-returns-then-rightwards : goal.more-returns-then-rightwards
 more-returns-then-rightwards t c = moved-right _ c.if-at-signs.true c.if-x-n.true (sym c.rightwards.ensures ∙ c.if-rightwards.true) c.level-d.ensures c.emit.ensures.0 c.emit.ensures.1
@@ -56,4 +49,4 @@ pub more-returns-else-x-n : goal.more-returns-else-x-n
 more-returns-else-x-n t c = moved_none _ c.if-at-signs.true c.if-x-n.false
 
 pub more-returns-else-at-signs : goal.more-returns-else-at-signs
-more-returns-else-at-signs t c = moved-end _ c.if-at-signs.false c.requires.1.1
+more-returns-else-at-signs t c = moved-end _ c.if-at-signs.false c.requires.1

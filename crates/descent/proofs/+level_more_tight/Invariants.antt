@@ -1,10 +1,8 @@
 -- `descent::level`, `more` and `tight`, which call one another, meet their contracts. The signs that are left fall, or else the level does.
-use mathlib.Core.Path.{◌≡◌, refl, sym, ◌∙◌, subst}
-use Prim.Native.Nat.{ℕ, ◌<◌, ◌≤◌, ◌+◌, ◌-◌, ◌*◌}
+use mathlib.Core.Path.{◌≡◌}
+use Prim.Native.Nat.{◌≤◌, ◌+◌, ◌-◌, ◌*◌}
 use lib.ListN.{length}
-use native.Mathlib.Omega.{arith}
-use borrow.Author.Rules.{rules}
-use Rattle.descent.proofs.Laws.{read-over, read-leaf, read-pre, read-in, read-in-end, Climbed, climbed-none, climbed-more, climbed-skip, climbed-all, moved-end, moved_none, moved-left, moved-right}
+use Rattle.descent.proofs.Laws.{Climbed}
 use Rattle.descent.proofs.+level_more_tight.Given as goal
 
 abbrev pub decreases-level : goal.decreases-level

@@ -2,7 +2,6 @@
 use mathlib.Core.Path.{refl}
 use borrow.Author.Tests.{lt-ltb, le-ltb}
 use Rattle.descent.specs.Laying.{put}
-use borrow.Author.Rules.{rules}
 use Rattle.descent.proofs.emit.Goals as goal
 
 pub returns-then-count-lt64 : goal.returns-then-count-lt64

@@ -1,7 +1,6 @@
 -- `descent::store` meets its contract.
 use mathlib.Core.Path.{sym}
 use Rattle.descent.proofs.Laws.{set_past}
-use borrow.Author.Rules.{rules}
 use Rattle.descent.proofs.store.Goals as goal
 
 pub returns-else-i-out : goal.returns-else-i-out

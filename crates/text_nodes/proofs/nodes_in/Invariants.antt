@@ -1,0 +1,16 @@
+-- `text_nodes::nodes_in` meets its contract.
+use Prim.Native.Nat.{◌-◌, ◌≤◌}
+use native.Mathlib.Omega.{arith}
+use lib.ListN.{replicate}
+use borrow.Author.Rules.{rules}
+use Rattle.sequences.proofs.Loops.{Filled, filled_none, filled_more}
+use Rattle.meaning.specs.RuleTexts.{node}
+use Rattle.text_nodes.specs.Occurrences.{node_in}
+use Rattle.text_nodes.proofs.Laws.{filled-front}
+use Rattle.text_nodes.proofs.nodes_in.Given as goal
+
+abbrev pub invariant-loop-i : goal.invariant-loop-i
+invariant-loop-i l = (l.i ≤ l.count) × Filled l.i (node_in l.laid) (replicate 64 (node 0 0 0)) l.nodes
+
+abbrev pub decreases-loop-i : goal.decreases-loop-i
+decreases-loop-i l = l.count - l.i
