@@ -4,7 +4,7 @@
  * After a dose, no second dose until the valve has acknowledged. The board lost an acknowledgement and wants to send again:
  * the step says violated, so the dose is held back and the state stays as it was.
  *
- * Build: rt staticlib tefuji && cc -I include examples/board.c target/staticlib/libtefuji.a -o board
+ * Build: (cd crates/tefuji && rt lib) && cc -I include examples/board.c crates/tefuji/out/libtefuji.a -o board
  */
 #include <stdio.h>
 #include <stdlib.h>

@@ -4,7 +4,7 @@
  * and are posted; the board takes a turn whenever it has time for one event, and opens a valve only when it has heard the dose and the rule stands. Which
  * tunnel broke its rule, and at which of its events, the foreman reads off the watches at any time.
  *
- * Build: rt staticlib tefuji && cc -I include examples/desk.c target/staticlib/libtefuji.a -o desk
+ * Build: (cd crates/tefuji && rt lib) && cc -I include examples/desk.c crates/tefuji/out/libtefuji.a -o desk
  * Run:   ./desk (here, where examples/ is)
  */
 #include <stdio.h>

@@ -12,7 +12,7 @@
  * 7, 21, 35, 35, 21, 7 and 1 later, 9, 37, 93, 163, 219, 247, 255. All seven are an odd number of true terms, satisfied (1); with the first term the
  * number is even, violated (2). In the other, after 0 to 7, 8 is a first event that shows 7: moot (3).
  *
- * Build: rt staticlib tefuji && cc -I include examples/full_table.c target/staticlib/libtefuji.a -o full_table
+ * Build: (cd crates/tefuji && rt lib) && cc -I include examples/full_table.c crates/tefuji/out/libtefuji.a -o full_table
  * Run:   ./full_table (here, where examples/ is)
  */
 #include <stdio.h>

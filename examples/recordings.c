@@ -7,7 +7,7 @@
  * Neither recording alone says whether the rule was broken: what the one does not see may have gone well or not. Joined they do. A verdict stands only
  * where every way to fill the gaps that are left has it.
  *
- * Build: rt staticlib tefuji && cc -I include examples/recordings.c target/staticlib/libtefuji.a -o recordings
+ * Build: (cd crates/tefuji && rt lib) && cc -I include examples/recordings.c crates/tefuji/out/libtefuji.a -o recordings
  * Run:   ./recordings (here, where examples/ is)
  */
 #include <stdio.h>

@@ -1,7 +1,7 @@
 //! Watches several tunnels by one rule: `tunnels RULE NUMBER:EVENT..`. All events are posted, then turns are taken until none waits; then
 //! each tunnel that was heard says at which of its events a verdict first stood.
 //!
-//! Build: rt staticlib tefuji && rustc --edition 2021 -O -L target/staticlib -l static=tefuji examples/tunnels.rs -o tunnels
+//! Build: (cd crates/tefuji && rt lib) && rustc --edition 2021 -O -L crates/tefuji/out -l static=tefuji examples/tunnels.rs -o tunnels
 //! Run:   ./tunnels examples/second_dose.rule 8:0 3:1 3:2 3:1 3:1 3:2
 mod tefuji;
 

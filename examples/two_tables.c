@@ -5,7 +5,7 @@
  * in both tables and means something else in each. The board opens the one with the number 1 and the other with the number 2, and whatever is handed to
  * the wrong table is refused by 24, instead of being taken for what it is not.
  *
- * Build: rt staticlib tefuji && cc -I include examples/two_tables.c target/staticlib/libtefuji.a -o two_tables
+ * Build: (cd crates/tefuji && rt lib) && cc -I include examples/two_tables.c crates/tefuji/out/libtefuji.a -o two_tables
  */
 #include <stdio.h>
 #include <stdlib.h>

@@ -1,6 +1,6 @@
 /* Rules typed at a yard: read, built and run; a slip is shown at its place.
  *
- * Build: rt staticlib tefuji && cc -I include examples/typed.c target/staticlib/libtefuji.a -o typed
+ * Build: (cd crates/tefuji && rt lib) && cc -I include examples/typed.c crates/tefuji/out/libtefuji.a -o typed
  */
 #include <stdio.h>
 #include <string.h>

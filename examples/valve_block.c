@@ -7,7 +7,7 @@
  * After a dose and silence the acknowledgement would have to come with the next dose. That cannot happen, so with the mask the rule is violated then;
  * without it the watcher speaks one event later.
  *
- * Build: rt staticlib tefuji && cc -I include examples/valve_block.c target/staticlib/libtefuji.a -o valve_block
+ * Build: (cd crates/tefuji && rt lib) && cc -I include examples/valve_block.c crates/tefuji/out/libtefuji.a -o valve_block
  * Run:   ./valve_block (here, where examples/ is)
  */
 #include <stdio.h>

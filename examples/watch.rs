@@ -1,6 +1,6 @@
 //! Watches a list of events by a rule: `watch RULE EVENT..`, each event a number.
 //!
-//! Build: rt staticlib tefuji && rustc --edition 2021 -O -L target/staticlib -l static=tefuji examples/watch.rs -o watch
+//! Build: (cd crates/tefuji && rt lib) && rustc --edition 2021 -O -L crates/tefuji/out -l static=tefuji examples/watch.rs -o watch
 //! Run:   ./watch examples/second_dose.rule 1 0 1
 mod tefuji;
 

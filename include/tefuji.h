@@ -68,7 +68,7 @@
  *
  * Stack: where nothing is said, at most 1 KiB.
  *
- * Link with libtefuji.a (`rt staticlib tefuji`). x86-64.
+ * Link with libtefuji.a (`rt lib` in crates/tefuji). x86-64.
  */
 #ifndef TEFUJI_H
 #define TEFUJI_H
