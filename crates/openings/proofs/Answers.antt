@@ -16,7 +16,6 @@ use Rattle.meaning.specs.declared.Checked.TheVariants as Checked
 use Rattle.meaning.specs.declared.Ran.{Ran}
 use Rattle.meaning.specs.declared.State.{State}
 use Rattle.meaning.specs.declared.Arrived.{Arrived}
-use Rattle.meaning.specs.declared.Arrived.TheVariants as Arrived
 use Rattle.table_layout.proofs.Form.{table-counts}
 use Rattle.table_run.proofs.Answers.{found, run-table}
 

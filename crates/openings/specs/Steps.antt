@@ -5,7 +5,6 @@ use Rattle.meaning.specs.Openings.{run_from_in}
 use Rattle.meaning.specs.declared.Refusal.TheVariants.{WrongTable, WrongOpening}
 use Rattle.meaning.specs.declared.State.{State}
 use Rattle.meaning.specs.declared.Arrived.{Arrived}
-use Rattle.meaning.specs.declared.Arrived.TheVariants as Arrived
 
 -- how a state of another opening is refused: 14 before 24
 abbrev pub foreign_in : List ℕ → ℕ → ℕ → Arrived
