@@ -1,10 +1,8 @@
 -- What the descent lays are the tree's nodes, each where its number says; and a tree has as many as its signs have occurrences.
 use mathlib.Core.Path.{◌≡◌, refl, sym, ap, ◌∙◌, subst}
-use mathlib.Core.Bool.{cond}
 use mathlib.Core.List.{List, [], ◌∷◌, ◌++◌}
-use Prim.Native.Nat.{ℕ, zero, suc, ◌+◌, ◌-◌, ◌*◌, ◌≤◌, ◌<◌}
+use Prim.Native.Nat.{ℕ, ◌+◌, ◌-◌, ◌*◌, ◌≤◌, ◌<◌}
 use native.Mathlib.Omega.{arith}
-use native.Mathlib.Nat.{le_refl}
 use lib.ListN.{length, take, get_or, set, length-set, length-append, get_or-append}
 use lib.Seq.{get_or-append-add, get_or-set_same, get_or-set_other, ext_get_or}
 use native.Mathlib.Decide.{dec_lt}
@@ -20,7 +18,7 @@ use Rattle.grammar.specs.Descent.{Got}
 use Rattle.grammar.specs.Reading.{tree_of}
 use Rattle.descent.specs.Laying.{Laid, put, lay, laid_as, Read}
 use Rattle.descent.specs.declared.Cursor.{Cursor}
-use Rattle.text_nodes.specs.Occurrences.{mark, occurrences, node_of, node_in}
+use Rattle.text_nodes.specs.Occurrences.{occurrences, node_of, node_in}
 
 blank : Node
 blank = node 0 0 0

@@ -1,5 +1,5 @@
 -- The occurrences of signs that make nodes, and the node of each.
-use Rattle.std.specs.Prelude.{List, [], ◌∷◌, cond, ◌||◌, ℕ, ◌+◌, ◌*◌, get_or, ltb, eqb}
+use Rattle.std.specs.Prelude.{List, [], ◌∷◌, cond, ℕ, ◌+◌, ◌*◌, get_or, ltb, eqb}
 use Rattle.meaning.specs.RuleTexts.{kind_of, node}
 use Rattle.meaning.specs.declared.Node.{Node}
 

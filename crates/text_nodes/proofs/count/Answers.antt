@@ -1,9 +1,6 @@
 -- `text_nodes::count` meets its contract.
-use Prim.Native.Nat.{◌≤◌, ◌-◌}
 use native.Mathlib.Omega.{arith}
-use lib.ListN.{length}
-use borrow.Author.Rules.{rules}
-use Rattle.text_nodes.proofs.Laws.{Counting, counting-none, counting_more, counting-all}
+use Rattle.text_nodes.proofs.Laws.{counting-none, counting_more, counting-all}
 use Rattle.text_nodes.proofs.count.Goals as goal
 
 pub loop-i-init : goal.loop-i-init

@@ -1,9 +1,7 @@
 -- `text_nodes::count` meets its contract.
 use Prim.Native.Nat.{◌≤◌, ◌-◌}
-use native.Mathlib.Omega.{arith}
 use lib.ListN.{length}
-use borrow.Author.Rules.{rules}
-use Rattle.text_nodes.proofs.Laws.{Counting, counting-none, counting_more, counting-all}
+use Rattle.text_nodes.proofs.Laws.{Counting}
 use Rattle.text_nodes.proofs.count.Given as goal
 
 abbrev pub invariant-loop-i : goal.invariant-loop-i

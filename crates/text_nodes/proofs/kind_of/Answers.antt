@@ -1,7 +1,6 @@
 -- `text_nodes::kind_of` meets its contract.
 use mathlib.Core.Path.{sym, ap}
 use native.Mathlib.Omega.{arith}
-use borrow.Author.Rules.{rules}
 use Rattle.meaning.specs.RuleTexts.{kind_of}
 use Rattle.text_nodes.proofs.Laws.{kind-past}
 use Rattle.text_nodes.proofs.kind_of.Goals as goal

@@ -1,6 +1,5 @@
 -- `text_nodes::node_of` meets its contract.
 use borrow.Author.Tests.{lt-ltb, le-ltb}
-use borrow.Author.Rules.{rules}
 use Rattle.text_nodes.proofs.node_of.Goals as goal
 
 pub returns-then-sign-lt4 : goal.returns-then-sign-lt4

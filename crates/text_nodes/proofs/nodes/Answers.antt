@@ -1,6 +1,5 @@
 -- `text_nodes::nodes` meets its contract.
 use native.Mathlib.Omega.{arith}
-use borrow.Author.Rules.{rules}
 use Rattle.text_nodes.proofs.Trees.{listed, listed-taken}
 use Rattle.text_nodes.proofs.nodes.Goals as goal
 

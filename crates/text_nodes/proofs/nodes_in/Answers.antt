@@ -1,11 +1,6 @@
 -- `text_nodes::nodes_in` meets its contract.
-use Prim.Native.Nat.{◌-◌, ◌≤◌}
 use native.Mathlib.Omega.{arith}
-use lib.ListN.{replicate}
-use borrow.Author.Rules.{rules}
-use Rattle.sequences.proofs.Loops.{Filled, filled_none, filled_more}
-use Rattle.meaning.specs.RuleTexts.{node}
-use Rattle.text_nodes.specs.Occurrences.{node_in}
+use Rattle.sequences.proofs.Loops.{filled_none, filled_more}
 use Rattle.text_nodes.proofs.Laws.{filled-front}
 use Rattle.text_nodes.proofs.nodes_in.Goals as goal
 
