@@ -32,6 +32,7 @@ module _ {A : Type 0} where
   In x (y ∷ ys) = (x ≡ y) ⊎ In x ys
 
   in_left : (x : A) (ys zs : List A) → In x ys → In x (ys ++ zs)
+  in_left x [] zs i = elim i [ ]
   in_left x (y ∷ ys) zs (inl e) = inl e
   in_left x (y ∷ ys) zs (inr h) = inr (in_left x ys zs h)
 
@@ -50,6 +51,7 @@ module _ {A : Type 0} where
 
   -- every test of a list, and one of them
   every_in : (p : A → Bool) (ys : List A) → every (map p ys) ≡ true → (x : A) → In x ys → p x ≡ true
+  every_in p [] h x i = elim i [ ]
   every_in p (y ∷ ys) h x i = go (p y) refl h i (λ k j. every_in p ys k x j)
     where
       go : (b : Bool) → p y ≡ b → cond b (every (map p ys)) false ≡ true → In x (y ∷ ys) → (every (map p ys) ≡ true → In x ys → p x ≡ true) → p x ≡ true
@@ -62,6 +64,7 @@ module _ {A : Type 0} where
   in-every p (y ∷ ys) h = rw (h y (inl refl)) (in-every p ys (λ x i. h x (inr i)))
 
 in-keep : (p : ℕ → Bool) (x : ℕ) (ys : List ℕ) → In x ys → p x ≡ true → In x (keep p ys)
+in-keep p x [] i h = elim i [ ]
 in-keep p x (y ∷ ys) i h = go (p y) refl i (λ j. in-keep p x ys j h)
   where
     go : (b : Bool) → p y ≡ b → In x (y ∷ ys) → (In x ys → In x (keep p ys)) → In x (cond b (y ∷ keep p ys) (keep p ys))
@@ -71,6 +74,7 @@ in-keep p x (y ∷ ys) i h = go (p y) refl i (λ j. in-keep p x ys j h)
     go false e (inr j) more = more j
 
 keep-in : (p : ℕ → Bool) (x : ℕ) (ys : List ℕ) → In x (keep p ys) → In x ys × (p x ≡ true)
+keep-in p x [] i = elim i [ ]
 keep-in p x (y ∷ ys) i = go (p y) refl i (λ j. keep-in p x ys j)
   where
     go : (b : Bool) → p y ≡ b → In x (cond b (y ∷ keep p ys) (keep p ys)) → (In x (keep p ys) → In x ys × (p x ≡ true)) → In x (y ∷ ys) × (p x ≡ true)
@@ -84,6 +88,7 @@ in-tab (suc n) f zero l = inl refl
 in-tab (suc n) f (suc i) l = inr (in-tab n (λ k. f (suc k)) i (omega arith))
 
 tab-in : (n : ℕ) (f : ℕ → ℕ) (x : ℕ) → In x (tabulate n f) → (i : ℕ) × (i < n) × (x ≡ f i)
+tab-in zero f x i = elim i [ ]
 tab-in (suc n) f x (inl e) = (0, omega arith, e)
 tab-in (suc n) f x (inr h) = let k = tab-in n (λ i. f (suc i)) x h in (suc k.0, omega (arith, k.1), k.2)
 
@@ -107,18 +112,22 @@ module _ (Σ : Alphabet) (P : ℕ) where
 
   -- a list behind one event, and one in front of which it stands
   in-behind : (e : ℕ) (w : List ℕ) (ws : List (List ℕ)) → In w ws → In (e ∷ w) (map (λ v. e ∷ v) ws)
+  in-behind e w [] i = elim i [ ]
   in-behind e w (v ∷ ws) (inl q) = inl (ap (λ (x : List ℕ). e ∷ x) q)
   in-behind e w (v ∷ ws) (inr h) = inr (in-behind e w ws h)
 
   behind-in : (e : ℕ) (w : List ℕ) (ws : List (List ℕ)) → In w (map (λ v. e ∷ v) ws) → (v : List ℕ) × In v ws × (w ≡ e ∷ v)
+  behind-in e w [] i = elim i [ ]
   behind-in e w (v ∷ ws) (inl q) = (v, inl refl, q)
   behind-in e w (v ∷ ws) (inr h) = let k = behind-in e w ws h in (k.0, inr k.1, k.2)
 
   in-before : (e : ℕ) (w : List ℕ) (es : List ℕ) (ws : List (List ℕ)) → In e es → In w ws → In (e ∷ w) (before es ws)
+  in-before e w [] ws i h = elim i [ ]
   in-before e w (d ∷ es) ws (inl q) h = subst (λ (x : ℕ). In (x ∷ w) (before (d ∷ es) ws)) (sym q) (in_left (d ∷ w) (map (λ v. d ∷ v) ws) (before es ws) (in-behind d w ws h))
   in-before e w (d ∷ es) ws (inr i) h = in_right (e ∷ w) (map (λ v. d ∷ v) ws) (before es ws) (in-before e w es ws i h)
 
   before-in : (w : List ℕ) (es : List ℕ) (ws : List (List ℕ)) → In w (before es ws) → (e : ℕ) × (v : List ℕ) × In e es × In v ws × (w ≡ e ∷ v)
+  before-in w [] ws h = elim h [ ]
   before-in w (d ∷ es) ws h = go (in_either w (map (λ v. d ∷ v) ws) (before es ws) h) (λ i. before-in w es ws i)
     where
       go : In w (map (λ v. d ∷ v) ws) ⊎ In w (before es ws) → (In w (before es ws) → (e : ℕ) × (v : List ℕ) × In e es × In v ws × (w ≡ e ∷ v))

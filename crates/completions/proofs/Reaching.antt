@@ -28,7 +28,6 @@ use Rattle.meaning.specs.declared.Refusal.{Refusal}
 use Rattle.meaning.specs.declared.Refusal.TheVariants.{WrongTable}
 use Rattle.meaning.specs.declared.Seen.{Seen}
 use Rattle.meaning.specs.declared.Shown.{Shown}
-use Rattle.meaning.specs.declared.Shown.TheVariants as Shown
 use Rattle.moore.proofs.Words.{follow-append}
 use Rattle.table_run.proofs.Answers.{on-end}
 use Rattle.state_sets.specs.Sets.{Has, Among, shows_byte, all_show}

@@ -8,13 +8,11 @@ use Rattle.meaning.specs.RuleFiles.{first_of}
 use Rattle.meaning.specs.TableFiles.{alphabet_in, monitor_in}
 use Rattle.meaning.specs.Runs.{on_table}
 use Rattle.meaning.specs.Recordings.{agrees, Completion, completions, joined_list, verdict_over, event_checks}
-use Rattle.meaning.specs.declared.Verdict.{Verdict}
 use Rattle.meaning.specs.declared.Verdict.TheVariants.{Undecided, Satisfied, Violated, Moot}
 use Rattle.meaning.specs.declared.Refusal.{Refusal}
 use Rattle.meaning.specs.declared.Refusal.TheVariants.{WrongTable}
 use Rattle.meaning.specs.declared.Seen.{Seen}
 use Rattle.meaning.specs.declared.Shown.{Shown}
-use Rattle.meaning.specs.declared.Shown.TheVariants as Shown
 use Rattle.state_sets.specs.Sets.{Has, Among, Moved, all_show}
 
 -- no check of the list refuses; and the first that does refuses by x
