@@ -13,7 +13,6 @@ use Rattle.meaning.specs.RuleTexts.{size, rule_of, rule_bytes, any_out_of_range,
 use Rattle.meaning.specs.declared.Refusal.{Refusal}
 use Rattle.meaning.specs.declared.Refusal.TheVariants.{WrongSignals, OutOfRange, EighthTemporal, ShortOutput, TooManyNodes}
 use Rattle.meaning.specs.declared.Written.{Written}
-use Rattle.meaning.specs.declared.Written.TheVariants as Written
 use Rattle.rule_records.proofs.Checks.{Cleared, first-cleared}
 use Rattle.grammar.specs.Signs.{Signs}
 use Rattle.rule_bytes.proofs.RoundTrip.{reads-back}

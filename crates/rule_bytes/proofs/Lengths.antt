@@ -18,11 +18,8 @@ use Rattle.meaning.specs.declared.Header.{Header}
 use Rattle.meaning.specs.declared.Refusal.{Refusal}
 use Rattle.meaning.specs.declared.Refusal.TheVariants.{TrailingBytes}
 use Rattle.meaning.specs.declared.HeaderReading.{HeaderReading}
-use Rattle.meaning.specs.declared.HeaderReading.TheVariants as HeaderReading
 use Rattle.meaning.specs.declared.MaskReading.{MaskReading}
-use Rattle.meaning.specs.declared.MaskReading.TheVariants as MaskReading
 use Rattle.meaning.specs.declared.Reading.{Reading}
-use Rattle.meaning.specs.declared.Reading.TheVariants as Reading
 use Rattle.rule_nodes.proofs.Shapes.{Each, within}
 use Rattle.rule_records.proofs.Records.{header-few, node-told}
 use Rattle.rule_records.proofs.Masks.{mask-near}

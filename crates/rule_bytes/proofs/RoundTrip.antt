@@ -18,7 +18,6 @@ use Rattle.meaning.specs.declared.Refusal.TheVariants.{WrongOperand, OutOfRange,
 use Rattle.meaning.specs.declared.HeaderReading.TheVariants as HeaderReading
 use Rattle.meaning.specs.declared.MaskReading.TheVariants as MaskReading
 use Rattle.meaning.specs.declared.Reading.{Reading}
-use Rattle.meaning.specs.declared.Reading.TheVariants as Reading
 use Rattle.rule_nodes.specs.Shapes.{node_of}
 use Rattle.rule_nodes.proofs.Shapes.{Each, within}
 use Rattle.rule_nodes.proofs.Fits.{length-own}
