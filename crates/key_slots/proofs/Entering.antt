@@ -12,7 +12,6 @@ use Rattle.profile_sets.specs.Arrays.{key_of, WordsFit}
 use Rattle.key_slots.specs.Arrays.{keys_in, KeysFit, slot_of, Slotted}
 use Rattle.key_slots.specs.Answers.{Beyond, Within, EnteredAs, Enters}
 use Rattle.key_slots.specs.declared.Entered.{Entered}
-use Rattle.key_slots.specs.declared.Entered.TheVariants as Entered
 use Rattle.key_slots.proofs.Lists.{front-more, keys-added, locate-is, new-key, slotted-added}
 
 module _ (s count : ℕ) (keys : List (List ℕ)) (key : List ℕ) (i : ℕ) (h : KeysFit count keys) {slots : List ℕ} (slotted : Slotted count keys slots) (at : i ≡ locate eqb s (keys_in count keys) (key_of key)) where

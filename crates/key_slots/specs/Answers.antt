@@ -3,7 +3,6 @@ use Rattle.std.specs.Prelude.{◌≡◌, List, ℕ, ◌<◌, eqb}
 use Rattle.walk.specs.Explore.{Explored, within, beyond, enter}
 use Rattle.key_slots.specs.Arrays.{keys_in, KeysFit, Slotted}
 use Rattle.key_slots.specs.declared.Entered.{Entered}
-use Rattle.key_slots.specs.declared.Entered.TheVariants as Entered
 
 -- the model went beyond the limit
 pub record Beyond {A : Type 0} (m : Explored ℕ A) : Type 0 where

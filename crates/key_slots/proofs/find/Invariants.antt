@@ -1,0 +1,11 @@
+-- `find` meets its contract. The loop goes down the keys of the slot.
+use Prim.Native.Nat.{◌<◌}
+use Rattle.profile_sets.specs.Arrays.{key_of}
+use Rattle.key_slots.proofs.Lists.{Sought}
+use Rattle.key_slots.proofs.find.Given as goal
+
+abbrev pub invariant-loop-i : goal.invariant-loop-i
+invariant-loop-i l = (l.i < 256) × Sought l.count l.keys l.slot (key_of l.key) l.i
+
+abbrev pub decreases-loop-i : goal.decreases-loop-i
+decreases-loop-i l = l.i
