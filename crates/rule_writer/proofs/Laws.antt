@@ -4,8 +4,8 @@
 --     take-few, few-within, record-bytes                      the bytes of one record
 --     wrote-range, -temporal, -short, -file                   the answer and the output, by the checks
 --     file-put                                                the file is the first record and the nodes'
-use mathlib.Core.Path.{◌≡◌, refl, sym, ap, ap₂, ◌∙◌, subst}
-use mathlib.Core.List.{List, [], ◌∷◌, ◌++◌, append_assoc, append-nil}
+use mathlib.Core.Path.{◌≡◌, sym, ap, ap₂, ◌∙◌, subst}
+use mathlib.Core.List.{List, [], ◌∷◌, ◌++◌}
 use mathlib.Core.Bool.{Bool, true, false, cond, not, ◌||◌, or_assoc, or-false}
 use Prim.Native.Nat.{ℕ, ◌+◌, ◌-◌, ◌≤◌, ◌<◌}
 use native.Mathlib.Numerals.{add-one}
@@ -19,7 +19,6 @@ use Rattle.meaning.specs.declared.Node.{Node}
 use Rattle.meaning.specs.declared.Refusal.{Refusal}
 use Rattle.meaning.specs.declared.Refusal.TheVariants.{OutOfRange, EighthTemporal, ShortOutput}
 use Rattle.meaning.specs.declared.Written.{Written}
-use Rattle.meaning.specs.declared.Written.TheVariants as Written
 use Rattle.rule_file.proofs.Nodes.{temporals-more}
 use Rattle.text_pieces.specs.Put.{Put}
 use Rattle.text_pieces.proofs.Laws.{put-more, put_is, put_front}
