@@ -14,7 +14,6 @@ use Rattle.meaning.specs.declared.Refusal.{Refusal}
 use Rattle.meaning.specs.declared.Refusal.TheVariants.{WrongTable}
 use Rattle.meaning.specs.declared.Checked.TheVariants as Checked
 use Rattle.meaning.specs.declared.Shown.{Shown}
-use Rattle.meaning.specs.declared.Shown.TheVariants as Shown
 use Rattle.table_layout.proofs.Form.{event-test, table-counts, table-header, states-some}
 use Rattle.table_run.proofs.Answers.{found, on-way}
 use Rattle.completions.proofs.Members.{complete-all, completion-word}

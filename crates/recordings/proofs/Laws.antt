@@ -20,7 +20,7 @@ use Rattle.sequences.proofs.Loops.{tabulate-snoc}
 use Rattle.sequences.proofs.Tests.{holds, both}
 use Rattle.meaning.specs.Bytes.{bit}
 use Rattle.meaning.specs.Traces.{Alphabet, Event, masked}
-use Rattle.meaning.specs.Monitors.{keep, events}
+use Rattle.meaning.specs.Monitors.{keep}
 use Rattle.meaning.specs.TableFiles.{alphabet_in, counts_tests, row_at}
 use Rattle.meaning.specs.Runs.{in_table, counts_fit}
 use Rattle.meaning.specs.Recordings.{lengths_fit, seen_at, knows, join, joined_at, joined_list, agrees, choices, seen_fits, contradict, event_checks}
@@ -28,7 +28,6 @@ use Rattle.meaning.specs.declared.Refusal.{Refusal}
 use Rattle.meaning.specs.declared.Refusal.TheVariants.{WrongEvent, Contradiction}
 use Rattle.meaning.specs.declared.Seen.{Seen}
 use Rattle.meaning.specs.declared.Shown.{Shown}
-use Rattle.meaning.specs.declared.Shown.TheVariants as Shown
 use Rattle.table_layout.specs.Masks.{MaskIn}
 use Rattle.table_layout.proofs.Form.{counts-few, counts_some, row_inside}
 use Rattle.state_sets.specs.Sets.{Among, Moved}
@@ -37,7 +36,6 @@ use Rattle.completions.proofs.Members.{In, in-choices, choices-in}
 use Rattle.completions.proofs.Reaching.{cleared-none, cleared_more, fault-at, cleared-all, reached-start, reached-more, concluded-right}
 use Rattle.recordings.specs.Hearings.{HearsJoined, Hears}
 use Rattle.recordings.specs.declared.Hearing.{Hearing}
-use Rattle.recordings.specs.declared.Hearing.TheVariants as Hearing
 
 -- ---- choices
 
@@ -53,6 +51,7 @@ same-choices t P mask r h = ap (λ (l : List ℕ). keep (agrees P r) l) (keep_sa
 
 -- the events of a list, by index
 in-among : (l : List ℕ) (e : ℕ) → In e l → Among (length l) l e
+in-among [] e i = elim i [ ]
 in-among (x ∷ l) e (inl q) = (0, omega arith, sym q)
 in-among (x ∷ l) e (inr h) = let k = in-among l e h in (suc k.0, omega (arith, k.1), k.2)
 

@@ -5,10 +5,8 @@ use Rattle.meaning.specs.Recordings.{choices, joined_at, event_checks}
 use Rattle.meaning.specs.declared.Refusal.TheVariants.{WrongTable, WrongEvent}
 use Rattle.meaning.specs.declared.Seen.{Seen}
 use Rattle.meaning.specs.declared.Shown.{Shown}
-use Rattle.meaning.specs.declared.Shown.TheVariants as Shown
 use Rattle.completions.specs.Passing.{Cleared, Fault, Steps}
 use Rattle.recordings.specs.declared.Hearing.{Hearing}
-use Rattle.recordings.specs.declared.Hearing.TheVariants as Hearing
 
 -- what hearing a joined event with index i says
 abbrev pub HearsJoined : List ℕ → ℕ → ℕ → Seen → ℕ → List Bool → List Bool → Hearing → Type 0
