@@ -1,23 +1,19 @@
 -- From the pass over a text and the writing of its nodes to the answer.
 use mathlib.Core.Path.{◌≡◌, refl, sym, ap, ap₂, ◌∙◌, subst}
-use mathlib.Core.Bool.{true, false, not, ◌&&◌}
 use mathlib.Core.List.{List}
 use Prim.Native.Nat.{ℕ, ◌≤◌, ◌<◌}
 use native.Mathlib.Omega.{arith}
 use lib.ListN.{length, take}
 use borrow.Author.Tests.{lt-ltb, le-ltb, lt-leb, le-leb}
-use Rattle.meaning.specs.Grammar.{Tree, Parses, Parsed, Fitting, Outside}
-use Rattle.meaning.specs.RuleTexts.{size, nodes_of, rule_of, rule_bytes, rule_answer, tree_answer, parsed_answer, file_of, output_of}
+use Rattle.meaning.specs.Grammar.{Tree, Parses, Fitting}
+use Rattle.meaning.specs.RuleTexts.{size, nodes_of, rule_of, rule_bytes, rule_answer, tree_answer, output_of}
 use Rattle.meaning.specs.declared.Node.{Node}
 use Rattle.meaning.specs.declared.Refusal.TheVariants.{WrongSignals, WrongText, TooManyNodes}
 use Rattle.meaning.specs.declared.Written.{Written}
-use Rattle.meaning.specs.declared.Written.TheVariants as Written
-use Rattle.grammar.specs.Machine.{operand, seen}
 use Rattle.grammar.specs.Reading.{tree_of, parsed_of}
 use Rattle.grammar.proofs.Texts.{parsed, parsed-fitting, parsed-outside, parses-seen}
 use Rattle.text_scan.specs.declared.Scanned.{Scanned}
 use Rattle.text_scan.specs.declared.Scanned.TheVariants.{Signs}
-use Rattle.text_scan.specs.declared.Scanned.TheVariants as Scanned
 use Rattle.text_scan.specs.Modes.{Whole, Fault, Found}
 use Rattle.meaning.specs.RuleFiles.{Rule}
 use Rattle.grammar.specs.Signs as Trees

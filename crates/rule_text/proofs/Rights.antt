@@ -1,7 +1,7 @@
 -- What the answer says of the text: a written file is that of the one tree with which the text fits, and 15 falls on exactly the texts outside the grammar.
 -- Also: the contract leaves one answer, and how much room is enough.
 use mathlib.Core.Path.{◌≡◌, refl, sym, ap, ap₂, ◌∙◌, subst}
-use mathlib.Core.Logic.{◌⊎◌, inl, inr, ◌↔◌, ⊎_elim}
+use mathlib.Core.Logic.{◌⊎◌, inl, inr, ◌↔◌}
 use mathlib.Core.Bool.{Bool, true, false, cond, not, ◌&&◌}
 use mathlib.Core.List.{List, [], ◌∷◌, ◌++◌}
 use Prim.Native.Nat.{ℕ, ◌≤◌, ◌<◌}
@@ -17,13 +17,12 @@ use Rattle.meaning.specs.RuleTexts.{size, nodes_of, rule_of, rule_bytes, any_out
 use Rattle.meaning.specs.declared.Refusal.{Refusal}
 use Rattle.meaning.specs.declared.Refusal.TheVariants.{WrongSignals, OutOfRange, EighthTemporal, ShortOutput, WrongText, TooManyNodes}
 use Rattle.meaning.specs.declared.Written.{Written}
-use Rattle.meaning.specs.declared.Written.TheVariants as Written
 use Rattle.grammar.proofs.Fitting.{one-tree}
 use Rattle.grammar.specs.Reading.{parsed_of}
 use Rattle.grammar.proofs.Texts.{parsed, parsed-unique}
 use Rattle.grammar.proofs.Trees.{signs_of}
 use Rattle.rule_bytes.proofs.Trees.{tree-formula}
-use Rattle.rule_bytes.proofs.Answers.{AcceptedFile, accepted}
+use Rattle.rule_bytes.proofs.Answers.{accepted}
 use Rattle.rule_bytes.proofs.Lengths.{tree-file}
 use Rattle.rule_text.specs.Writing.{Writes, written_answer, written_after, Typed, Right, longest_file}
 
