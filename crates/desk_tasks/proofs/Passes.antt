@@ -14,7 +14,6 @@ use Rattle.sequences.proofs.Loops.{least-is}
 use Rattle.meaning.specs.Desks.{watch_at}
 use Rattle.meaning.specs.declared.Watch.{Watch}
 use Rattle.watches.specs.Fitting.{fits_in}
-use Rattle.desk_tasks.specs.declared.Request.{Request}
 use Rattle.desk_tasks.specs.declared.Task.{Task}
 use Rattle.desk_tasks.specs.Tasks.{look_of, pass_over}
 

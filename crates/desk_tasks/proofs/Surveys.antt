@@ -2,7 +2,7 @@
 --     begun-upto    a pass looks at no watch past the row
 --     surveyed      a service that was made by a pass over the row
 use mathlib.Core.Path.{◌≡◌, refl, sym, ap, ◌∙◌, subst}
-use mathlib.Core.List.{List, [], ◌∷◌, ◌++◌, map}
+use mathlib.Core.List.{List, [], ◌∷◌, map}
 use mathlib.Core.Bool.{Bool, true, false, cond, not, ◌&&◌}
 use Prim.Native.Nat.{ℕ, ◌≤◌, ◌<◌}
 use native.Mathlib.Omega.{arith}
@@ -12,20 +12,19 @@ use borrow.Author.Tests.{lt-ltb, le-ltb, le-leb, lt-leb, leb-true, ltb-false}
 use lib.Dec.{ltb, leb, eqb}
 use lib.ListN.{length, set}
 use lib.Seq.{set_out}
-use Rattle.sequences.specs.Tabulate.{every, all_below, least_below}
+use Rattle.sequences.specs.Tabulate.{every, least_below}
 use Rattle.sequences.proofs.Pointwise.{least-same}
-use Rattle.sequences.proofs.Pigeonhole.{Least, least-below}
+use Rattle.sequences.proofs.Pigeonhole.{least-below}
 use Rattle.sequences.proofs.Tests.{holds}
 use Rattle.meaning.specs.Bytes.{bit}
 use Rattle.meaning.specs.Traces.{Alphabet, is_event}
 use Rattle.meaning.specs.TableFiles.{alphabet_in, monitor_in}
 use Rattle.meaning.specs.RuleFiles.{first_of}
 use Rattle.meaning.specs.Runs.{end_of, counts_fit, on_table, tested, ran_in}
-use Rattle.meaning.specs.Desks.{Outcome, refused, row_fits, watch_fits, queue, counted, first_wrong, first_foreign, desk_checks, watch_at, oldest, with_event, after, passed, heard_by, post_by, turn_by, post_in, turn_in}
+use Rattle.meaning.specs.Desks.{Outcome, refused, watch_fits, queue, counted, first_wrong, first_foreign, desk_checks, watch_at, oldest, with_event, after, passed, heard_by, post_by, turn_by, post_in, turn_in}
 use Rattle.meaning.specs.declared.Refusal.{Refusal}
-use Rattle.meaning.specs.declared.Refusal.TheVariants.{WrongEvent, WrongState, WrongWatch, WrongTable, WrongDesk, WrongNumber, QueueFull, CountFull, WrongOpening}
+use Rattle.meaning.specs.declared.Refusal.TheVariants.{WrongEvent, WrongState, WrongWatch, WrongTable, WrongNumber, QueueFull, CountFull, WrongOpening}
 use Rattle.meaning.specs.declared.Ran.{Ran}
-use Rattle.meaning.specs.declared.Ran.TheVariants as Ran
 use Rattle.meaning.specs.declared.Watch.{Watch}
 use Rattle.meaning.specs.declared.Served.TheVariants as Served
 use Rattle.event_lists.specs.Masks.{all_in}
@@ -115,13 +114,13 @@ module _ (t : List ℕ) (s : Task) (w : Watch) (i : ℕ) where
       (cond (ltb (cond (not can) 0 1) 1) (Ran.Refused (WrongEvent (cond (not can) 0 1))) (end_of (monitor_in t s.signals s.states) w.state (e ∷ [])))
       (Ran.Refused WrongState))
 
-  by_tests : (inside can way : Bool) → by_tests s w (heard_here t s w i) (not inside) (not can) (not way) ≡ hear_decided s w i (ran_by inside can way)
-  by_tests true true true = refl
-  by_tests true true false = refl
-  by_tests true false true = refl
-  by_tests true false false = refl
-  by_tests false can true = refl
-  by_tests false can false = refl
+  by-tests : (inside can way : Bool) → by_tests s w (heard_here t s w i) (not inside) (not can) (not way) ≡ hear_decided s w i (ran_by inside can way)
+  by-tests true true true = refl
+  by-tests true true false = refl
+  by-tests true false true = refl
+  by-tests true false false = refl
+  by-tests false can true = refl
+  by-tests false can false = refl
 
   -- over the task's own counts
   heard-own : counts_fit t s.signals s.states ≡ true → eqb (bit e s.mask) 1 ≡ is_event (alphabet_in t s.signals) e
@@ -130,7 +129,7 @@ module _ (t : List ℕ) (s : Task) (w : Watch) (i : ℕ) where
   heard-own fit can =
       few-first t s w i (counts-few t s.signals s.states fit)
       ∙ ap (λ (x : Bool). by_tests s w (heard_here t s w i) (not (ltb w.state s.states)) (not x) (not (way_here t s w i))) can
-      ∙ by_tests (ltb w.state s.states) (is_event (alphabet_in t s.signals) e) (way_here t s w i)
+      ∙ by-tests (ltb w.state s.states) (is_event (alphabet_in t s.signals) e) (way_here t s w i)
       ∙ ap (λ (b : Bool). hear_decided s w i (cond b (ran_by (ltb w.state s.states) (is_event (alphabet_in t s.signals) e) (way_here t s w i)) (Ran.Refused WrongTable))) (sym fit)
 
   heard-so : (P S : ℕ) → s.signals ≡ P → s.states ≡ S → counts_fit t P S ≡ true → eqb (bit e s.mask) 1 ≡ is_event (alphabet_in t P) e

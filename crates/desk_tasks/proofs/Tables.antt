@@ -19,7 +19,6 @@ use Rattle.meaning.specs.Desks.{Outcome, refused, desk_checks, watch_at, oldest,
 use Rattle.meaning.specs.declared.Refusal.{Refusal}
 use Rattle.meaning.specs.declared.Refusal.TheVariants.{WrongTable}
 use Rattle.meaning.specs.declared.Checked.{Checked}
-use Rattle.meaning.specs.declared.Checked.TheVariants as Checked
 use Rattle.meaning.specs.declared.Ran.{Ran}
 use Rattle.meaning.specs.declared.Served.TheVariants as Served
 use Rattle.meaning.specs.declared.Watch.{Watch}

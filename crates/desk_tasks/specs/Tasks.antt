@@ -10,7 +10,6 @@ use Rattle.meaning.specs.declared.Refusal.{Refusal}
 use Rattle.meaning.specs.declared.Refusal.TheVariants.{WrongEvent, WrongState, WrongWatch, WrongTable, WrongDesk, WrongNumber, QueueFull, CountFull, WrongOpening}
 use Rattle.meaning.specs.declared.Verdict.{Verdict}
 use Rattle.meaning.specs.declared.Ran.{Ran}
-use Rattle.meaning.specs.declared.Ran.TheVariants as Ran
 use Rattle.meaning.specs.declared.Watch.{Watch}
 use Rattle.meaning.specs.declared.Served.TheVariants as Served
 use Rattle.table_layout.specs.Masks.{MaskIn}
@@ -20,7 +19,6 @@ use Rattle.desk_tasks.specs.declared.Request.TheVariants.{Post, Turn}
 use Rattle.desk_tasks.specs.declared.Task.{Task}
 use Rattle.desk_tasks.specs.declared.Service.{Service}
 use Rattle.desk_tasks.specs.declared.Check.{Check}
-use Rattle.desk_tasks.specs.declared.Check.TheVariants as Check
 
 -- the number after which a turn begins
 abbrev pub last_in : Request → ℕ
