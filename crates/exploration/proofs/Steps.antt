@@ -17,12 +17,10 @@ use Rattle.profile_sets.specs.Arrays.{key_of}
 use Rattle.key_slots.specs.Arrays.{keys_in, KeysFit, Slotted}
 use Rattle.key_slots.specs.Answers.{Beyond, Within, EnteredAs, Enters}
 use Rattle.key_slots.specs.declared.Entered.{Entered}
-use Rattle.key_slots.specs.declared.Entered.TheVariants as Entered
 use Rattle.key_slots.proofs.Lists.{front-more}
 use Rattle.exploration.specs.Rows.{row_in, rows_in}
 use Rattle.exploration.specs.Answers.{visit_key, expand_key, explore_keys, Visits, GrownAs, Ended, WalkedAs}
 use Rattle.exploration.specs.declared.Grown.{Grown}
-use Rattle.exploration.specs.declared.Grown.TheVariants as Grown
 
 -- ---- one entry
 

@@ -8,7 +8,6 @@ use Rattle.key_slots.specs.Answers.{Beyond, Within, EnteredAs}
 use Rattle.key_slots.specs.declared.Entered.{Entered}
 use Rattle.exploration.specs.Rows.{row_in}
 use Rattle.exploration.specs.declared.Grown.{Grown}
-use Rattle.exploration.specs.declared.Grown.TheVariants as Grown
 
 -- the walk over the keys of the tables, with the events that can happen and at most 256 keys
 abbrev pub visit_key : Tables → Alphabet → ℕ → ℕ → List ℕ → Explored ℕ ℕ
