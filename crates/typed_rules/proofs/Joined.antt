@@ -1,5 +1,5 @@
 -- Text, file and table joined: building the file that was written for a text has demands 2 and 3 of what was typed.
-use mathlib.Core.Path.{◌≡◌, refl, sym, ap, ◌∙◌, subst}
+use mathlib.Core.Path.{◌≡◌, refl, ap, subst}
 use mathlib.Core.Logic.{◌⊎◌, ◌↔◌}
 use mathlib.Core.List.{List}
 use Prim.Native.Nat.{ℕ, ◌≤◌}
@@ -12,23 +12,18 @@ use Rattle.meaning.specs.Monitors.{Monitor, Over, shows, ShowsVerdicts, Renumber
 use Rattle.meaning.specs.TableFiles.{states_in, monitor_of}
 use Rattle.meaning.specs.Refusals.{code_of}
 use Rattle.meaning.specs.RuleFiles.{Rule, property_of, rule_formula, judge}
-use Rattle.meaning.specs.Grammar.{Tree, Fits}
+use Rattle.meaning.specs.Grammar.{Tree}
 use Rattle.meaning.specs.RuleTexts.{tree_formula, rule_of}
-use Rattle.meaning.specs.Demands.{Reads, Demand2, Demand3}
 use Rattle.meaning.specs.declared.Verdict.{Verdict}
-use Rattle.meaning.specs.declared.Refusal.{Refusal}
 use Rattle.meaning.specs.declared.Built.{Built}
-use Rattle.meaning.specs.declared.Built.TheVariants as Built
 use Rattle.meaning.specs.declared.Written.TheVariants as Written
-use Rattle.ltl.proofs.Instance.{ltl_system}
-use Rattle.smallest.specs.Builder.{Built as BuiltBy}
 use Rattle.building.specs.Build as build
 use Rattle.building.proofs.Right.{our-demands, right}
 use Rattle.grammar.proofs.Trees.{signs_of}
 use Rattle.rule_bytes.proofs.Trees.{tree-formula}
 use Rattle.rule_text.specs.Writing as text
 use Rattle.rule_text.proofs.Rights as rights
-use Rattle.typed_rules.specs.Typed.{typed, TableOf, TypedTable, TypedRefused, TypedRight}
+use Rattle.typed_rules.specs.Typed.{typed, TableOf, TypedTable, TypedRight}
 
 -- the property of the written rule is what was typed
 property-is : (P : ℕ) (t : Tree) → rule_formula (rule_of P t) ≡ tree_formula t → property_of (rule_of P t) ≡ typed t

@@ -11,7 +11,6 @@ use Rattle.meaning.specs.RuleTexts.{tree_formula, rule_of}
 use Rattle.meaning.specs.Demands.{Reads}
 use Rattle.meaning.specs.declared.Verdict.{Verdict}
 use Rattle.meaning.specs.declared.Built.{Built}
-use Rattle.meaning.specs.declared.Built.TheVariants as Built
 use Rattle.ltl.proofs.Instance.{ltl_system}
 use Rattle.smallest.specs.Builder.{Built as BuiltBy}
 use Rattle.building.specs.Build.{NoRoom}
