@@ -1,0 +1,14 @@
+-- `realizability::any_in_core` meets its contract. The loop's invariant: none of the labels passed is reached in the core.
+use mathlib.Core.Bool.{false}
+use Prim.Native.Nat.{◌-◌, ◌≤◌}
+use lib.ListN.{get_or}
+use Rattle.relations.proofs.Searches.{NoneBelow}
+use Rattle.relations.specs.Relations.{entry}
+use Rattle.realizability.specs.Core.{to_core_by}
+use Rattle.realizability.proofs.any_in_core.Given as goal
+
+abbrev pub invariant-loop-c : goal.invariant-loop-c
+invariant-loop-c l = (l.c ≤ l.labels) × NoneBelow l.c (to_core_by (entry l.rows) (λ i. get_or l.core i false) l.x)
+
+abbrev pub decreases-loop-c : goal.decreases-loop-c
+decreases-loop-c l = l.labels - l.c
