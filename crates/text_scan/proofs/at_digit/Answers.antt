@@ -16,4 +16,4 @@ pub returns-in-51 : goal.returns-in-51
 returns-in-51 c = record { is = rw c.in-51.is; known = omega arith; near = omega arith }
 
 pub returns-in_default : goal.returns-in_default
-returns-in_default c = record { is = rw (ne_eqb _ _ c.in_default.in_default-own.rest.0.0.0.1, ne_eqb _ _ c.in_default.in_default-own.rest.0.0.1, ne_eqb _ _ c.in_default.in_default-own.rest.0.1, ne_eqb _ _ c.in_default.in_default-own.rest.1); known = omega arith; near = omega arith }
+returns-in_default c = record { is = rw (ne_eqb c.args.b 48 (omega arith), ne_eqb c.args.b 49 (omega arith), ne_eqb c.args.b 50 (omega arith), ne_eqb c.args.b 51 (omega arith)); known = omega arith; near = omega arith }

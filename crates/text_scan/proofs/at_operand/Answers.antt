@@ -34,15 +34,15 @@ returns-in-102 c = record { is = rw c.in-102.is; known = omega arith; near = ome
 pub returns-in_default : goal.returns-in_default
 returns-in_default c = record {
   is = rw (
-    ne_eqb _ _ c.in_default.in_default-own.rest.0.0.0.0.0.0.0.0.1,
-    ne_eqb _ _ c.in_default.in_default-own.rest.0.0.0.0.0.0.0.1,
-    ne_eqb _ _ c.in_default.in_default-own.rest.0.0.0.0.0.0.1,
-    ne_eqb _ _ c.in_default.in_default-own.rest.0.0.0.0.0.1,
-    ne_eqb _ _ c.in_default.in_default-own.rest.0.0.0.0.1,
-    ne_eqb _ _ c.in_default.in_default-own.rest.0.0.0.1,
-    ne_eqb _ _ c.in_default.in_default-own.rest.0.0.1,
-    ne_eqb _ _ c.in_default.in_default-own.rest.0.1,
-    ne_eqb _ _ c.in_default.in_default-own.rest.1,
+    ne_eqb c.args.b 32 (omega arith),
+    ne_eqb c.args.b 33 (omega arith),
+    ne_eqb c.args.b 88 (omega arith),
+    ne_eqb c.args.b 70 (omega arith),
+    ne_eqb c.args.b 71 (omega arith),
+    ne_eqb c.args.b 40 (omega arith),
+    ne_eqb c.args.b 115 (omega arith),
+    ne_eqb c.args.b 116 (omega arith),
+    ne_eqb c.args.b 102 (omega arith),
   );
   known = omega arith;
   near = omega arith;

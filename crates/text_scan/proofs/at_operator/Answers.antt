@@ -34,14 +34,14 @@ returns-in-60 c = record { is = rw c.in-60.is; known = omega arith; near = omega
 pub returns-in_default : goal.returns-in_default
 returns-in_default c = record {
   is = rw (
-    ne_eqb _ _ c.in_default.in_default-own.rest.0.0.0.0.0.0.0.1,
-    ne_eqb _ _ c.in_default.in_default-own.rest.0.0.0.0.0.0.1,
-    ne_eqb _ _ c.in_default.in_default-own.rest.0.0.0.0.0.1,
-    ne_eqb _ _ c.in_default.in_default-own.rest.0.0.0.0.1,
-    ne_eqb _ _ c.in_default.in_default-own.rest.0.0.0.1,
-    ne_eqb _ _ c.in_default.in_default-own.rest.0.0.1,
-    ne_eqb _ _ c.in_default.in_default-own.rest.0.1,
-    ne_eqb _ _ c.in_default.in_default-own.rest.1,
+    ne_eqb c.args.b 32 (omega arith),
+    ne_eqb c.args.b 41 (omega arith),
+    ne_eqb c.args.b 85 (omega arith),
+    ne_eqb c.args.b 38 (omega arith),
+    ne_eqb c.args.b 94 (omega arith),
+    ne_eqb c.args.b 124 (omega arith),
+    ne_eqb c.args.b 45 (omega arith),
+    ne_eqb c.args.b 60 (omega arith),
   );
   known = omega arith;
   near = omega arith;
