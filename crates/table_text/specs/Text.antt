@@ -8,7 +8,6 @@ use Rattle.meaning.specs.declared.Refusal.TheVariants.{ShortOutput, WrongTable}
 use Rattle.text_pieces.specs.Put.{at_front}
 use Rattle.text_pieces.specs.Decimal.{decimal}
 use Rattle.text_pieces.specs.declared.Text.{Text}
-use Rattle.text_pieces.specs.declared.Text.TheVariants as Text
 
 -- "undecided", "satisfied", "violated", "moot"
 abbrev pub word : Verdict → List ℕ
