@@ -1,5 +1,4 @@
 -- `text_scan::advance` meets its contract.
-use Rattle.text_scan.proofs.Laws.{last-mode}
 use native.Mathlib.Omega.{arith}
 use mathlib.Core.Path.{◌≡◌}
 use Rattle.text_scan.proofs.advance.Goals as goal
