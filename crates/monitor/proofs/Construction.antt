@@ -9,7 +9,6 @@ use Rattle.meaning.specs.RuleFiles.{Rule, alphabet_of, Judgement}
 use Rattle.meaning.specs.declared.Node.{Node}
 use Rattle.meaning.specs.declared.Refusal.TheVariants.{TooManyResiduals}
 use Rattle.meaning.specs.declared.Built.{Built}
-use Rattle.meaning.specs.declared.Built.TheVariants as Built
 use Rattle.walk.specs.Explore.{Explored, within, beyond}
 use Rattle.moore.specs.Grouping.{Machine}
 use Rattle.smallest.proofs.Extensional.{Agree}

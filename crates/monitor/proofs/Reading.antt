@@ -11,7 +11,6 @@ use Rattle.meaning.specs.declared.Refusal.{Refusal}
 use Rattle.rule_file.specs.Reading.{read_of, padded, blank}
 use Rattle.rule_file.specs.declared.answer.Read.{Read}
 use Rattle.rule_file.specs.declared.answer.Outcome.{Outcome}
-use Rattle.rule_file.specs.declared.answer.Outcome.TheVariants as Outcome
 use Rattle.smallest.proofs.Accepted.{Formed, accepted-formed}
 use Rattle.rule_file.specs.Reading.{rule_in}
 

@@ -9,7 +9,6 @@ use Rattle.meaning.specs.Traces.{masked}
 use Rattle.meaning.specs.RuleFiles.{Rule, alphabet_of, Judgement}
 use Rattle.meaning.specs.TableFiles.{table_length}
 use Rattle.meaning.specs.declared.Built.{Built}
-use Rattle.meaning.specs.declared.Built.TheVariants as Built
 use Rattle.meaning.specs.declared.Refusal.TheVariants.{ShortOutput}
 use Rattle.moore.specs.Grouping.{entry, grouping}
 use Rattle.moore.specs.Quotient.{size, verdicts, quotient_rows}
