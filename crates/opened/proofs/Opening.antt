@@ -17,7 +17,6 @@ use Rattle.meaning.specs.declared.State.{State}
 use Rattle.meaning.specs.declared.Arrived.{Arrived}
 use Rattle.meaning.specs.declared.Watch.{Watch}
 use Rattle.meaning.specs.declared.Checked.{Checked}
-use Rattle.meaning.specs.declared.Checked.TheVariants as Checked
 use Rattle.table_layout.proofs.Form.{event-test, states-some, table-header, table-inside}
 use Rattle.table_run.proofs.Answers.{row-table, row-refused}
 use Rattle.openings.specs.Steps.{state_after, stepped_in}

@@ -8,7 +8,6 @@ use Rattle.meaning.specs.Desks.{Outcome, fresh_in, post_in, turn_in}
 use Rattle.meaning.specs.Recordings.{judged_in}
 use Rattle.meaning.specs.declared.Refusal.TheVariants.{WrongTable}
 use Rattle.meaning.specs.declared.Checked.{Checked}
-use Rattle.meaning.specs.declared.Checked.TheVariants as Checked
 use Rattle.meaning.specs.declared.State.{State}
 use Rattle.meaning.specs.declared.Arrived.{Arrived}
 use Rattle.meaning.specs.declared.Shown.{Shown}
