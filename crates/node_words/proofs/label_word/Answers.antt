@@ -1,7 +1,7 @@
 -- `node_words::label_word` meets its contract. Each constant is checked at all 64 labels of both halves.
 use native.Mathlib.Omega.{arith}
+use Prim.Native.Nat.{◌≤◌}
 use Rattle.node_words.proofs.Lanewise.{bits_at, bits-top, bits-past}
-use Rattle.node_words.proofs.Lanes.{past}
 use mathlib.Core.Path.{refl}
 use Rattle.node_words.proofs.label_word.Goals as goal
 
@@ -27,11 +27,6 @@ pub returns-in-6 : goal.returns-in-6
 returns-in-6 c = bits-top c.args.high c.args.j _ c.in-6.is c.everywhere.ensures
 
 pub returns-in_default : goal.returns-in_default
-returns-in_default c = let from1 = past 0 c.args.j (omega arith) c.in_default.in_default-own.rest.0.0.0.0.0.0.1 in
-    let from2 = past 1 c.args.j from1 c.in_default.in_default-own.rest.0.0.0.0.0.1 in
-    let from3 = past 2 c.args.j from2 c.in_default.in_default-own.rest.0.0.0.0.1 in
-    let from4 = past 3 c.args.j from3 c.in_default.in_default-own.rest.0.0.0.1 in
-    let from5 = past 4 c.args.j from4 c.in_default.in_default-own.rest.0.0.1 in
-    let from6 = past 5 c.args.j from5 c.in_default.in_default-own.rest.0.1 in
-    let from7 = past 6 c.args.j from6 c.in_default.in_default-own.rest.1 in
+returns-in_default c =
+    let from7 : 7 ≤ c.args.j = omega arith in
     bits-past c.args.high c.args.j from7

@@ -1,6 +1,7 @@
 -- `node_words::node_words` meets its contract. An arm for each kind; a kind past the last is false.
 use native.Mathlib.Omega.{arith}
-use Rattle.node_words.proofs.Lanes.{past, no_kind, falsum-words, verum-words, signal-words, at-least-words, neg-words, and-words, or-words, implies-words, iff-words, xor-words, next-words, until-words, eventually-words, always-words}
+use Prim.Native.Nat.{◌≤◌}
+use Rattle.node_words.proofs.Lanes.{no_kind, falsum-words, verum-words, signal-words, at-least-words, neg-words, and-words, or-words, implies-words, iff-words, xor-words, next-words, until-words, eventually-words, always-words}
 use Rattle.node_words.proofs.Lanewise.{every-is}
 use Rattle.node_words.proofs.node_words.Goals as goal
 
@@ -49,18 +50,6 @@ pub returns-in-13 : goal.returns-in-13
 returns-in-13 c = always-words c.args.event c.args.a c.args.b c.args.x c.args.n c.in-13.is _ c.flip-in-13.ensures c.promise-in-13.ensures
 
 pub returns-in_default : goal.returns-in_default
-returns-in_default c = let from1 = past 0 c.args.n.kind (omega arith) c.in_default.in_default-own.rest.0.0.0.0.0.0.0.0.0.0.0.0.0.1 in
-    let from2 = past 1 c.args.n.kind from1 c.in_default.in_default-own.rest.0.0.0.0.0.0.0.0.0.0.0.0.1 in
-    let from3 = past 2 c.args.n.kind from2 c.in_default.in_default-own.rest.0.0.0.0.0.0.0.0.0.0.0.1 in
-    let from4 = past 3 c.args.n.kind from3 c.in_default.in_default-own.rest.0.0.0.0.0.0.0.0.0.0.1 in
-    let from5 = past 4 c.args.n.kind from4 c.in_default.in_default-own.rest.0.0.0.0.0.0.0.0.0.1 in
-    let from6 = past 5 c.args.n.kind from5 c.in_default.in_default-own.rest.0.0.0.0.0.0.0.0.1 in
-    let from7 = past 6 c.args.n.kind from6 c.in_default.in_default-own.rest.0.0.0.0.0.0.0.1 in
-    let from8 = past 7 c.args.n.kind from7 c.in_default.in_default-own.rest.0.0.0.0.0.0.1 in
-    let from9 = past 8 c.args.n.kind from8 c.in_default.in_default-own.rest.0.0.0.0.0.1 in
-    let from10 = past 9 c.args.n.kind from9 c.in_default.in_default-own.rest.0.0.0.0.1 in
-    let from11 = past 10 c.args.n.kind from10 c.in_default.in_default-own.rest.0.0.0.1 in
-    let from12 = past 11 c.args.n.kind from11 c.in_default.in_default-own.rest.0.0.1 in
-    let from13 = past 12 c.args.n.kind from12 c.in_default.in_default-own.rest.0.1 in
-    let from14 = past 13 c.args.n.kind from13 c.in_default.in_default-own.rest.1 in
+returns-in_default c =
+    let from14 : 14 ≤ c.args.n.kind = omega arith in
     no_kind c.args.event c.args.a c.args.b c.args.x c.args.n from14 c.plain-in_default.ensures
