@@ -2,7 +2,7 @@
 --     Tabled, tabled          a table was built, and its text is the rule file's
 --     refused-text            building refused, and never by 10: the refusal's line is the rule file's text
 --     table-, line-answer     the answers and outputs of the two texts are those of printing
---     table-, line_after
+--     table-, line-after
 use mathlib.Core.Path.{◌≡◌, refl, sym, ap, subst, ◌∙◌}
 use mathlib.Core.List.{List, ◌++◌}
 use mathlib.Core.Bool.{Bool, true, false, cond}
@@ -18,7 +18,6 @@ use Rattle.meaning.specs.Demands.{Reads}
 use Rattle.meaning.specs.declared.Refusal.{Refusal}
 use Rattle.meaning.specs.declared.Refusal.TheVariants.{ShortOutput}
 use Rattle.meaning.specs.declared.Built.{Built}
-use Rattle.meaning.specs.declared.Built.TheVariants as Built
 use Rattle.smallest.specs.Table.{Outcome, Table, TooMany}
 use Rattle.building.specs.Build.{outcome_of, answer_to, output_of, answer_of, output_after, Right}
 use Rattle.building.proofs.Right.{our-demands, built-by}
@@ -102,5 +101,5 @@ module _ (file out : List ℕ) where
     pub line-answer : line_answer x out ≡ print_answer file out
     line-answer = rw (le-leb 64 (length out) (omega arith), le-leb 32768 (length out) long, e)
 
-    pub line_after : line_after x out ≡ print_after file out
-    line_after = rw (le-leb 64 (length out) (omega arith), le-leb 32768 (length out) long, e)
+    pub line-after : line_after x out ≡ print_after file out
+    line-after = rw (le-leb 64 (length out) (omega arith), le-leb 32768 (length out) long, e)

@@ -7,7 +7,6 @@ use Rattle.building.specs.Build.{outcome_of}
 use Rattle.text_pieces.specs.Put.{at_front}
 use Rattle.text_pieces.specs.RefusalLine.{refusal_text}
 use Rattle.text_pieces.specs.declared.Text.{Text}
-use Rattle.text_pieces.specs.declared.Text.TheVariants as Text
 use Rattle.table_text.specs.Text.{text_of}
 
 -- the text of what building comes to, given a long enough buffer
