@@ -47,7 +47,10 @@ fn say_row<W: Write>(to: &mut W, t: &[u8], signals: u8, state: u16) -> io::Resul
     let n = events::width(signals);
     let mut e: u8 = 0;
     while wire::wide(e) < n {
-        say_number(to, wire::wide16(table_layout::successor_at(t, signals, state, e)))?;
+        say_number(
+            to,
+            wire::wide16(table_layout::successor_at(t, signals, state, e)),
+        )?;
         say(to, b" ")?;
         e += 1;
     }
