@@ -24,9 +24,5 @@ bounds-out-next t c = omega (arith, decimal-length c.args.n (omega (arith, c.if-
 pub overflow_add-result-2 : goal.overflow_add-result-2
 overflow_add-result-2 t c = omega (arith, decimal-length c.args.n (omega (arith, c.if-n-lt10.false)))
 
--- UNMAPPED
--- same-length-2 : (t : ℕ) → put-decimal-lts.Need-same-length-2 (calls t) (put-decimal-at t) put-decimal.Post
--- same-length-2 t c = simp length-set c.before.before.before.put-decimal.auto.0
-
 pub returns : goal.returns
 returns t c = decimal-more-put c.args.n _ (omega (arith, c.if-n-lt10.false)) c.digit-2.ensures c.put_decimal-next.ensures

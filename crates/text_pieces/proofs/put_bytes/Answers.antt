@@ -13,9 +13,5 @@ bounds-out-at c = omega (arith, put-length c.loop-i.invariant.1)
 pub loop-i-preserved : goal.loop-i-preserved
 loop-i-preserved c = (search rules, bytes-more c.args.out.now c.args.bytes.now _ c.args.at c.loop-i.i c.loop-i-test.true c.loop-i.invariant.1)
 
--- UNMAPPED
--- same_length : tie.Need-same-length invariant-loop decreases-loop
--- same_length c = put-length c.before.loop.invariant.1
-
 pub returns : goal.returns
 returns c = bytes-all c.args.out.now c.args.bytes.now _ c.args.at c.loop-i.i _ (omega arith) c.loop-i.invariant.1
