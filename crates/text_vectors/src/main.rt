@@ -66,7 +66,12 @@ fn case<R: Read, W: Write>(
     if rule.len() < k {
         return Ok(false);
     }
-    say_case(out, front(text, n), wire::byte_at(signals, 0), part(rule, k))?;
+    say_case(
+        out,
+        front(text, n),
+        wire::byte_at(signals, 0),
+        part(rule, k),
+    )?;
     Ok(true)
 }
 
