@@ -8,10 +8,6 @@ use Rattle.group_slots.specs.Groups.{unmasked}
 use Rattle.group_slots.proofs.Slots.{left-none, left-same}
 use Rattle.group_slots.proofs.least_by_slot.Goals as goal
 
-pub returns-then-i-eq0 : goal.returns-then-i-eq0
-returns-then-i-eq0 c = let first : 0 ≡ c.args.i = omega (arith, c.if-i-eq0.true) in
-    ap (λ (i : ℕ). least_below i (λ k. same_step (unmasked c.args.events) c.args.rows.now c.args.group.now k c.args.i)) first
-
 pub same_step-requires : goal.same_step-requires
 same_step-requires c = (c.requires.events_bound.0, omega arith, c.requires.events_bound.1)
 

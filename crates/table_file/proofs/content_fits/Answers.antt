@@ -15,12 +15,6 @@ use Rattle.table_file.specs.Successors.{fits_by}
 use Rattle.table_file.proofs.Checking.{successors-by}
 use Rattle.table_file.proofs.content_fits.Goals as goal
 
-pub returns-then-byte_at-gt3 : goal.returns-then-byte_at-gt3
-returns-then-byte_at-gt3 c = let byte : c.byte_at.result ≡ verdict_byte c.args.t.now c.args.signals c.args.state
-    = c.byte_at.ensures ∙ ap (λ (n : ℕ). get_or c.args.t.now (n + 4) 0) c.row_at-at.ensures.0 in
-    let h : leb (verdict_byte c.args.t.now c.args.signals c.args.state) 3 ≡ false = lt-leb (verdict_byte c.args.t.now c.args.signals c.args.state) 3 (omega (arith, c.if-byte_at-gt3.true, byte)) in
-    rw h
-
 pub returns-then-mask-eq0 : goal.returns-then-mask-eq0
 returns-then-mask-eq0 c = sym (fails (content_tests c.args.t.now c.args.signals c.args.states c.args.state) 1 (no-event c.requires.2 (omega (arith, c.if-mask-eq0.true))))
 
@@ -28,7 +22,7 @@ pub returns : goal.returns
 returns c = let place : c.row_at-at.result ≡ row_at c.args.signals c.args.state = c.row_at-at.ensures.0 in
     let byte : c.byte_at.result ≡ verdict_byte c.args.t.now c.args.signals c.args.state
     = c.byte_at.ensures ∙ ap (λ (n : ℕ). get_or c.args.t.now (n + 4) 0) place in
-    let h : leb (verdict_byte c.args.t.now c.args.signals c.args.state) 3 ≡ true = le-leb (verdict_byte c.args.t.now c.args.signals c.args.state) 3 (omega (arith, c.if-byte_at-gt3.false, byte)) in
+    let h : leb (verdict_byte c.args.t.now c.args.signals c.args.state) 3 ≡ true = le-leb (verdict_byte c.args.t.now c.args.signals c.args.state) 3 (omega (arith, byte)) in
     let some : event_left c.args.t.now c.args.signals ≡ true = some-event c.requires.2 (omega arith) (λ z. omega (arith, z, c.if-mask-eq0.false)) in
     rw (h, some)
     (c.successors_fit.ensures
