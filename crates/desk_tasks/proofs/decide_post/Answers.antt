@@ -13,27 +13,20 @@ returns-then-length-number c = rw (le-leb c.args.s.length c.args.number (omega (
 pub returns-then-not-can_happen : goal.returns-then-not-can_happen
 returns-then-not-can_happen c = rw (lt-leb c.args.s.length c.args.number (omega (arith, c.if-length-number.false)), barred c.args.s.mask c.args.event c.wide.ensures.0 c.can_happen.ensures (ap not c.if-not-can_happen.true)) c.refuse-then-not-can_happen.ensures
 
-pub returns-then-waiting-ge32 : goal.returns-then-waiting-ge32
-returns-then-waiting-ge32 c = rw (lt-leb c.args.s.length c.args.number (omega (arith, c.if-length-number.false)), barred c.args.s.mask c.args.event c.wide.ensures.0 c.can_happen.ensures (ap not c.if-not-can_happen.false), le-leb 32 c.args.w.waiting (omega (arith, c.if-waiting-ge32.true)))
-    c.refuse-then-waiting-ge32.ensures
-
 pub returns-then-count_of-eq4294967295 : goal.returns-then-count_of-eq4294967295
 returns-then-count_of-eq4294967295 c = rw (
   lt-leb c.args.s.length c.args.number (omega (arith, c.if-length-number.false)),
   barred c.args.s.mask c.args.event c.wide.ensures.0 c.can_happen.ensures (ap not c.if-not-can_happen.false),
-  lt-leb 32 c.args.w.waiting (omega (arith, c.if-waiting-ge32.false)),
+  lt-leb 32 c.args.w.waiting (omega arith),
   eq-eqb (counted c.args.w) 4294967295 (omega (arith, c.if-count_of-eq4294967295.true, c.count_of.ensures)),
 )
     c.refuse-then-count_of-eq4294967295.ensures
-
-pub with_event-watch-requires : goal.with_event-watch-requires
-with_event-watch-requires c = omega (arith, c.if-waiting-ge32.false)
 
 pub returns : goal.returns
 returns c = rw (
   c.with_event-watch.ensures,
   lt-leb c.args.s.length c.args.number (omega (arith, c.if-length-number.false)),
   barred c.args.s.mask c.args.event c.wide.ensures.0 c.can_happen.ensures (ap not c.if-not-can_happen.false),
-  lt-leb 32 c.args.w.waiting (omega (arith, c.if-waiting-ge32.false)),
+  lt-leb 32 c.args.w.waiting (omega arith),
   ne_eqb (counted c.args.w) 4294967295 (λ e. c.if-count_of-eq4294967295.false (c.count_of.ensures ∙ e)),
 )

@@ -11,11 +11,8 @@ use Rattle.text_pieces.proofs.Laws.{put-more, put_is, put_front}
 use Rattle.refusal_words.specs.Words.{words_for, words_of}
 use Rattle.refusal_words.proofs.words.Goals as goal
 
-pub returns-then-out-lt128 : goal.returns-then-out-lt128
-returns-then-out-lt128 c = let l = lt-leb 128 (length c.args.out.now) c.if-out-lt128.true in record { answer = rw l; output = rw l }
-
 pub returns : goal.returns
 returns c = let sentence = put_is c.put_words-n.ensures.put (words_for (code_of c.args.refusal).0) (ap words_for c.number.ensures) in
     let h = put-more sentence c.put_bytes-end.ensures in
-    let inside : c.put_bytes-end.result ≤ length c.args.out.now = omega (arith, c.put_words-n.ensures.upper_bound, c.put_bytes-end.ensures.next, c.if-out-lt128.false) in
-    let room = le-leb 128 (length c.args.out.now) c.if-out-lt128.false in record { answer = rw room (ap Text.Written (h.next ∙ zero-add (length (words_of c.args.refusal)))); output = rw room (put_front h inside) }
+    let inside : c.put_bytes-end.result ≤ length c.args.out.now = omega (arith, c.put_words-n.ensures.upper_bound, c.put_bytes-end.ensures.next) in
+    let room = le-leb 128 (length c.args.out.now) (omega arith) in record { answer = rw room (ap Text.Written (h.next ∙ zero-add (length (words_of c.args.refusal)))); output = rw room (put_front h inside) }

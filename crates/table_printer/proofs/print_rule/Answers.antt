@@ -8,9 +8,6 @@ use borrow.Author.Tests.{lt-leb}
 use Rattle.table_printer.proofs.Texts.{tabled, refused-text, table-answer, table-after, line-answer, line-after}
 use Rattle.table_printer.proofs.print_rule.Goals as goal
 
-pub returns-then-text-lt32768 : goal.returns-then-text-lt32768
-returns-then-text-lt32768 c = let l = lt-leb 32768 (length c.args.text.now) (omega (arith, c.if-text-lt32768.true)) in record { answer = rw l; output = rw l }
-
 pub slice_bounds-table-end : goal.slice_bounds-table-end
 slice_bounds-table-end c = (tabled c.args.rule.now c.room-table.result c.build-built.new.table c.build-built.result c.in-Table.n
     c.build-built.ensures.answer c.build-built.ensures.output c.build-built.ensures.demands c.in-Table.is
@@ -27,4 +24,4 @@ returns-in-Table c = let h = tabled c.args.rule.now c.room-table.result c.build-
 
 pub returns-in-Refused : goal.returns-in-Refused
 returns-in-Refused c = let e = refused-text c.args.rule.now c.room-table.result (omega (arith, c.room-table.ensures)) c.in-Refused.why (sym c.build-built.ensures.answer ∙ c.in-Refused.is) in
-    let long : 32768 ≤ length c.args.text.now = omega (arith, c.if-text-lt32768.false) in record { answer = c.refusal_text.ensures.value ∙ line-answer c.args.rule.now c.args.text.now c.in-Refused.why long e; output = c.refusal_text.ensures.out_after ∙ line-after c.args.rule.now c.args.text.now c.in-Refused.why long e }
+    let long : 32768 ≤ length c.args.text.now = omega arith in record { answer = c.refusal_text.ensures.value ∙ line-answer c.args.rule.now c.args.text.now c.in-Refused.why long e; output = c.refusal_text.ensures.out_after ∙ line-after c.args.rule.now c.args.text.now c.in-Refused.why long e }
