@@ -11,24 +11,21 @@ use Rattle.meaning.specs.Runs.{decides, run_of, ran_in, counts_fit, in_table}
 use Rattle.meaning.specs.Openings.{Opening, state_of}
 use Rattle.meaning.specs.declared.Verdict.{Verdict}
 use Rattle.meaning.specs.declared.Verdict.TheVariants.{Undecided}
-use Rattle.meaning.specs.declared.Decided.{Decided}
-use Rattle.meaning.specs.declared.Decided.TheVariants.{After, Never}
 use Rattle.meaning.specs.declared.Refusal.{Refusal}
 use Rattle.meaning.specs.declared.Refusal.TheVariants.{WrongEvent, WrongWatch, WrongTable, WrongDesk, WrongNumber, QueueFull, CountFull, WrongOpening}
-use Rattle.meaning.specs.declared.Ran.{Ran}
-use Rattle.meaning.specs.declared.Ran.TheVariants as Ran
 use Rattle.meaning.specs.declared.State.{State}
 use Rattle.meaning.specs.declared.Watch.{Watch}
 use Rattle.meaning.specs.declared.Served.{Served}
-use Rattle.meaning.specs.declared.Served.TheVariants as Served
+use Rattle.std.specs.Prelude.{Result, Ok, Err, Option, Some, None}
+use Rattle.meaning.specs.declared.Arrival.{Arrival}
 
 -- "each with its state and up to 32 waiting events, oldest first": of its slots the first `waiting`
 abbrev pub queue : Watch → List ℕ
 queue w = take w.waiting w.events
 
 -- "the number at which a verdict first stood", as a run counts it: after so many events, and never where it is unfilled
-abbrev pub first_stood : Watch → Decided
-first_stood w = cond (eqb w.filled 0) Never (After w.first)
+abbrev pub first_stood : Watch → Option ℕ
+first_stood w = cond (eqb w.filled 0) None (Some w.first)
 
 -- C-18: "States and watches .. carry it": the state in which a watch stands
 abbrev pub stands : Watch → State
@@ -53,12 +50,12 @@ watch_at d i = get_or d i no_watch
 
 -- An answer, and the desk after it.
 pub record Outcome : Type 0 where
-  pub answer : Served
+  pub answer : Result Served Refusal
   pub desk : List Watch
 
 -- a refusal changes nothing lent
 abbrev pub refused : List Watch → Refusal → Outcome
-refused d x = record { answer = Served.Refused x; desk = d }
+refused d x = record { answer = Err x; desk = d }
 
 -- ---- refusals: "18 row empty or above 64", "13 for a watch with a state too large, over 32 waiting or a waiting byte that is no possible event";
 -- C-16: "13 covers a watch where that sum is larger", heard plus waiting larger than 4,294,967,295
@@ -111,7 +108,7 @@ post_by n Σ S d i e =
     ∷ (leb 32 (watch_at d i).waiting, QueueFull i)
     ∷ (eqb (counted (watch_at d i)) 4294967295, CountFull i)
     ∷ []))
-    (record { answer = Served.Done; desk = set d i (with_event (watch_at d i) e) })
+    (record { answer = Ok Served.Done; desk = set d i (with_event (watch_at d i) e) })
 
 -- ---- "A turn takes the last-heard number and hears the oldest event of the next tunnel after it, going round, that has one waiting"
 
@@ -149,18 +146,22 @@ without_oldest w s v =
     }
 
 -- what hearing at a number comes to, where the run over the oldest event ended so; the answer's state carries the opening's number
-abbrev pub heard_by : ℕ → List Watch → ℕ → Ran → Outcome
-heard_by n d i (Ran.Ended s v c) = record { answer = Served.Heard i (oldest (watch_at d i)) (state_of n s) v; desk = set d i (without_oldest (watch_at d i) s v) }
-heard_by n d i (Ran.Refused x) = refused d x
+abbrev pub heard_by : ℕ → List Watch → ℕ → Result (Arrival ℕ) Refusal → Outcome
+heard_by n d i (Ok a) =
+    record {
+      answer = Ok (Served.Heard i (oldest (watch_at d i)) (state_of n a.state) a.verdict);
+      desk = set d i (without_oldest (watch_at d i) a.state a.verdict);
+    }
+heard_by n d i (Err x) = refused d x
 
 -- "it returns the number now last heard, or says that none waits and returns the number given"; the run over one event from a state is given
-unfoldable pub turn_by : ℕ → (ℕ → ℕ → Ran) → Alphabet → ℕ → List Watch → ℕ → Outcome
+unfoldable pub turn_by : ℕ → (ℕ → ℕ → Result (Arrival ℕ) Refusal) → Alphabet → ℕ → List Watch → ℕ → Outcome
 turn_by n step Σ S d l =
     let i = after (length d) l (passed d l) in
     first_of (refused d) (desk_checks n Σ S d)
     (cond (ltb (passed d l) (length d))
     (heard_by n d i (step (watch_at d i).state (oldest (watch_at d i))))
-    (record { answer = Served.NoneWaits l; desk = d }))
+    (record { answer = Ok (Served.NoneWaits l); desk = d }))
 
 -- ---- over an opened table, "A site runs up to 64 tunnels on one table": 14 where the bytes are none, before all else
 
@@ -183,7 +184,7 @@ turn_in n t P S d l = cond (counts_fit t P S) (turn_by n (λ s e. ran_in t P S s
 
 -- "A fresh desk": the whole row, where the opening's number and its start's verdict are given; 18
 abbrev pub fresh_by : ℕ → Verdict → List Watch → Outcome
-fresh_by n v d = cond (row_fits d) (record { answer = Served.Done; desk = replicate (length d) (fresh_watch n v) }) (refused d WrongDesk)
+fresh_by n v d = cond (row_fits d) (record { answer = Ok Served.Done; desk = replicate (length d) (fresh_watch n v) }) (refused d WrongDesk)
 
 -- "made with C-15's one table": 14 before 18
 unfoldable pub fresh_of : Opening → List Watch → Outcome

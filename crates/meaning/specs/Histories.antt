@@ -1,11 +1,12 @@
 -- Document 02, C-15: "From a fresh desk, which only posts and turns with one table change, each turn taking the number that the turn before returned".
-use Rattle.std.specs.Prelude.{List, [], ◌∷◌, ◌++◌, Bool, cond, ℕ, suc, replicate, eqb}
+use Rattle.std.specs.Prelude.{List, [], ◌∷◌, ◌++◌, cond, ℕ, suc, replicate, eqb}
 use Rattle.meaning.specs.TableFiles.{monitor_of}
 use Rattle.meaning.specs.Openings.{Opening}
 use Rattle.meaning.specs.Desks.{Outcome, fresh_watch, post_of, turn_of}
 use Rattle.meaning.specs.declared.Watch.{Watch}
 use Rattle.meaning.specs.declared.Served.{Served}
-use Rattle.meaning.specs.declared.Served.TheVariants as Served
+use Rattle.std.specs.Prelude.{Result, Ok, Err}
+use Rattle.meaning.specs.declared.Refusal.{Refusal}
 
 -- What is asked of a desk: an event posted to a number, or a turn.
 pub data Action : Type 0 where
@@ -22,11 +23,11 @@ abbrev pub begun : Opening → ℕ → ℕ → Standing
 begun o n l = record { desk = replicate n (fresh_watch o.number ((monitor_of o.table).verdict 0)); last = l }
 
 -- the number that an answer returns, and l where it returns none
-abbrev pub last_after : Served → ℕ → ℕ
-last_after Served.Done l = l
-last_after (Served.Heard i e s v) l = i
-last_after (Served.NoneWaits k) l = k
-last_after (Served.Refused x) l = l
+abbrev pub last_after : Result Served Refusal → ℕ → ℕ
+last_after (Ok Served.Done) l = l
+last_after (Ok (Served.Heard i e s v)) l = i
+last_after (Ok (Served.NoneWaits k)) l = k
+last_after (Err x) l = l
 
 -- what an action comes to, with the opening o
 abbrev pub asked : Opening → Standing → Action → Outcome
@@ -42,19 +43,19 @@ reached o c [] = c
 reached o c (a ∷ rest) = reached o (onward o c a) rest
 
 -- the event that an action adds to tunnel i, if its answer takes it
-abbrev pub takes : ℕ → Action → Served → List ℕ
-takes i (Post j e) Served.Done = cond (eqb i j) (e ∷ []) []
-takes i (Post j e) (Served.Heard k x s v) = []
-takes i (Post j e) (Served.NoneWaits k) = []
-takes i (Post j e) (Served.Refused x) = []
+abbrev pub takes : ℕ → Action → Result Served Refusal → List ℕ
+takes i (Post j e) (Ok Served.Done) = cond (eqb i j) (e ∷ []) []
+takes i (Post j e) (Ok (Served.Heard k x s v)) = []
+takes i (Post j e) (Ok (Served.NoneWaits k)) = []
+takes i (Post j e) (Err x) = []
 takes i Turn r = []
 
 -- the event of tunnel i that an answer says was heard
-abbrev pub hears : ℕ → Served → List ℕ
-hears i Served.Done = []
-hears i (Served.Heard j e s v) = cond (eqb i j) (e ∷ []) []
-hears i (Served.NoneWaits k) = []
-hears i (Served.Refused x) = []
+abbrev pub hears : ℕ → Result Served Refusal → List ℕ
+hears i (Ok Served.Done) = []
+hears i (Ok (Served.Heard j e s v)) = cond (eqb i j) (e ∷ []) []
+hears i (Ok (Served.NoneWaits k)) = []
+hears i (Err x) = []
 
 -- the "accepted events" of tunnel i, and those that were heard, in order
 abbrev pub accepted : Opening → Standing → ℕ → List Action → List ℕ

@@ -3,11 +3,10 @@ use Rattle.std.specs.Prelude.{List, cond, ℕ, eqb}
 use Rattle.meaning.specs.TableFiles.{is_table}
 use Rattle.meaning.specs.Runs.{run_of, ran_in, counts_fit}
 use Rattle.meaning.specs.declared.Refusal.TheVariants.{WrongTable, WrongOpening}
-use Rattle.meaning.specs.declared.Ran.{Ran}
-use Rattle.meaning.specs.declared.Ran.TheVariants as Ran
 use Rattle.meaning.specs.declared.State.{State}
-use Rattle.meaning.specs.declared.Arrived.{Arrived}
-use Rattle.meaning.specs.declared.Arrived.TheVariants as Arrived
+use Rattle.std.specs.Prelude.{Result, Ok, Err}
+use Rattle.meaning.specs.declared.Arrival.{Arrival}
+use Rattle.meaning.specs.declared.Refusal.{Refusal}
 
 -- "Opening now takes a 16-bit number of the caller's choice": the bytes that were opened, and the number.
 pub record Opening : Type 0 where
@@ -27,18 +26,18 @@ abbrev pub start_of : Opening → State
 start_of o = state_of o.number 0
 
 -- where a run arrives, with the number carried along
-abbrev pub carried : ℕ → Ran → Arrived
-carried n (Ran.Ended s v d) = Arrived.At (state_of n s) v d
-carried n (Ran.Refused x) = Arrived.Refused x
+abbrev pub carried : ℕ → Result (Arrival ℕ) Refusal → Result (Arrival State) Refusal
+carried n (Ok a) = Ok (record { state = state_of n a.state; verdict = a.verdict; decided = a.decided })
+carried n (Err x) = Err x
 
 -- "a run .. with another number is refused": by 24, and otherwise it is the run of the table from the state's own number, which is given
-abbrev pub own_run : ℕ → State → Ran → Arrived
-own_run n s r = cond (eqb s.opening n) (carried n r) (Arrived.Refused (WrongOpening 0))
+abbrev pub own_run : ℕ → State → Result (Arrival ℕ) Refusal → Result (Arrival State) Refusal
+own_run n s r = cond (eqb s.opening n) (carried n r) (Err (WrongOpening 0))
 
 -- "A run takes an opened table, a state and a list of events": 14, then 24, then 13 and 12
-abbrev pub run_from : Opening → State → List ℕ → Arrived
-run_from o s es = cond (is_table o.table) (own_run o.number s (run_of o.table s.number es)) (Arrived.Refused WrongTable)
+abbrev pub run_from : Opening → State → List ℕ → Result (Arrival State) Refusal
+run_from o s es = cond (is_table o.table) (own_run o.number s (run_of o.table s.number es)) (Err WrongTable)
 
 -- the same from the opening's number and bytes and counts in hand: 14 for counts and length, 24, 13, 12, and 14 where the way leaves the table
-abbrev pub run_from_in : ℕ → List ℕ → ℕ → ℕ → State → List ℕ → Arrived
-run_from_in n t P S s es = cond (counts_fit t P S) (own_run n s (ran_in t P S s.number es)) (Arrived.Refused WrongTable)
+abbrev pub run_from_in : ℕ → List ℕ → ℕ → ℕ → State → List ℕ → Result (Arrival State) Refusal
+run_from_in n t P S s es = cond (counts_fit t P S) (own_run n s (ran_in t P S s.number es)) (Err WrongTable)

@@ -14,8 +14,7 @@ use Rattle.meaning.specs.declared.Verdict.TheVariants.{Undecided, Satisfied, Vio
 use Rattle.meaning.specs.declared.Refusal.{Refusal}
 use Rattle.meaning.specs.declared.Refusal.TheVariants.{WrongEvent, WrongTable, WrongRecordings, Contradiction}
 use Rattle.meaning.specs.declared.Seen.{Seen}
-use Rattle.meaning.specs.declared.Shown.{Shown}
-use Rattle.meaning.specs.declared.Shown.TheVariants as Shown
+use Rattle.std.specs.Prelude.{Result, Ok, Err}
 
 -- "A recorded event is two bytes: which signals are known, and their values": the one with an index, of a recording's bytes
 abbrev pub seen_at : List ℕ → ℕ → Seen
@@ -105,18 +104,18 @@ recording_checks Σ P a b = (not (lengths_fit a b), WrongRecordings) ∷ joined 
 -- ---- "run the table from state 0 over all possible completions"
 
 -- 14 where the bytes are no table, before all else
-unfoldable pub judged_of : List ℕ → List ℕ → List ℕ → Shown
+unfoldable pub judged_of : List ℕ → List ℕ → List ℕ → Result Verdict Refusal
 judged_of t a b =
     let Σ = alphabet_in t (signals_in t) in
     cond (is_table t)
-    (first_of Shown.Refused (recording_checks Σ (signals_in t) a b) (Shown.Verdict (verdict_over (monitor_of t) (completions Σ (signals_in t) (joined_list a b)))))
-    (Shown.Refused WrongTable)
+    (first_of Err (recording_checks Σ (signals_in t) a b) (Ok (verdict_over (monitor_of t) (completions Σ (signals_in t) (joined_list a b)))))
+    (Err WrongTable)
 
 -- the same from bytes and counts in hand, as a step takes them: 14 for counts and length, and last where a completion's way leaves the table
-unfoldable pub judged_in : List ℕ → ℕ → ℕ → List ℕ → List ℕ → Shown
+unfoldable pub judged_in : List ℕ → ℕ → ℕ → List ℕ → List ℕ → Result Verdict Refusal
 judged_in t P S a b =
     let ws = completions (alphabet_in t P) P (joined_list a b) in
     cond (counts_fit t P S)
-    (first_of Shown.Refused (recording_checks (alphabet_in t P) P a b)
-    (cond (every (map (on_table t P S 0) ws)) (Shown.Verdict (verdict_over (monitor_in t P S) ws)) (Shown.Refused WrongTable)))
-    (Shown.Refused WrongTable)
+    (first_of Err (recording_checks (alphabet_in t P) P a b)
+    (cond (every (map (on_table t P S 0) ws)) (Ok (verdict_over (monitor_in t P S) ws)) (Err WrongTable)))
+    (Err WrongTable)

@@ -8,12 +8,8 @@ use Rattle.meaning.specs.declared.Node.{Node}
 use Rattle.meaning.specs.declared.Header.{Header}
 use Rattle.meaning.specs.declared.Refusal.{Refusal}
 use Rattle.meaning.specs.declared.Refusal.TheVariants.{Truncated, WrongLength, WrongKind, WrongSignals, WrongCount, WrongOperand, OutOfRange, EighthTemporal, TrailingBytes, NoEvent}
-use Rattle.meaning.specs.declared.HeaderReading.{HeaderReading}
-use Rattle.meaning.specs.declared.HeaderReading.TheVariants as HeaderReading
-use Rattle.meaning.specs.declared.MaskReading.{MaskReading}
-use Rattle.meaning.specs.declared.MaskReading.TheVariants as MaskReading
-use Rattle.meaning.specs.declared.Reading.{Reading}
-use Rattle.meaning.specs.declared.Reading.TheVariants as Reading
+use Rattle.std.specs.Prelude.{Result, Ok, Err}
+use Rattle.meaning.specs.declared.Mask.{Mask}
 
 -- the number of signals, the mask of the events that can happen, and the nodes
 pub record Rule : Type 0 where
@@ -93,28 +89,28 @@ frame_checks b p kind_fits size_fits =
     ∷ []
 
 -- "The first record has kind 256 and body P, N": "P not 1 to 4", "N not 1 to 64"
-unfoldable pub header_of : List ℕ → HeaderReading
+unfoldable pub header_of : List ℕ → Result Header Refusal
 header_of b =
-    first_of HeaderReading.Refused
+    first_of Err
     (frame_checks b 0 (eqb (u16_at b 2) 256) (eqb (u16_at b 0) (2 + 2))
     ++ ((not (leb 1 (get_or b 4 0) && leb (get_or b 4 0) 4), WrongSignals)
     ∷ (not (leb 1 (get_or b 5 0) && leb (get_or b 5 0) 64), WrongCount)
     ∷ []))
-    (HeaderReading.Header (record { signals = get_or b 4 0; nodes = get_or b 5 0 }))
+    (Ok (record { signals = get_or b 4 0; nodes = get_or b 5 0 }))
 
 -- What stands between the first record and the nodes: the mask, and the place where the nodes begin. "A record of kind 257 may stand second and
 -- nowhere else, with a two-byte mask, low byte first"; "17 no event possible, place the record's start, after its length check; 7 if a bit at or
 -- above 2^P is set, before 17". "Without it all can."
-unfoldable pub mask_of : List ℕ → ℕ → MaskReading
+unfoldable pub mask_of : List ℕ → ℕ → Result Mask Refusal
 mask_of b P =
     cond (eqb (u16_at b 8) 257)
-    (first_of MaskReading.Refused
+    (first_of Err
     (frame_checks b 6 true (eqb (u16_at b 6) (2 + 2))
     ++ ((leb (2 ^ 2 ^ P) (u16_at b 10), OutOfRange 6)
     ∷ (eqb (u16_at b 10) 0, NoEvent 6)
     ∷ []))
-    (MaskReading.Mask (u16_at b 10) 12))
-    (MaskReading.Mask (full_mask P) 6)
+    (Ok (record { mask = u16_at b 10; nodes_at = 12 })))
+    (Ok (record { mask = full_mask P; nodes_at = 6 }))
 
 -- the upper count in the record at p, of this kind and length: "Two-byte bodies stay right and mean an upper count of 4."
 abbrev pub upper_at : List ℕ → ℕ → ℕ → ℕ → ℕ
@@ -140,16 +136,16 @@ abbrev pub ranges_fit : ℕ → Node → Bool
 ranges_fit P n = (not (eqb n.kind 2) || ltb n.a P) && (not (eqb n.kind 3) || (ltb n.a (2 ^ P) && leb n.b 4 && leb n.upper 4))
 
 -- the record at p, of the node with this number, after so many temporal ones: "then 4, 5, 6, 7, 8"
-unfoldable pub reading_of : List ℕ → ℕ → ℕ → ℕ → ℕ → Reading
+unfoldable pub reading_of : List ℕ → ℕ → ℕ → ℕ → ℕ → Result Node Refusal
 reading_of b P p number seen =
     let n = node_at b p in
-    first_of Reading.Refused
+    first_of Err
     (frame_checks b p (leb n.kind 13) (length_fits n.kind (u16_at b p))
     ++ ((not (operands_fit number n), WrongOperand p)
     ∷ (not (ranges_fit P n), OutOfRange p)
     ∷ (temporal n.kind && leb 7 seen, EighthTemporal p)
     ∷ []))
-    (Reading.Node n)
+    (Ok n)
 
 -- what reading a rule file finds
 pub data Judgement : Type 0 where
@@ -161,21 +157,21 @@ unfoldable pub nodes_from : ℕ → List ℕ → ℕ → ℕ → ℕ → List No
 nodes_from zero b P m p earlier = cond (ltb p (length b)) (Refused (TrailingBytes p)) (Accepted (record { signals = P; mask = m; nodes = earlier }))
 nodes_from (suc k) b P m p earlier =
     elim (reading_of b P p (length earlier) (temporals earlier)) [
-      | Reading.Node n ↦ nodes_from k b P m (p + 2 + u16_at b p) (earlier ++ (n ∷ []))
-      | Reading.Refused r ↦ Refused r
+      | Ok n ↦ nodes_from k b P m (p + 2 + u16_at b p) (earlier ++ (n ∷ []))
+      | Err r ↦ Refused r
     ]
 
 -- the mask and the nodes, of which there are so many
 unfoldable pub body_from : ℕ → List ℕ → ℕ → Judgement
 body_from k b P =
     elim (mask_of b P) [
-      | MaskReading.Mask m p ↦ nodes_from k b P m p []
-      | MaskReading.Refused r ↦ Refused r
+      | Ok m ↦ nodes_from k b P m.mask m.nodes_at []
+      | Err r ↦ Refused r
     ]
 
 unfoldable pub judge : List ℕ → Judgement
 judge b =
     elim (header_of b) [
-      | HeaderReading.Header h ↦ body_from h.nodes b h.signals
-      | HeaderReading.Refused r ↦ Refused r
+      | Ok h ↦ body_from h.nodes b h.signals
+      | Err r ↦ Refused r
     ]

@@ -6,8 +6,8 @@ use Rattle.meaning.specs.RuleFiles.{Rule, body_length, ranges_fit, temporals, fi
 use Rattle.meaning.specs.Grammar.{Tree, leaf, pre, bin, Parsed, Fitting, Outside}
 use Rattle.meaning.specs.declared.Node.{Node}
 use Rattle.meaning.specs.declared.Refusal.TheVariants.{WrongSignals, OutOfRange, EighthTemporal, ShortOutput, WrongText, TooManyNodes}
-use Rattle.meaning.specs.declared.Written.{Written}
-use Rattle.meaning.specs.declared.Written.TheVariants as Written
+use Rattle.std.specs.Prelude.{Result, Ok, Err}
+use Rattle.meaning.specs.declared.Refusal.{Refusal}
 
 -- ---- meaning
 
@@ -71,30 +71,30 @@ any_out_of_range P [] = false
 any_out_of_range P (n ∷ ns) = not (ranges_fit P n) || any_out_of_range P ns
 
 -- The checks of a rule, with an output of so many bytes, and of a text that fits. "Order 15, 4, 16, 7, 8, 10; every place but 15's is 0."
-unfoldable pub rule_answer : ℕ → Rule → Written
+unfoldable pub rule_answer : ℕ → Rule → Result ℕ Refusal
 rule_answer room r =
-    first_of Written.Refused
+    first_of Err
     ((any_out_of_range r.signals r.nodes, OutOfRange 0)
     ∷ (ltb 7 (temporals r.nodes), EighthTemporal 0)
     ∷ (ltb room (length (rule_bytes r)), ShortOutput)
     ∷ [])
-    (Written.Rule (length (rule_bytes r)))
+    (Ok (length (rule_bytes r)))
 
-unfoldable pub tree_answer : ℕ → ℕ → Tree → Written
+unfoldable pub tree_answer : ℕ → ℕ → Tree → Result ℕ Refusal
 tree_answer P room t =
-    first_of Written.Refused
+    first_of Err
     ((not (leb 1 P && leb P 4), WrongSignals)
     ∷ (ltb 64 (size t), TooManyNodes)
     ∷ [])
     (rule_answer room (rule_of P t))
 
-abbrev pub parsed_answer : ℕ → ℕ → Parsed → Written
+abbrev pub parsed_answer : ℕ → ℕ → Parsed → Result ℕ Refusal
 parsed_answer P room (Fitting t) = tree_answer P room t
-parsed_answer P room (Outside p) = Written.Refused (WrongText p)
+parsed_answer P room (Outside p) = Err (WrongText p)
 
 -- "over 1,024 bytes, then with place 1,024 and before all else"
-abbrev pub write_answer : List ℕ → ℕ → ℕ → Parsed → Written
-write_answer s P room parsed = cond (ltb 1024 (length s)) (Written.Refused (WrongText 1024)) (parsed_answer P room parsed)
+abbrev pub write_answer : List ℕ → ℕ → ℕ → Parsed → Result ℕ Refusal
+write_answer s P room parsed = cond (ltb 1024 (length s)) (Err (WrongText 1024)) (parsed_answer P room parsed)
 
 -- the file of what was read
 abbrev pub file_of : ℕ → Parsed → List ℕ
@@ -102,6 +102,6 @@ file_of P (Fitting t) = rule_bytes (rule_of P t)
 file_of P (Outside p) = []
 
 -- "Output bytes past the file are kept"; on a refusal "Lent buffers keep every byte"
-abbrev pub output_of : Written → List ℕ → List ℕ → List ℕ
-output_of (Written.Rule n) file out = file ++ drop n out
-output_of (Written.Refused r) file out = out
+abbrev pub output_of : Result ℕ Refusal → List ℕ → List ℕ → List ℕ
+output_of (Ok n) file out = file ++ drop n out
+output_of (Err r) file out = out

@@ -8,12 +8,9 @@ use Rattle.meaning.specs.declared.Verdict.{Verdict}
 use Rattle.meaning.specs.declared.Verdict.TheVariants.{Undecided, Satisfied, Violated, Moot}
 use Rattle.meaning.specs.declared.Refusal.{Refusal}
 use Rattle.meaning.specs.declared.Refusal.TheVariants.{WrongEvent, WrongState, WrongTable}
-use Rattle.meaning.specs.declared.Decided.{Decided}
-use Rattle.meaning.specs.declared.Decided.TheVariants.{After, Never}
-use Rattle.meaning.specs.declared.Ran.{Ran}
-use Rattle.meaning.specs.declared.Ran.TheVariants as Ran
 use Rattle.meaning.specs.declared.StateRow.{StateRow}
-use Rattle.meaning.specs.declared.Shown.TheVariants as Shown
+use Rattle.std.specs.Prelude.{Result, Ok, Err, Option, Some, None}
+use Rattle.meaning.specs.declared.Arrival.{Arrival}
 
 -- a verdict other than undecided
 abbrev pub decides : Verdict → Bool
@@ -23,28 +20,28 @@ decides Violated = true
 decides Moot = true
 
 -- "the count of events read when a verdict other than undecided was first shown: 0 if the given state shows one, 'none' if never", where n were read already
-unfoldable pub decided_from : Monitor → ℕ → ℕ → List ℕ → Decided
-decided_from m n s [] = cond (decides (m.verdict s)) (After n) Never
-decided_from m n s (e ∷ es) = let later = decided_from m (suc n) (m.next s e) es in cond (decides (m.verdict s)) (After n) later
+unfoldable pub decided_from : Monitor → ℕ → ℕ → List ℕ → Option ℕ
+decided_from m n s [] = cond (decides (m.verdict s)) (Some n) None
+decided_from m n s (e ∷ es) = let later = decided_from m (suc n) (m.next s e) es in cond (decides (m.verdict s)) (Some n) later
 
 -- the end state of m run from s over the events, its verdict, and the count
-abbrev pub end_of : Monitor → ℕ → List ℕ → Ran
-end_of m s es = Ran.Ended (follow m s es) (m.verdict (follow m s es)) (decided_from m 0 s es)
+abbrev pub end_of : Monitor → ℕ → List ℕ → Result (Arrival ℕ) Refusal
+end_of m s es = Ok (record { state = follow m s es; verdict = m.verdict (follow m s es); decided = decided_from m 0 s es })
 
 -- the index of the first event that is none or cannot happen, and the length where all can. C-14: "Running such an event is refused by 12."
 abbrev pub first_bad : Alphabet → List ℕ → ℕ
 first_bad Σ es = least_below (length es) (λ i. not (is_event Σ (get_or es i 0)))
 
 -- "A run checks 13 before 12"
-abbrev pub ran_of : Monitor → Alphabet → ℕ → List ℕ → Ran
+abbrev pub ran_of : Monitor → Alphabet → ℕ → List ℕ → Result (Arrival ℕ) Refusal
 ran_of m Σ s es =
     cond (ltb s m.states)
-    (cond (ltb (first_bad Σ es) (length es)) (Ran.Refused (WrongEvent (first_bad Σ es))) (end_of m s es))
-    (Ran.Refused WrongState)
+    (cond (ltb (first_bad Σ es) (length es)) (Err (WrongEvent (first_bad Σ es))) (end_of m s es))
+    (Err WrongState)
 
 -- "A run takes an opened table, a state and a list of events."
-abbrev pub run_of : List ℕ → ℕ → List ℕ → Ran
-run_of t s es = cond (is_table t) (ran_of (monitor_of t) (alphabet_in t (signals_in t)) s es) (Ran.Refused WrongTable)
+abbrev pub run_of : List ℕ → ℕ → List ℕ → Result (Arrival ℕ) Refusal
+run_of t s es = cond (is_table t) (ran_of (monitor_of t) (alphabet_in t (signals_in t)) s es) (Err WrongTable)
 
 -- ---- from bytes and counts in hand, as a step takes them: whatever they are, no answer but a refusal leaves the table
 
@@ -62,31 +59,27 @@ on_table t P S s [] = in_table t P S s
 on_table t P S s (e ∷ es) = in_table t P S s && on_table t P S (successor t P s e) es
 
 -- an answer stands where the test holds, and a refusal always; otherwise 14
-abbrev pub tested : Bool → Ran → Ran
-tested ok (Ran.Ended s v d) = cond ok (Ran.Ended s v d) (Ran.Refused WrongTable)
-tested ok (Ran.Refused x) = Ran.Refused x
+abbrev pub tested : Bool → Result (Arrival ℕ) Refusal → Result (Arrival ℕ) Refusal
+tested ok (Ok a) = cond ok (Ok a) (Err WrongTable)
+tested ok (Err x) = Err x
 
 -- the run over the bytes t as a table of S states over P signals: 14 for counts and length, 13, 12, and 14 where the way leaves the table
-abbrev pub ran_in : List ℕ → ℕ → ℕ → ℕ → List ℕ → Ran
-ran_in t P S s es = cond (counts_fit t P S) (tested (on_table t P S s es) (ran_of (monitor_in t P S) (alphabet_in t P) s es)) (Ran.Refused WrongTable)
-
--- a row that is refused
-abbrev pub no_row : Refusal → StateRow
-no_row x = record { shown = Shown.Refused x; successors = replicate 16 0 }
+abbrev pub ran_in : List ℕ → ℕ → ℕ → ℕ → List ℕ → Result (Arrival ℕ) Refusal
+ran_in t P S s es = cond (counts_fit t P S) (tested (on_table t P S s es) (ran_of (monitor_in t P S) (alphabet_in t P) s es)) (Err WrongTable)
 
 -- the row of state s: its verdict, and its successor for each event
 abbrev pub row_of : List ℕ → ℕ → ℕ → StateRow
-row_of t P s = record { shown = Shown.Verdict (verdict_of (verdict_byte t P s)); successors = tabulate (2 ^ P) (successor t P s) ++ drop (2 ^ P) (replicate 16 0) }
+row_of t P s = record { verdict = verdict_of (verdict_byte t P s); successors = tabulate (2 ^ P) (successor t P s) ++ drop (2 ^ P) (replicate 16 0) }
 
 -- "thin functions read a row": of a table's bytes, 14, then 13, then the row
-abbrev pub row_read : List ℕ → ℕ → StateRow
-row_read t s = cond (is_table t) (cond (ltb s (states_in t)) (row_of t (signals_in t) s) (no_row WrongState)) (no_row WrongTable)
+abbrev pub row_read : List ℕ → ℕ → Result StateRow Refusal
+row_read t s = cond (is_table t) (cond (ltb s (states_in t)) (Ok (row_of t (signals_in t) s)) (Err WrongState)) (Err WrongTable)
 
 -- the same from bytes and counts in hand: 14 for counts and length, 13, and 14 where the row is none of a table
-abbrev pub row_in : List ℕ → ℕ → ℕ → ℕ → StateRow
+abbrev pub row_in : List ℕ → ℕ → ℕ → ℕ → Result StateRow Refusal
 row_in t P S s =
     cond (counts_fit t P S)
     (cond (ltb s S)
-    (cond (every (content_tests t P S s)) (row_of t P s) (no_row WrongTable))
-    (no_row WrongState))
-    (no_row WrongTable)
+    (cond (every (content_tests t P S s)) (Ok (row_of t P s)) (Err WrongTable))
+    (Err WrongState))
+    (Err WrongTable)

@@ -7,8 +7,9 @@ use Rattle.meaning.specs.Monitors.{Monitor}
 use Rattle.meaning.specs.declared.Verdict.{Verdict}
 use Rattle.meaning.specs.declared.Verdict.TheVariants.{Undecided, Satisfied, Violated, Moot}
 use Rattle.meaning.specs.declared.Refusal.TheVariants.{WrongTable}
-use Rattle.meaning.specs.declared.Checked.{Checked}
-use Rattle.meaning.specs.declared.Checked.TheVariants as Checked
+use Rattle.std.specs.Prelude.{Result, Ok, Err}
+use Rattle.meaning.specs.declared.Counts.{Counts}
+use Rattle.meaning.specs.declared.Refusal.{Refusal}
 
 -- "First record: kind 512, body P (one byte) and S (two bytes)"
 abbrev pub signals_in : List ℕ → ℕ
@@ -72,8 +73,8 @@ unfoldable pub is_table : List ℕ → Bool
 is_table t = every (header_tests t) && all_below (states_in t) (λ s. every (row_tests t (signals_in t) (states_in t) s))
 
 -- "Opening checks the bytes and refuses by 14"
-abbrev pub checked_of : List ℕ → Checked
-checked_of t = cond (is_table t) (Checked.Table (signals_in t) (states_in t)) (Checked.Refused WrongTable)
+abbrev pub checked_of : List ℕ → Result Counts Refusal
+checked_of t = cond (is_table t) (Ok (record { signals = signals_in t; states = states_in t })) (Err WrongTable)
 
 -- "Verdict bytes: 0 undecided, 1 satisfied, 2 violated, 3 moot."
 abbrev pub verdict_of : ℕ → Verdict

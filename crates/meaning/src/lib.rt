@@ -3,9 +3,13 @@
 
 ghost use Rattle.std.specs.Prelude.{◌≡◌};
 ghost use Rattle.meaning.specs.Refusals.{code_of};
+ghost use Rattle.meaning.specs.Runs.{decides};
+ghost use Rattle.meaning.specs.TableFiles.{verdict_number};
+
+use std::fmt;
 
 // Document 01's verdicts.
-#[derive(Clone, Copy)]
+#[derive(Clone, Copy, Debug, PartialEq, Eq)]
 pub enum Verdict {
     Undecided,
     Satisfied,
@@ -13,8 +17,43 @@ pub enum Verdict {
     Moot,
 }
 
+impl Verdict {
+    // Whether it is one other than undecided.
+    pub fn is_decided(self) -> bool
+        ensures { result ≡ decides self }
+    {
+        !matches!(self, Verdict::Undecided)
+    }
+}
+
+// Its byte in a table.
+impl From<Verdict> for u8 {
+    ghost from_gives = { λ verdict byte. byte ≡ verdict_number verdict };
+
+    fn from(verdict: Verdict) -> u8 {
+        match verdict {
+            Verdict::Undecided => 0,
+            Verdict::Satisfied => 1,
+            Verdict::Violated => 2,
+            Verdict::Moot => 3,
+        }
+    }
+}
+
+// Its word.
+impl fmt::Display for Verdict {
+    fn fmt<W: fmt::Write>(&self, f: &mut fmt::Formatter<W>) -> fmt::Result {
+        f.write_str(match self {
+            Verdict::Undecided => "undecided",
+            Verdict::Satisfied => "satisfied",
+            Verdict::Violated => "violated",
+            Verdict::Moot => "moot",
+        })
+    }
+}
+
 // The refusals of documents 01 and 02, in the order of their numbers, each with its place where that is not always 0.
-#[derive(Clone, Copy)]
+#[derive(Clone, Copy, Debug, PartialEq, Eq)]
 pub enum Refusal {
     Truncated(usize),
     WrongLength(usize),
@@ -109,6 +148,13 @@ impl Refusal {
     }
 }
 
+// The refusal's line, without its end.
+impl fmt::Display for Refusal {
+    fn fmt<W: fmt::Write>(&self, f: &mut fmt::Formatter<W>) -> fmt::Result {
+        write!(f, "refused {} at {}", self.number(), self.place())
+    }
+}
+
 // A node of a rule file: its kind, and the first two bytes of its body, 0 where the body has none. An "at least" has an upper count, which is 4
 // where its body does not say it; every other node has 0 there.
 #[derive(Clone, Copy)]
@@ -126,53 +172,19 @@ pub struct Header {
     pub nodes: u8,
 }
 
-// The reading of the first record.
+// What stands between the first record of a rule file and its nodes: the mask of the events that can happen, and the place
+// where the nodes begin.
 #[derive(Clone, Copy)]
-pub enum HeaderReading {
-    Header(Header),
-    Refused(Refusal),
+pub struct Mask {
+    pub mask: u16,
+    pub nodes_at: usize,
 }
 
-// The reading of what may stand between the first record and the nodes: the mask of the events that can happen, and the place where the nodes begin.
+// What a table's first record says: its signals and its states.
 #[derive(Clone, Copy)]
-pub enum MaskReading {
-    Mask { mask: u16, nodes_at: usize },
-    Refused(Refusal),
-}
-
-// The reading of one node's record.
-#[derive(Clone, Copy)]
-pub enum Reading {
-    Node(Node),
-    Refused(Refusal),
-}
-
-// What writing a text as a rule file returns: the file's length in bytes, or the refusal.
-#[derive(Clone, Copy)]
-pub enum Written {
-    Rule(usize),
-    Refused(Refusal),
-}
-
-// What building a table returns: the table's length in bytes, or the refusal.
-#[derive(Clone, Copy)]
-pub enum Built {
-    Table(usize),
-    Refused(Refusal),
-}
-
-// What checking a table's bytes finds.
-#[derive(Clone, Copy)]
-pub enum Checked {
-    Table { signals: u8, states: u16 },
-    Refused(Refusal),
-}
-
-// After how many events a verdict other than undecided was first shown.
-#[derive(Clone, Copy)]
-pub enum Decided {
-    After(usize),
-    Never,
+pub struct Counts {
+    pub signals: u8,
+    pub states: u16,
 }
 
 // A state of an opened table: the number of its opening, and the state's own number in the table.
@@ -182,39 +194,19 @@ pub struct State {
     pub number: u16,
 }
 
-// What a run of an opened table returns.
+// Where a run arrives: the state, its verdict, and after how many events a verdict other than undecided was first shown. Of
+// an opened table it is a `State`; of a table's bytes, where the opening is not asked, the number of one.
 #[derive(Clone, Copy)]
-pub enum Arrived {
-    At {
-        state: State,
-        verdict: Verdict,
-        decided: Decided,
-    },
-    Refused(Refusal),
+pub struct Arrival<S> {
+    pub state: S,
+    pub verdict: Verdict,
+    pub decided: Option<usize>,
 }
 
-// The same of a table's bytes, by the numbers of its states: what is left when the opening is not asked.
-#[derive(Clone, Copy)]
-pub enum Ran {
-    Ended {
-        state: u16,
-        verdict: Verdict,
-        decided: Decided,
-    },
-    Refused(Refusal),
-}
-
-// What a state of a table shows, or a table over two recordings.
-#[derive(Clone, Copy)]
-pub enum Shown {
-    Verdict(Verdict),
-    Refused(Refusal),
-}
-
-// A row of a table: what its state shows, and its successors for event 0 upward. Past the last event, and on a refusal, they are 0.
+// A row of a table: its state's verdict, and its successors for event 0 upward. Past the last event they are 0.
 #[derive(Clone, Copy)]
 pub struct StateRow {
-    pub shown: Shown,
+    pub verdict: Verdict,
     pub successors: [u16; 16],
 }
 
@@ -234,8 +226,8 @@ pub struct Watch {
     pub events: [u8; 32],
 }
 
-// What a desk answers: the work is done; an event of a tunnel was heard, which led to a state with its verdict; no tunnel has an event waiting, and
-// the number that was given; or the refusal.
+// What a desk has done: the work; an event of a tunnel was heard, which led to a state with its verdict; or no tunnel has an
+// event waiting, and the number that was given.
 #[derive(Clone, Copy)]
 pub enum Served {
     Done,
@@ -246,7 +238,6 @@ pub enum Served {
         verdict: Verdict,
     },
     NoneWaits(usize),
-    Refused(Refusal),
 }
 
 // A recorded event: which signals are known, and their values; bit s is signal s.

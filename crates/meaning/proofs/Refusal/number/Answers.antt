@@ -1,5 +1,4 @@
 -- `meaning::Refusal::number` meets its contract: in each arm the definition computes.
-use borrow.Author.Rules.{rules}
 use Rattle.meaning.proofs.Refusal.number.Goals as goal
 
 pub returns-in-Truncated : goal.returns-in-Truncated

@@ -1,5 +1,4 @@
 -- `meaning::Refusal::place` meets its contract: in each arm the definition computes.
-use borrow.Author.Rules.{rules}
 use Rattle.meaning.proofs.Refusal.place.Goals as goal
 
 pub returns-in-Truncated : goal.returns-in-Truncated
