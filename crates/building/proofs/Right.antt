@@ -12,8 +12,6 @@ use borrow.Author.Tests.{leb-false}
 use Rattle.meaning.specs.Verdicts.{MoreThan}
 use Rattle.meaning.specs.RuleFiles.{Rule, alphabet_of, property_of, Judgement, judge}
 use Rattle.meaning.specs.Demands.{Reads, Demands}
-use Rattle.meaning.specs.declared.Built.{Built}
-use Rattle.meaning.specs.declared.Built.TheVariants as Built
 use Rattle.ltl.proofs.Instance.{ltl_system}
 use Rattle.smallest.specs.Table.{Outcome, Table, TooMany}
 use Rattle.smallest.specs.Builder.{Built as BuiltBy}
@@ -22,6 +20,8 @@ use Rattle.smallest.proofs.Tables.{of-formed}
 use Rattle.smallest.proofs.Smallest.{too_many}
 use Rattle.smallest.proofs.Demands.{demands}
 use Rattle.building.specs.Build.{outcome_of, answer_to, output_of, answer_of, output_after, BuiltRight, RefusedRight, Right}
+use Rattle.std.proofs.Common.{Result}
+use Rattle.meaning.specs.declared.Refusal.{Refusal}
 
 -- the first theorem: demands 2 and 3, over all rule files and all tables
 pub our-demands : Demands (BuiltBy ltl_system)
@@ -74,9 +74,9 @@ right file out = go (judge file) refl
     go (Judgement.Refused x) q = λ r reads. let z : ◌≡◌ {A = ℕ} 0 1 = cc in absurd (omega arith)
 
 -- the contract of building, from the answer and the output at the judgement j of the file
-pub all_right : (file before after : List ℕ) (b : Built) (j : Judgement) → judge file ≡ j → b ≡ answer_of j before → after ≡ output_after j before
+pub all_right : (file before after : List ℕ) (b : Result ℕ Refusal) (j : Judgement) → judge file ≡ j → b ≡ answer_of j before → after ≡ output_after j before
     → (b ≡ answer_of (judge file) before) × ((after ≡ output_after (judge file) before) × Right file before after b)
 all_right file before after b j q p o =
     let p' : b ≡ answer_of (judge file) before = p ∙ ap (λ (x : Judgement). answer_of x before) (sym q) in
     let o' : after ≡ output_after (judge file) before = o ∙ ap (λ (x : Judgement). output_after x before) (sym q) in
-    (p', (o', subst₂ (λ (a : List ℕ) (x : Built). Right file before a x) (sym o') (sym p') (right file before)))
+    (p', (o', subst₂ (λ (a : List ℕ) (x : Result ℕ Refusal). Right file before a x) (sym o') (sym p') (right file before)))

@@ -1,4 +1,4 @@
--- After building, a run from state 0 over any events shows demand 2's verdict and counts right, and so does stepping event by event.
+-- Some building, a run from state 0 over any events shows demand 2's verdict and counts right, and so does stepping event by event.
 use mathlib.Core.Path.{◌≡◌, refl, sym, ap, ◌∙◌, subst}
 use mathlib.Core.Logic.{◌↔◌}
 use mathlib.Core.List.{List, [], ◌∷◌}
@@ -17,32 +17,30 @@ use Rattle.meaning.specs.Runs.{decides, decided_from, end_of, first_bad, ran_of,
 use Rattle.meaning.specs.Openings.{Opening, state_of, carried, own_run, run_from}
 use Rattle.meaning.specs.declared.Verdict.{Verdict}
 use Rattle.meaning.specs.declared.Verdict.TheVariants.{Undecided, Satisfied, Violated, Moot}
-use Rattle.meaning.specs.declared.Decided.{Decided}
-use Rattle.meaning.specs.declared.Decided.TheVariants.{After, Never}
 use Rattle.meaning.specs.declared.Refusal.TheVariants.{WrongTable, WrongOpening}
-use Rattle.meaning.specs.declared.Ran.{Ran}
-use Rattle.meaning.specs.declared.Ran.TheVariants.{Ended}
-use Rattle.meaning.specs.declared.Arrived.TheVariants as Arrived
 use Rattle.table_layout.proofs.Form.{event-test, test-event, table-header, states-some, table-inside}
 use Rattle.building.specs.Build.{BuiltRight}
 use Rattle.building.specs.Running.{CountRight, RunRight, StepRight, steps_from, steps}
+use Rattle.std.proofs.Common.{Result, Ok, Err, Option, Some, None}
+use Rattle.meaning.specs.declared.Arrival.{Arrival}
+use Rattle.meaning.specs.declared.Refusal.{Refusal}
 
 -- ---- the count of a run of any monitor
 
 abbrev verdict_after : Monitor → ℕ → List ℕ → Bool
 verdict_after m s w = decides (m.verdict (follow m s w))
 
-abbrev Counted : Monitor → ℕ → ℕ → List ℕ → Decided → Type 0
-Counted m n s es (After j) = (i : ℕ) × (j ≡ n + i) × (i ≤ length es) × (verdict_after m s (take i es) ≡ true) × ((k : ℕ) → k < i → verdict_after m s (take k es) ≡ false)
-Counted m n s es Never = (k : ℕ) → k ≤ length es → verdict_after m s (take k es) ≡ false
+abbrev Counted : Monitor → ℕ → ℕ → List ℕ → Option ℕ → Type 0
+Counted m n s es (Some j) = (i : ℕ) × (j ≡ n + i) × (i ≤ length es) × (verdict_after m s (take i es) ≡ true) × ((k : ℕ) → k < i → verdict_after m s (take k es) ≡ false)
+Counted m n s es None = (k : ℕ) → k ≤ length es → verdict_after m s (take k es) ≡ false
 
-counted_next : (m : Monitor) (n s e : ℕ) (es : List ℕ) (d : Decided) → decides (m.verdict s) ≡ false → Counted m (suc n) (m.next s e) es d → Counted m n s (e ∷ es) d
-counted_next m n s e es (After j) f (i, p, l, t, b) = (suc i, omega arith, omega arith, t, below)
+counted_next : (m : Monitor) (n s e : ℕ) (es : List ℕ) (d : Option ℕ) → decides (m.verdict s) ≡ false → Counted m (suc n) (m.next s e) es d → Counted m n s (e ∷ es) d
+counted_next m n s e es (Some j) f (i, p, l, t, b) = (suc i, omega arith, omega arith, t, below)
   where
     below : (k : ℕ) → k < suc i → verdict_after m s (take k (e ∷ es)) ≡ false
     below zero h = f
     below (suc k) h = b k (omega arith)
-counted_next m n s e es Never f b = below
+counted_next m n s e es None f b = below
   where
     below : (k : ℕ) → k ≤ suc (length es) → verdict_after m s (take k (e ∷ es)) ≡ false
     below zero h = f
@@ -52,7 +50,7 @@ counted : (m : Monitor) (n s : ℕ) (es : List ℕ) → Counted m n s es (decide
 unfolding decided_from
 counted m n s [] = go (decides (m.verdict s)) refl
   where
-    go : (b : Bool) → decides (m.verdict s) ≡ b → Counted m n s [] (cond b (After n) Never)
+    go : (b : Bool) → decides (m.verdict s) ≡ b → Counted m n s [] (cond b (Some n) None)
     go true q = (0, omega arith, omega arith, q, λ k h. absurd (omega arith))
     go false q = below
       where
@@ -62,7 +60,7 @@ counted m n s [] = go (decides (m.verdict s)) refl
 counted m n s (e ∷ es) = go (decides (m.verdict s)) refl (counted m (suc n) (m.next s e) es)
   where
     go : (b : Bool) → decides (m.verdict s) ≡ b → Counted m (suc n) (m.next s e) es (decided_from m (suc n) (m.next s e) es)
-        → Counted m n s (e ∷ es) (cond b (After n) (decided_from m (suc n) (m.next s e) es))
+        → Counted m n s (e ∷ es) (cond b (Some n) (decided_from m (suc n) (m.next s e) es))
     go true q c = (0, omega arith, omega arith, q, λ k h. absurd (omega arith))
     go false q c = counted_next m n s e es (decided_from m (suc n) (m.next s e) es) q c
 
@@ -101,12 +99,12 @@ module _ (Σ : Alphabet) (L : Property) (m : Monitor) (start : m.start ≡ 0) (s
   not_yet : (k : ℕ) → verdict_after m 0 (take k es) ≡ false → Judged Σ L (take k es) Undecided
   not_yet k q = (says (take k es) (word-take Σ k es a) Undecided).0 (undecided (shows m (take k es)) (sym (from_start k) ∙ q))
 
-  count-right : (d : Decided) → Counted m 0 0 es d → CountRight Σ L es d
-  count-right (After j) (i, p, l, t, b) =
+  count-right : (d : Option ℕ) → Counted m 0 0 es d → CountRight Σ L es d
+  count-right (Some j) (i, p, l, t, b) =
       let e : j ≡ i = omega arith in
-      subst (λ (n : ℕ). CountRight Σ L es (After n)) (sym e)
+      subst (λ (n : ℕ). CountRight Σ L es (Some n)) (sym e)
       (l, λ u. (let q : shows m (take i es) ≡ Undecided = (says (take i es) (word-take Σ i es a) Undecided).1 u in let f = sym t ∙ from_start i ∙ ap decides q in let z : ◌≡◌ {A = ℕ} 0 1 = cc in omega arith), λ k h. not_yet k (b k h))
-  count-right Never b = λ k h. not_yet k (b k h)
+  count-right None b = λ k h. not_yet k (b k h)
 
   end-right : RunRight Σ L es (end_of m 0 es)
   end-right = ((says es a (m.verdict (follow m 0 es))).0 (ap (λ (s : ℕ). m.verdict (follow m s es)) start), count-right (decided_from m 0 0 es) (counted m 0 0 es))
@@ -132,22 +130,22 @@ module _ (t : List ℕ) (form : is_table t ≡ true) where
   word-run s es l a = rw (form, lt-ltb s (states_in t) l, none-bad (alphabet_in t (signals_in t)) es a, le-ltb (length es) (length es) (omega arith))
 
   -- stepping ends where the events lead, with the verdict of that state
-  steps-end : (s : ℕ) (d : Decided) (es : List ℕ) → s < states_in t → Word (alphabet_in t (signals_in t)) es
-      → (d' : Decided) × (steps_from t (Ended s ((monitor_of t).verdict s) d) es ≡ Ended (follow (monitor_of t) s es) ((monitor_of t).verdict (follow (monitor_of t) s es)) d')
+  steps-end : (s : ℕ) (d : Option ℕ) (es : List ℕ) → s < states_in t → Word (alphabet_in t (signals_in t)) es
+      → (d' : Option ℕ) × (steps_from t (Ok s ((monitor_of t).verdict s) d) es ≡ Ok (follow (monitor_of t) s es) ((monitor_of t).verdict (follow (monitor_of t) s es)) d')
   unfolding steps_from
   steps-end s d [] l a = (d, refl)
   steps-end s d (e ∷ es) l a =
       let q = word-run s (e ∷ []) l (a.0, tt) in
       let h = steps-end (successor t (signals_in t) s e) (decided_from (monitor_of t) 0 s (e ∷ [])) es (table-inside t form s e l a.0) a.1 in
-      (h.0, ap (λ (r : Ran). steps_from t r es) q ∙ h.1)
+      (h.0, ap (λ (r : Result (Arrival ℕ) Refusal). steps_from t r es) q ∙ h.1)
 
 -- ---- an opening
 
 -- from a state that carries the opening's number, whichever opening gave it, a run is that of the table at hand
 pub own-run : (o : Opening) → is_table o.table ≡ true → (s : ℕ) (es : List ℕ) → run_from o (state_of o.number s) es ≡ carried o.number (run_of o.table s es)
 own-run o form s es =
-    ap (λ (b : Bool). cond b (own_run o.number (state_of o.number s) (run_of o.table s es)) (Arrived.Refused WrongTable)) form
-    ∙ ap (λ (b : Bool). cond b (carried o.number (run_of o.table s es)) (Arrived.Refused (WrongOpening 0))) (eq-eqb o.number o.number refl)
+    ap (λ (b : Bool). cond b (own_run o.number (state_of o.number s) (run_of o.table s es)) (Err WrongTable)) form
+    ∙ ap (λ (b : Bool). cond b (carried o.number (run_of o.table s es)) (Err (WrongOpening 0))) (eq-eqb o.number o.number refl)
 
 -- ---- stepping through a list
 
@@ -159,6 +157,6 @@ built-steps file table b es a =
     let some = states-some table (table-header table form) in
     let word = word_same (alphabet_of b.rule) (alphabet_in table (signals_in table)) b.demand_3.events es a in
     let end = steps-end table form 0 (decided_from (monitor_of table) 0 0 []) es some word in
-    let q : steps table es ≡ Ended _ (shows (monitor_of table) es) _ = ap (λ (r : Ran). steps_from table r es) (word-run table form 0 [] some tt) ∙ end.1 in
-    subst (λ (r : Ran). StepRight (alphabet_of b.rule) (property_of b.rule) es r) (sym q)
+    let q : steps table es ≡ Ok _ (shows (monitor_of table) es) _ = ap (λ (r : Result (Arrival ℕ) Refusal). steps_from table r es) (word-run table form 0 [] some tt) ∙ end.1 in
+    subst (λ (r : Result (Arrival ℕ) Refusal). StepRight (alphabet_of b.rule) (property_of b.rule) es r) (sym q)
     ((b.demand_2.verdicts table b.built es a (shows (monitor_of table) es)).0 refl)

@@ -27,35 +27,35 @@ use Rattle.meaning.specs.declared.Verdict.TheVariants.{Satisfied, Violated, Moot
 use Rattle.meaning.specs.declared.Refusal.{Refusal}
 use Rattle.meaning.specs.declared.Refusal.TheVariants.{WrongTable}
 use Rattle.meaning.specs.declared.Seen.{Seen}
-use Rattle.meaning.specs.declared.Shown.{Shown}
 use Rattle.moore.proofs.Words.{follow-append}
 use Rattle.table_run.proofs.Answers.{on-end}
 use Rattle.state_sets.specs.Sets.{Has, Among, shows_byte, all_show}
 use Rattle.completions.specs.Passing.{Cleared, Fault, Steps, Reached, concluded}
 use Rattle.completions.proofs.Members.{Last, completion-snoc, completion-unsnoc, all-complete, complete-all, not-all}
+use Rattle.std.proofs.Common.{Result}
 
 -- ---- checks
 
-first-append : (cs ds : List (Bool × Refusal)) (z : Shown) → first_of Shown.Refused (cs ++ ds) z ≡ first_of Shown.Refused cs (first_of Shown.Refused ds z)
+first-append : (cs ds : List (Bool × Refusal)) (z : Result Verdict Refusal) → first_of Err (cs ++ ds) z ≡ first_of Err cs (first_of Err ds z)
 first-append [] ds z = refl
-first-append (c ∷ cs) ds z = ap (λ (r : Shown). cond c.0 (Shown.Refused c.1) r) (first-append cs ds z)
+first-append (c ∷ cs) ds z = ap (λ (r : Result Verdict Refusal). cond c.0 (Err c.1) r) (first-append cs ds z)
 
 module _ (f : ℕ → List (Bool × Refusal)) where
   pub cleared-none : Cleared (joined 0 f)
   cleared-none = record { is = λ z. refl }
 
   pub cleared_more : (i : ℕ) → Cleared (joined i f) → Cleared (f i) → Cleared (joined (i + 1) f)
-  cleared_more i h k = record { is = λ z. ap (λ (n : ℕ). first_of Shown.Refused (joined n f) z) (add-one i) ∙ first-append (joined i f) (f i) z ∙ h.is (first_of Shown.Refused (f i) z) ∙ k.is z }
+  cleared_more i h k = record { is = λ z. ap (λ (n : ℕ). first_of Err (joined n f) z) (add-one i) ∙ first-append (joined i f) (f i) z ∙ h.is (first_of Err (f i) z) ∙ k.is z }
 
   -- the checks up to the one with index i, which refuses, and those behind it
-  up_to : (n i : ℕ) (x : Refusal) (z : Shown) → Cleared (joined i f) → Fault (f i) x → i < n → first_of Shown.Refused (joined n f) z ≡ Shown.Refused x
+  up_to : (n i : ℕ) (x : Refusal) (z : Result Verdict Refusal) → Cleared (joined i f) → Fault (f i) x → i < n → first_of Err (joined n f) z ≡ Err x
   up_to zero i x z h k l = absurd (omega arith)
-  up_to (suc n) i x z h k l = first-append (joined n f) (f n) z ∙ go (dec_lt i n) (λ m. up_to n i x (first_of Shown.Refused (f n) z) h k m)
+  up_to (suc n) i x z h k l = first-append (joined n f) (f n) z ∙ go (dec_lt i n) (λ m. up_to n i x (first_of Err (f n) z) h k m)
     where
-      go : Dec (i < n) → (i < n → first_of Shown.Refused (joined n f) (first_of Shown.Refused (f n) z) ≡ Shown.Refused x)
-          → first_of Shown.Refused (joined n f) (first_of Shown.Refused (f n) z) ≡ Shown.Refused x
+      go : Dec (i < n) → (i < n → first_of Err (joined n f) (first_of Err (f n) z) ≡ Err x)
+          → first_of Err (joined n f) (first_of Err (f n) z) ≡ Err x
       go (yes m) more = more m
-      go (no m) more = let e : i ≡ n = omega arith in subst (λ (j : ℕ). first_of Shown.Refused (joined j f) (first_of Shown.Refused (f j) z) ≡ Shown.Refused x) e (h.is (first_of Shown.Refused (f i) z) ∙ k.is z)
+      go (no m) more = let e : i ≡ n = omega arith in subst (λ (j : ℕ). first_of Err (joined j f) (first_of Err (f j) z) ≡ Err x) e (h.is (first_of Err (f i) z) ∙ k.is z)
 
   pub fault-at : (n i : ℕ) (x : Refusal) → Cleared (joined i f) → Fault (f i) x → i < n → Fault (joined n f) x
   fault-at n i x h k l = record { is = λ z. up_to n i x z h k l }
@@ -225,9 +225,9 @@ module _ (t : List ℕ) (P S : ℕ) where
           go false p true q = never (sym (to-members q) ∙ p)
           go false p false q = p ∙ sym q
 
-    pub concluded-right : concluded t P S marks inside ≡ cond (every (map (on_table t P S 0) ws)) (Shown.Verdict (verdict_over m ws)) (Shown.Refused WrongTable)
-    concluded-right = go inside refl ∙ sym (ap (λ (b : Bool). cond b (Shown.Verdict (verdict_over m ws)) (Shown.Refused WrongTable)) all-on)
+    pub concluded-right : concluded t P S marks inside ≡ cond (every (map (on_table t P S 0) ws)) (Ok (verdict_over m ws)) (Err WrongTable)
+    concluded-right = go inside refl ∙ sym (ap (λ (b : Bool). cond b (Ok (verdict_over m ws)) (Err WrongTable)) all-on)
       where
-        go : (b : Bool) → inside ≡ b → concluded t P S marks inside ≡ cond inside (Shown.Verdict (verdict_over m ws)) (Shown.Refused WrongTable)
+        go : (b : Bool) → inside ≡ b → concluded t P S marks inside ≡ cond inside (Ok (verdict_over m ws)) (Err WrongTable)
         go true e = rw (e, same_test e Satisfied, same_test e Violated, same_test e Moot)
         go false e = rw e

@@ -12,15 +12,16 @@ use Rattle.meaning.specs.declared.Verdict.TheVariants.{Undecided, Satisfied, Vio
 use Rattle.meaning.specs.declared.Refusal.{Refusal}
 use Rattle.meaning.specs.declared.Refusal.TheVariants.{WrongTable}
 use Rattle.meaning.specs.declared.Seen.{Seen}
-use Rattle.meaning.specs.declared.Shown.{Shown}
 use Rattle.state_sets.specs.Sets.{Has, Among, Moved, all_show}
+use Rattle.std.specs.Prelude.{Result}
+use Rattle.meaning.specs.declared.Verdict.{Verdict}
 
 -- no check of the list refuses; and the first that does refuses by x
 pub record Cleared (cs : List (Bool × Refusal)) : Type 0 where
-  pub is : (z : Shown) → first_of Shown.Refused cs z ≡ z
+  pub is : (z : Result Verdict Refusal) → first_of Err cs z ≡ z
 
 pub record Fault (cs : List (Bool × Refusal)) (x : Refusal) : Type 0 where
-  pub is : (z : Shown) → first_of Shown.Refused cs z ≡ Shown.Refused x
+  pub is : (z : Result Verdict Refusal) → first_of Err cs z ≡ Err x
 
 -- The set moves by the events that complete a recorded one, of which there are some.
 pub record Steps (t : List ℕ) (P S : ℕ) (r : Seen) (old new : List Bool) (ok : Bool) : Type 0 where
@@ -39,15 +40,15 @@ pub record Reached (t : List ℕ) (P S : ℕ) (rs : List Seen) (inside : Bool) (
   pub left : inside ≡ false → (w : List ℕ) × Completion (alphabet_in t P) P rs w × (on_table t P S 0 w ≡ false)
 
 -- what is answered of the set at the end
-abbrev pub concluded : List ℕ → ℕ → ℕ → List Bool → Bool → Shown
+abbrev pub concluded : List ℕ → ℕ → ℕ → List Bool → Bool → Result Verdict Refusal
 concluded t P S set inside =
     cond inside
-    (Shown.Verdict (cond (all_show t P S set 1) Satisfied (cond (all_show t P S set 2) Violated (cond (all_show t P S set 3) Moot Undecided))))
-    (Shown.Refused WrongTable)
+    (Ok (cond (all_show t P S set 1) Satisfied (cond (all_show t P S set 2) Violated (cond (all_show t P S set 3) Moot Undecided))))
+    (Err WrongTable)
 
 -- what is answered after the lengths
-unfoldable pub events_judged : List ℕ → ℕ → ℕ → List ℕ → List ℕ → Shown
+unfoldable pub events_judged : List ℕ → ℕ → ℕ → List ℕ → List ℕ → Result Verdict Refusal
 events_judged t P S a b =
     let ws = completions (alphabet_in t P) P (joined_list a b) in
-    first_of Shown.Refused (joined (length a / 2) (event_checks (alphabet_in t P) P a b))
-    (cond (every (map (on_table t P S 0) ws)) (Shown.Verdict (verdict_over (monitor_in t P S) ws)) (Shown.Refused WrongTable))
+    first_of Err (joined (length a / 2) (event_checks (alphabet_in t P) P a b))
+    (cond (every (map (on_table t P S 0) ws)) (Ok (verdict_over (monitor_in t P S) ws)) (Err WrongTable))

@@ -3,6 +3,7 @@
 --     posted            a post is one of the two
 --     Hearing, Silent   a turn that hears the first number with an event waiting, and one that finds none
 --     turned            a turn is one of the two
+use Rattle.std.proofs.Common.{Ok, Err}
 use mathlib.Core.Path.{◌≡◌, refl, sym, ap, ◌∙◌, subst}
 use mathlib.Core.Logic.{◌⊎◌, inl, inr}
 use mathlib.Core.List.{List, [], ◌∷◌}
@@ -59,7 +60,7 @@ module _ (o : Opening) where
       pub event : Event Σ e
       pub room : (watch_at d j).waiting < 32
       pub counts : counted (watch_at d j) < 4294967295
-      pub is : post_of o d j e ≡ record { answer = Served.Done; desk = set d j (with_event (watch_at d j) e) }
+      pub is : post_of o d j e ≡ record { answer = Ok Served.Done; desk = set d j (with_event (watch_at d j) e) }
 
     pub record Denied (j e : ℕ) : Type 0 where
       pub why : Refusal
@@ -81,15 +82,15 @@ module _ (o : Opening) where
         pub inside : number < n
         pub waits : 1 ≤ (watch_at d number).waiting
         pub is : turn_of o d l
-            ≡ record { answer = Served.Heard number (oldest (watch_at d number)) (state_of o.number (next (watch_at d number))) (shown (watch_at d number)); desk = set d number (later (watch_at d number)) }
+            ≡ record { answer = Ok (Served.Heard number (oldest (watch_at d number)) (state_of o.number (next (watch_at d number))) (shown (watch_at d number))); desk = set d number (later (watch_at d number)) }
 
       pub record Silent : Type 0 where
         pub before : Silence n
-        pub is : turn_of o d l ≡ record { answer = Served.NoneWaits l; desk = d }
+        pub is : turn_of o d l ≡ record { answer = Ok (Served.NoneWaits l); desk = d }
 
   module _ (form : is_table o.table ≡ true) (n : ℕ) (some : 1 ≤ n) (few : n ≤ 64) (d : List Watch) (g : Fine n d) where
     abbrev done : ℕ → ℕ → Outcome
-    done j e = record { answer = Served.Done; desk = set d j (with_event (watch_at d j) e) }
+    done j e = record { answer = Ok Served.Done; desk = set d j (with_event (watch_at d j) e) }
 
     -- the tests of the table and of the desk pass, and the other four are left
     post-checked : (j e : ℕ) → post_of o d j e
@@ -127,7 +128,7 @@ module _ (o : Opening) where
       at = after (length d) l (passed d l)
 
       turn-checked : turn_of o d l
-          ≡ cond (ltb (passed d l) (length d)) (heard_by o.number d at (run_of o.table (watch_at d at).state (oldest (watch_at d at) ∷ []))) (record { answer = Served.NoneWaits l; desk = d })
+          ≡ cond (ltb (passed d l) (length d)) (heard_by o.number d at (run_of o.table (watch_at d at).state (oldest (watch_at d at) ∷ []))) (record { answer = Ok (Served.NoneWaits l); desk = d })
       unfolding turn_by turn_of
       turn-checked = rw (form, row-fits o.number Σ S n d g some few, none-foreign o.number Σ S n d g, none-wrong o.number Σ S n d g, le-ltb (length d) (length d) (omega arith))
 

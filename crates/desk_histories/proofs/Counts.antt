@@ -22,8 +22,6 @@ use Rattle.meaning.specs.Runs.{decides, decided_from}
 use Rattle.meaning.specs.Desks.{first_stood, fresh_watch, without_oldest}
 use Rattle.meaning.specs.declared.Verdict.{Verdict}
 use Rattle.meaning.specs.declared.Verdict.TheVariants.{Undecided, Satisfied, Violated, Moot}
-use Rattle.meaning.specs.declared.Decided.{Decided}
-use Rattle.meaning.specs.declared.Decided.TheVariants.{After, Never}
 use Rattle.meaning.specs.declared.Watch.{Watch}
 use Rattle.table_layout.proofs.Form.{table-header, states-some}
 use Rattle.moore.proofs.Words.{follow-append}
@@ -31,16 +29,17 @@ use Rattle.walk.proofs.Residual.{judged-stays}
 use Rattle.building.specs.Build.{BuiltRight}
 use Rattle.building.specs.Running.{CountRight, RunRight}
 use Rattle.building.proofs.Running.{word_same, word-run, built-run}
+use Rattle.std.proofs.Common.{Option, Some, None}
 
 -- ---- the count of a run, with an event more
 
 -- what stood so far, and where nothing did, whether it now does, after n events
-abbrev noted : Decided → Bool → ℕ → Decided
-noted (After k) b n = After k
-noted Never b n = cond b (After n) Never
+abbrev noted : Option ℕ → Bool → ℕ → Option ℕ
+noted (Some k) b n = Some k
+noted None b n = cond b (Some n) None
 
 -- b says whether a verdict stood already after k events, before all of these
-noted-past : (b : Bool) (k : ℕ) (r r' : Decided) (c : Bool) (n : ℕ) → r' ≡ noted r c n → cond b (After k) r' ≡ noted (cond b (After k) r) c n
+noted-past : (b : Bool) (k : ℕ) (r r' : Option ℕ) (c : Bool) (n : ℕ) → r' ≡ noted r c n → cond b (Some k) r' ≡ noted (cond b (Some k) r) c n
 noted-past true k r r' c n q = refl
 noted-past false k r r' c n q = q
 
@@ -49,7 +48,7 @@ decided-one : (m : Monitor) (n s : ℕ) (es : List ℕ) (e k : ℕ) → k ≡ n 
 unfolding decided_from
 decided-one m n s [] e k q =
     let p : suc n ≡ k = omega arith in
-    noted-past (decides (m.verdict s)) n Never _ _ k (ap (λ (j : ℕ). cond (decides (m.verdict (m.next s e))) (After j) Never) p)
+    noted-past (decides (m.verdict s)) n None _ _ k (ap (λ (j : ℕ). cond (decides (m.verdict (m.next s e))) (Some j) None) p)
 decided-one m n s (x ∷ es) e k q =
     noted-past (decides (m.verdict s)) n (decided_from m (suc n) (m.next s x) es) _ _ k (decided-one m (suc n) (m.next s x) es e k (omega arith))
 
@@ -65,7 +64,7 @@ module _ (m : Monitor) where
   unfolding decided_from
   heard-fresh n = record { state = refl; count = refl; first = go (decides (m.verdict 0)) }
     where
-      go : (b : Bool) → cond (eqb (cond b 1 0) 0) Never (After 0) ≡ cond b (After 0) Never
+      go : (b : Bool) → cond (eqb (cond b 1 0) 0) None (Some 0) ≡ cond b (Some 0) None
       go true = refl
       go false = refl
 
@@ -74,7 +73,7 @@ module _ (m : Monitor) where
   first_one w s v = go (eqb w.filled 0) (decides v) refl
     where
       go : (a b : Bool) → eqb w.filled 0 ≡ a
-          → cond (eqb (cond (a && b) 1 w.filled) 0) Never (After (cond (a && b) (w.heard + 1) w.first)) ≡ noted (cond a Never (After w.first)) b (w.heard + 1)
+          → cond (eqb (cond (a && b) 1 w.filled) 0) None (Some (cond (a && b) (w.heard + 1) w.first)) ≡ noted (cond a None (Some w.first)) b (w.heard + 1)
       go true true q = refl
       go true false q = rw q
       go false b q = rw q
@@ -91,14 +90,14 @@ module _ (m : Monitor) where
 
 -- ---- whether a verdict stood
 
-abbrev pub stood : Decided → Bool
-stood (After k) = true
-stood Never = false
+abbrev pub stood : Option ℕ → Bool
+stood (Some k) = true
+stood None = false
 
 pub filled-stood : (w : Watch) → not (eqb w.filled 0) ≡ stood (first_stood w)
 filled-stood w = go (eqb w.filled 0)
   where
-    go : (b : Bool) → not b ≡ stood (cond b Never (After w.first))
+    go : (b : Bool) → not b ≡ stood (cond b None (Some w.first))
     go true = refl
     go false = refl
 
@@ -144,6 +143,6 @@ module _ (file t : List ℕ) (b : BuiltRight file t) (es : List ℕ) (a : Word (
   pub stood-while : stood (decided_from m 0 0 es) ≡ decides (shows m es)
   stood-while = go (decided_from m 0 0 es) count-right
     where
-      go : (d : Decided) → CountRight Σ L es d → stood d ≡ decides (shows m es)
-      go (After k) r = stands k r.1 (shows m (take k es)) refl
-      go Never r = sym (ap decides ((says es a Undecided).1 (subst (λ (w : List ℕ). Judged Σ L w Undecided) (take-length es) (r (length es) (omega arith)))))
+      go : (d : Option ℕ) → CountRight Σ L es d → stood d ≡ decides (shows m es)
+      go (Some k) r = stands k r.1 (shows m (take k es)) refl
+      go None r = sym (ap decides ((says es a Undecided).1 (subst (λ (w : List ℕ). Judged Σ L w Undecided) (take-length es) (r (length es) (omega arith)))))

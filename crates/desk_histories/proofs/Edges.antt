@@ -1,4 +1,5 @@
 -- A worked example of C-16's edge, 4,294,967,295 events heard and waiting: one tunnel has heard them all, another waits to hear its last.
+use Rattle.std.proofs.Common.{Ok, Err}
 use mathlib.Core.Path.{◌≡◌, refl}
 use mathlib.Core.List.{List, [], ◌∷◌}
 use Prim.Native.Nat.{ℕ}
@@ -12,6 +13,7 @@ use Rattle.meaning.specs.declared.Verdict.TheVariants.{Undecided}
 use Rattle.meaning.specs.declared.Served.TheVariants as Served
 use Rattle.meaning.specs.declared.Watch.{Watch}
 use Rattle.desk_histories.proofs.Sharp.{table, opening}
+use Rattle.std.proofs.Common.{Err}
 
 -- so many heard, and so many waiting
 abbrev pub counting : ℕ → ℕ → Watch
@@ -22,14 +24,14 @@ edge = counting 4294967295 0 ∷ counting 4294967294 1 ∷ []
 
 pub record Edge : Type 0 where
   -- a post is refused by 21, to both
-  pub post-full : (post_of (opening table) edge 0 1).answer ≡ Served.Refused (CountFull 0)
-  pub post-last : (post_of (opening table) edge 1 1).answer ≡ Served.Refused (CountFull 1)
+  pub post-full : (post_of (opening table) edge 0 1).answer ≡ Err (CountFull 0)
+  pub post-last : (post_of (opening table) edge 1 1).answer ≡ Err (CountFull 1)
   -- a turn takes both watches, and hears the last event of the one that waits
-  pub turn : (turn_of (opening table) edge 0).answer ≡ Served.Heard 1 0 (state_of 4660 0) Undecided
+  pub turn : (turn_of (opening table) edge 0).answer ≡ Ok (Served.Heard 1 0 (state_of 4660 0) Undecided)
   pub count : watch_at (turn_of (opening table) edge 0).desk 1 ≡ counting 4294967295 0
   -- one event more is 13, also where 32 bits would hold the sum wrapped
-  pub past : (turn_of (opening table) (counting 4294967295 1 ∷ []) 0).answer ≡ Served.Refused (WrongWatch 0)
-  pub far-past : (turn_of (opening table) (counting 4294967295 32 ∷ []) 0).answer ≡ Served.Refused (WrongWatch 0)
+  pub past : (turn_of (opening table) (counting 4294967295 1 ∷ []) 0).answer ≡ Err (WrongWatch 0)
+  pub far-past : (turn_of (opening table) (counting 4294967295 32 ∷ []) 0).answer ≡ Err (WrongWatch 0)
 
 pub at-the-edge : Edge
 unfolding is_table decided_from post_by post_of turn_by turn_of

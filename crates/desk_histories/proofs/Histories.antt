@@ -5,6 +5,7 @@
 --     verdict-right     over a built table, the verdict of each state is demand 2's
 --     filled-right      over a built table, the number is filled exactly while that verdict is not undecided
 --     begun_fresh       what making a desk fresh leaves is where they begin
+use Rattle.std.proofs.Common.{Ok, Err}
 use mathlib.Core.Path.{◌≡◌, sym, ap, ◌∙◌, subst}
 use mathlib.Core.Logic.{◌⊎◌, inl, inr}
 use mathlib.Core.List.{List, []}
@@ -25,7 +26,6 @@ use Rattle.meaning.specs.Histories.{Action, Post, Turn, Standing, begun, reached
 use Rattle.meaning.specs.declared.Refusal.{Refusal}
 use Rattle.meaning.specs.declared.Verdict.{Verdict}
 use Rattle.meaning.specs.declared.State.{State}
-use Rattle.meaning.specs.declared.Arrived.{Arrived}
 use Rattle.meaning.specs.declared.Served.TheVariants as Served
 use Rattle.meaning.specs.declared.Watch.{Watch}
 use Rattle.table_layout.proofs.Form.{states-some, table-header}
@@ -38,6 +38,8 @@ use Rattle.rounds.proofs.Rounds.{apart_some, last-in}
 use Rattle.desk_histories.proofs.Answers.{Σ, S, Fine, next, later, Added, Denied, Hearing, Silent, posted, turned}
 use Rattle.desk_histories.proofs.Moves.{Moved, good-all, moved_all}
 use Rattle.desk_histories.proofs.Turns.{Within, soon}
+use Rattle.std.proofs.Common.{Result, Err}
+use Rattle.meaning.specs.declared.Arrival.{Arrival}
 
 module _ (o : Opening) (form : is_table o.table ≡ true) (n l : ℕ) (some : 1 ≤ n) (few : n ≤ 64) where
   first : 1 ≤ S o
@@ -89,14 +91,14 @@ module _ (o : Opening) (form : is_table o.table ≡ true) (n l : ℕ) (some : 1 
   tunnel-right h i inside = record {
     kept = (moved h i inside).kept;
     state =
-        subst (λ (r : Arrived). EndsIn r (stands (now h i inside))) (sym (ap (run_from o (start_of o)) (heard-first h i inside) ∙ run_ends h i inside)) (here-stands h i inside);
+        subst (λ (r : Result (Arrival State) Refusal). EndsIn r (stands (now h i inside))) (sym (ap (run_from o (start_of o)) (heard-first h i inside) ∙ run_ends h i inside)) (here-stands h i inside);
     in_time = λ g w m. soon o form n some few i inside (reached o (begun o n l) h) (good h) w g (round h i inside (reached o (begun o n l) h) (turns g) m);
   }
 
   pub when-right : (h : List Action) (i : ℕ) → i < n → WhenRight o n l h i
   when-right h i inside = record {
     count = omega (arith, (remembered h i inside).count);
-    first = subst (λ (r : Arrived). CountIs r (first_stood (now h i inside))) (sym (run_ends h i inside)) (sym (remembered h i inside).first);
+    first = subst (λ (r : Result (Arrival State) Refusal). CountIs r (first_stood (now h i inside))) (sym (run_ends h i inside)) (sym (remembered h i inside).first);
   }
 
   -- ---- the next action
@@ -105,14 +107,14 @@ module _ (o : Opening) (form : is_table o.table ≡ true) (n l : ℕ) (some : 1 
     abbrev at : Standing
     at = reached o (begun o n l) h
 
-    turn-taken : (x : Refusal) → (asked o at Turn).answer ≡ Served.Refused x → ⊥
+    turn-taken : (x : Refusal) → (asked o at Turn).answer ≡ Err x → ⊥
     turn-taken x q = go (turned o form n some few at.desk (good h) at.last)
       where
         go : Hearing o n at.desk at.last ⊎ Silent o n at.desk at.last → ⊥
         go (inl p) = let r = sym (ap (λ (y : Outcome). y.answer) p.is) ∙ q in let z : ◌≡◌ {A = ℕ} 0 1 = cc in omega arith
         go (inr p) = let r = sym (ap (λ (y : Outcome). y.answer) p.is) ∙ q in let z : ◌≡◌ {A = ℕ} 0 1 = cc in omega arith
 
-    post-refused : (j e : ℕ) (x : Refusal) → (asked o at (Post j e)).answer ≡ Served.Refused x → ((code_of x).0 ≡ 19) ⊎ ((code_of x).0 ≡ 12) ⊎ ((code_of x).0 ≡ 20) ⊎ ((code_of x).0 ≡ 21)
+    post-refused : (j e : ℕ) (x : Refusal) → (asked o at (Post j e)).answer ≡ Err x → ((code_of x).0 ≡ 19) ⊎ ((code_of x).0 ≡ 12) ⊎ ((code_of x).0 ≡ 20) ⊎ ((code_of x).0 ≡ 21)
     post-refused j e x q = go (posted o form n some few at.desk (good h) j e)
       where
         go : Added o n at.desk j e ⊎ Denied o n at.desk j e → ((code_of x).0 ≡ 19) ⊎ ((code_of x).0 ≡ 12) ⊎ ((code_of x).0 ≡ 20) ⊎ ((code_of x).0 ≡ 21)
@@ -122,7 +124,7 @@ module _ (o : Opening) (form : is_table o.table ≡ true) (n l : ℕ) (some : 1 
             let y : p.why ≡ x = cc in
             subst (λ (u : Refusal). ((code_of u).0 ≡ 19) ⊎ ((code_of u).0 ≡ 12) ⊎ ((code_of u).0 ≡ 20) ⊎ ((code_of u).0 ≡ 21)) y p.number
 
-    turn-heard : (i e : ℕ) (s : State) (v : Verdict) → (asked o at Turn).answer ≡ Served.Heard i e s v
+    turn-heard : (i e : ℕ) (s : State) (v : Verdict) → (asked o at Turn).answer ≡ Ok (Served.Heard i e s v)
         → (i < n) × (e ≡ oldest (watch_at at.desk i)) × (s ≡ stands (watch_at (asked o at Turn).desk i)) × (v ≡ (monitor_of o.table).verdict s.number)
     turn-heard i e s v q = go (turned o form n some few at.desk (good h) at.last)
       where
@@ -178,6 +180,6 @@ module _ (file : List ℕ) (o : Opening) (b : BuiltRight file o.table) (n l : �
 -- ---- the beginning
 
 pub begun_fresh : (o : Opening) → is_table o.table ≡ true → (d : List Watch) → row_fits d ≡ true → (l : ℕ)
-    → fresh_of o d ≡ record { answer = Served.Done; desk = (begun o (length d) l).desk }
+    → fresh_of o d ≡ record { answer = Ok Served.Done; desk = (begun o (length d) l).desk }
 unfolding fresh_of
 begun_fresh o form d fits l = rw (form, fits)

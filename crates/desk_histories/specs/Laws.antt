@@ -11,16 +11,15 @@ use Rattle.meaning.specs.Histories.{Action, Post, Turn, begun, reached, asked, a
 use Rattle.meaning.specs.declared.Refusal.{Refusal}
 use Rattle.meaning.specs.declared.Verdict.{Verdict}
 use Rattle.meaning.specs.declared.Watch.{Watch}
-use Rattle.meaning.specs.declared.Decided.{Decided}
 use Rattle.meaning.specs.declared.State.{State}
-use Rattle.meaning.specs.declared.Arrived.{Arrived}
-use Rattle.meaning.specs.declared.Arrived.TheVariants as Arrived
 use Rattle.meaning.specs.declared.Served.TheVariants as Served
+use Rattle.std.specs.Prelude.{Result, Ok, Err, Option}
+use Rattle.meaning.specs.declared.Arrival.{Arrival}
 
 -- the run is not refused, and ends in the state s
-abbrev pub EndsIn : Arrived → State → Type 0
-EndsIn (Arrived.At s v d) q = s ≡ q
-EndsIn (Arrived.Refused x) q = ⊥
+abbrev pub EndsIn : Result (Arrival State) Refusal → State → Type 0
+EndsIn (Ok a) q = a.state ≡ q
+EndsIn (Err x) q = ⊥
 
 -- After the actions h, of tunnel i.
 pub record TunnelRight (o : Opening) (n l : ℕ) (h : List Action) (i : ℕ) : Type 0 where
@@ -34,12 +33,12 @@ pub record TunnelRight (o : Opening) (n l : ℕ) (h : List Action) (i : ℕ) : T
 -- After the actions h, the next action.
 pub record NextRight (o : Opening) (n l : ℕ) (h : List Action) : Type 0 where
   -- a turn is never refused
-  pub turn : (x : Refusal) → ¬ ((asked o (reached o (begun o n l) h) Turn).answer ≡ Served.Refused x)
+  pub turn : (x : Refusal) → ¬ ((asked o (reached o (begun o n l) h) Turn).answer ≡ Err x)
   -- a post is refused for what is posted alone: by 19, 12, 20 or 21, and so never by 18, 24, 13 or 14
-  pub post : (i e : ℕ) (x : Refusal) → (asked o (reached o (begun o n l) h) (Post i e)).answer ≡ Served.Refused x
+  pub post : (i e : ℕ) (x : Refusal) → (asked o (reached o (begun o n l) h) (Post i e)).answer ≡ Err x
       → ((code_of x).0 ≡ 19) ⊎ ((code_of x).0 ≡ 12) ⊎ ((code_of x).0 ≡ 20) ⊎ ((code_of x).0 ≡ 21)
   -- what a turn says that it heard: the tunnel is one of the row, the event was its oldest, and the state and verdict are those in which the tunnel now stands
-  pub heard : (i e : ℕ) (s : State) (v : Verdict) → (asked o (reached o (begun o n l) h) Turn).answer ≡ Served.Heard i e s v
+  pub heard : (i e : ℕ) (s : State) (v : Verdict) → (asked o (reached o (begun o n l) h) Turn).answer ≡ Ok (Served.Heard i e s v)
       → (i < n) × (e ≡ oldest (watch_at (reached o (begun o n l) h).desk i)) × (s ≡ stands (watch_at (asked o (reached o (begun o n l) h) Turn).desk i)) × (v ≡ (monitor_of o.table).verdict s.number)
 
 -- With a built table the verdict of a tunnel's state is demand 2's for what the tunnel heard.
@@ -49,9 +48,9 @@ VerdictRight r o n l h i = Judged (alphabet_of r) (property_of r) (heard o (begu
 -- ---- C-16
 
 -- the run is not refused, and a verdict other than undecided first stood in it after so many events
-abbrev pub CountIs : Arrived → Decided → Type 0
-CountIs (Arrived.At s v d) c = d ≡ c
-CountIs (Arrived.Refused x) c = ⊥
+abbrev pub CountIs : Result (Arrival State) Refusal → Option ℕ → Type 0
+CountIs (Ok a) c = a.decided ≡ c
+CountIs (Err x) c = ⊥
 
 -- After the actions h, of tunnel i, what its watch remembers.
 pub record WhenRight (o : Opening) (n l : ℕ) (h : List Action) (i : ℕ) : Type 0 where

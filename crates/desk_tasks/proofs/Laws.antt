@@ -4,6 +4,7 @@
 --     decided-refused, decided-request, turn-none, turn-full, turn-some      what is decided, by cases
 --     by_tests, few-first                   hearing as three tests
 --     hear-many, hear-outside, hear-barred, hear-off, hear-ended           what hearing comes to, by cases
+use Rattle.std.proofs.Common.{Ok, Err}
 use mathlib.Core.Path.{◌≡◌, sym, ap, ◌∙◌}
 use mathlib.Core.Bool.{Bool, true, false, cond, not, ◌&&◌}
 use mathlib.Core.List.{List, [], ◌∷◌}
@@ -45,7 +46,7 @@ module _ (t : List ℕ) (s : Task) (w : Watch) where
   unfolding decided_of
   decided-request e q = ap (request_decided t s w) (sym q) ∙ ap (check_decided t s w) (sym e)
 
-  pub turn-none : (l : ℕ) {n : ℕ} → n ≡ next_of s → s.length ≤ n → record { number = s.length; watch = w; answer = Served.NoneWaits l } ≡ turn_decided t s w l
+  pub turn-none : (l : ℕ) {n : ℕ} → n ≡ next_of s → s.length ≤ n → record { number = s.length; watch = w; answer = Ok (Served.NoneWaits l) } ≡ turn_decided t s w l
   turn-none l p b = let q : s.length ≤ next_of s = omega arith in rw (le-leb s.length (next_of s) q)
 
   module _ (l : ℕ) {n : ℕ} (p : n ≡ next_of s) (b : n < s.length) where
@@ -109,5 +110,5 @@ module _ (t : List ℕ) (s : Task) (w : Watch) (i : ℕ) where
         hear-off h = sym (passed_to true h)
 
         pub hear-ended : not f ≡ false → {v : Verdict} {u : Watch} → v ≡ verdict_of (verdict_byte t s.signals to) → u ≡ without_oldest w to v
-            → record { number = i; watch = u; answer = Served.Heard i e (state_of s.opening to) v } ≡ heard_from t s w i
+            → record { number = i; watch = u; answer = Ok (Served.Heard i e (state_of s.opening to) v) } ≡ heard_from t s w i
         hear-ended h p z = rw (z, p, old, there) (sym (passed_to false h))

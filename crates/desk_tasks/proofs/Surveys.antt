@@ -1,6 +1,7 @@
 -- What is decided after a pass is what the definitions of post and turn say.
 --     begun-upto    a pass looks at no watch past the row
 --     surveyed      a service that was made by a pass over the row
+use Rattle.std.proofs.Common.{Ok, Err}
 use mathlib.Core.Path.{◌≡◌, refl, sym, ap, ◌∙◌, subst}
 use mathlib.Core.List.{List, [], ◌∷◌, map}
 use mathlib.Core.Bool.{Bool, true, false, cond, not, ◌&&◌}
@@ -24,7 +25,6 @@ use Rattle.meaning.specs.Runs.{end_of, counts_fit, on_table, tested, ran_in}
 use Rattle.meaning.specs.Desks.{Outcome, refused, watch_fits, queue, counted, first_wrong, first_foreign, desk_checks, watch_at, oldest, with_event, after, passed, heard_by, post_by, turn_by, post_in, turn_in}
 use Rattle.meaning.specs.declared.Refusal.{Refusal}
 use Rattle.meaning.specs.declared.Refusal.TheVariants.{WrongEvent, WrongState, WrongWatch, WrongTable, WrongNumber, QueueFull, CountFull, WrongOpening}
-use Rattle.meaning.specs.declared.Ran.{Ran}
 use Rattle.meaning.specs.declared.Watch.{Watch}
 use Rattle.meaning.specs.declared.Served.TheVariants as Served
 use Rattle.event_lists.specs.Masks.{all_in}
@@ -41,6 +41,8 @@ use Rattle.desk_tasks.specs.Surveys.{served_in, Surveyed}
 use Rattle.desk_tasks.proofs.Laws.{by_tests, way_here, heard_here, few-first}
 use Rattle.desk_tasks.proofs.Passes.{Kept, lowest, lowest-least, pass_kept, pass-foreign, pass-wrong, pass-waits, pass-later}
 use Rattle.desk_tasks.proofs.Nexts.{next-is}
+use Rattle.std.proofs.Common.{Result, Err}
+use Rattle.meaning.specs.declared.Arrival.{Arrival}
 
 pub begun-upto : {t : List ℕ} {P S n : ℕ} {r : Request} {s : Task} → Begun t P S r n s → s.upto ≤ n
 begun-upto {t} {P} {S} {n} {s = s} h = go (counts_fit t P S && (leb 1 n && leb n 64)) h.upto
@@ -60,7 +62,7 @@ module _ (d : List Watch) (s : Task) (w : Watch) (len : s.length ≡ length d) w
   past = set_out d s.length w (omega arith)
 
   applied-refused : (x : Refusal) → applied d (refusing s w x) ≡ refused d x
-  applied-refused x = ap (λ (e : List Watch). record { answer = Served.Refused x; desk = e }) past
+  applied-refused x = ap (λ (e : List Watch). record { answer = Err x; desk = e }) past
 
   -- the first check that fails
   applied-first : (cs : List (Bool × Refusal)) (y : Service) → applied d (first_of (refusing s w) cs y) ≡ first_of (refused d) cs (applied d y)
@@ -86,9 +88,9 @@ module _ (d : List Watch) (s : Task) (w : Watch) (len : s.length ≡ length d) w
   unfolding decided_of
   applied-decided t = ap (applied d) (checked-first t (row_checks s)) ∙ applied-first (row_checks s) (request_decided t s w s.request)
 
-  applied-heard : (i : ℕ) → w ≡ watch_at d i → (r : Ran) → applied d (hear_decided s w i r) ≡ heard_by s.opening d i r
-  applied-heard i e (Ran.Ended to v c) = rw e
-  applied-heard i e (Ran.Refused x) = applied-refused x
+  applied-heard : (i : ℕ) → w ≡ watch_at d i → (r : Result (Arrival ℕ) Refusal) → applied d (hear_decided s w i r) ≡ heard_by s.opening d i r
+  applied-heard i e (Ok a) = rw e
+  applied-heard i e (Err x) = applied-refused x
 
 -- ---- a watch fits by the mask exactly if it fits
 
@@ -107,12 +109,12 @@ module _ (t : List ℕ) (s : Task) (w : Watch) (i : ℕ) where
   e = oldest w
 
   -- the run by the same tests
-  abbrev ran_by : Bool → Bool → Bool → Ran
+  abbrev ran_by : Bool → Bool → Bool → Result (Arrival ℕ) Refusal
   ran_by inside can way =
       tested way
       (cond inside
-      (cond (ltb (cond (not can) 0 1) 1) (Ran.Refused (WrongEvent (cond (not can) 0 1))) (end_of (monitor_in t s.signals s.states) w.state (e ∷ [])))
-      (Ran.Refused WrongState))
+      (cond (ltb (cond (not can) 0 1) 1) (Err (WrongEvent (cond (not can) 0 1))) (end_of (monitor_in t s.signals s.states) w.state (e ∷ [])))
+      (Err WrongState))
 
   by-tests : (inside can way : Bool) → by_tests s w (heard_here t s w i) (not inside) (not can) (not way) ≡ hear_decided s w i (ran_by inside can way)
   by-tests true true true = refl
@@ -130,7 +132,7 @@ module _ (t : List ℕ) (s : Task) (w : Watch) (i : ℕ) where
       few-first t s w i (counts-few t s.signals s.states fit)
       ∙ ap (λ (x : Bool). by_tests s w (heard_here t s w i) (not (ltb w.state s.states)) (not x) (not (way_here t s w i))) can
       ∙ by-tests (ltb w.state s.states) (is_event (alphabet_in t s.signals) e) (way_here t s w i)
-      ∙ ap (λ (b : Bool). hear_decided s w i (cond b (ran_by (ltb w.state s.states) (is_event (alphabet_in t s.signals) e) (way_here t s w i)) (Ran.Refused WrongTable))) (sym fit)
+      ∙ ap (λ (b : Bool). hear_decided s w i (cond b (ran_by (ltb w.state s.states) (is_event (alphabet_in t s.signals) e) (way_here t s w i)) (Err WrongTable))) (sym fit)
 
   heard-so : (P S : ℕ) → s.signals ≡ P → s.states ≡ S → counts_fit t P S ≡ true → eqb (bit e s.mask) 1 ≡ is_event (alphabet_in t P) e
       → heard_from t s w i ≡ hear_decided s w i (ran_in t P S w.state (e ∷ []))
@@ -203,7 +205,7 @@ module _ (t : List ℕ) (P S : ℕ) (r : Request) (d : List Watch) (s₀ s : Tas
     post-so : (i e : ℕ) (w : Watch) → w ≡ watch_at d i
         → applied d (post_decided s w i e)
         ≡ first_of (refused d) ((leb n i, WrongNumber i) ∷ (not (is_event Σ e), WrongEvent i) ∷ (leb 32 (watch_at d i).waiting, QueueFull i) ∷ (eqb (counted (watch_at d i)) 4294967295, CountFull i) ∷ [])
-        (record { answer = Served.Done; desk = set d i (with_event (watch_at d i) e) })
+        (record { answer = Ok Served.Done; desk = set d i (with_event (watch_at d i) e) })
     post-so i e w q =
         let can : eqb (bit e s.mask) 1 ≡ is_event Σ e = ap (λ (m : ℕ). eqb (bit e m) 1) kept.mask ∙ bits.bits e in
         applied-first d s w long (post_checks s w i e) (addition w i e) ∙ rw (long, can, q)
@@ -213,7 +215,7 @@ module _ (t : List ℕ) (P S : ℕ) (r : Request) (d : List Watch) (s₀ s : Tas
     hearing i = heard_by (opening_in r) d i (ran_in t P S (watch_at d i).state (oldest (watch_at d i) ∷ []))
 
     abbrev silence : ℕ → Outcome
-    silence l = record { answer = Served.NoneWaits l; desk = d }
+    silence l = record { answer = Ok (Served.NoneWaits l); desk = d }
 
     -- where no watch is wrong, one that waits can count an event more
     module _ (sound : ltb (first_wrong Σ S d) n ≡ false) where
@@ -244,14 +246,14 @@ module _ (t : List ℕ) (P S : ℕ) (r : Request) (d : List Watch) (s₀ s : Tas
             let is : w ≡ watch_at d i = q ∙ ap (watch_at d) at in
             let can : eqb (bit (oldest w) s.mask) 1 ≡ is_event Σ (oldest w) = ap (λ (m : ℕ). eqb (bit (oldest w) m) 1) kept.mask ∙ bits.bits (oldest w) in
             let heard : leb s.length (next_of s) ≡ false = lt-leb s.length (next_of s) (omega (arith, at, inside, long)) in
-            let run : Ran = ran_in t P S (watch_at d i).state (oldest (watch_at d i) ∷ []) in
+            let run : (Result (Arrival ℕ) Refusal) = ran_in t P S (watch_at d i).state (oldest (watch_at d i) ∷ []) in
             let ran : heard_from t s w i ≡ hear_decided s w i run = heard-so t s w i P S (kept.signals ∙ begun.signals) (kept.states ∙ begun.states) fit can ∙ ap (λ (x : Watch). hear_decided s w i (ran_in t P S x.state (oldest x ∷ []))) is in
             let more : ltb w.heard 4294967295 ≡ true = lt-ltb w.heard 4294967295 (subst (λ (x : Watch). x.heard < 4294967295) (sym is) (can-count sound l p)) in
             rw (heard, lt-ltb (passed d l) n p, more) (ap (λ (k : ℕ). applied d (heard_from t s w k)) at ∙ ap (applied d) ran ∙ applied-heard d s w long i is run ∙ ap (λ (x : ℕ). heard_by x d i run) own)
         go (no h) =
             let at : next_of s ≡ n = next-so k l e ∙ rw (le-ltb (passed d l) n (omega arith)) in
             let shut : leb s.length (next_of s) ≡ true = le-leb s.length (next_of s) (omega (arith, at, long)) in
-            rw (shut, le-ltb (passed d l) n (omega arith)) (ap (λ (x : List Watch). record { answer = Served.NoneWaits l; desk = x }) (past d s w long))
+            rw (shut, le-ltb (passed d l) n (omega arith)) (ap (λ (x : List Watch). record { answer = Ok (Served.NoneWaits l); desk = x }) (past d s w long))
 
   table_is : (b : Bool) → counts_fit t P S ≡ b → s.table ≡ b
   table_is b e = kept.table ∙ begun.table ∙ e

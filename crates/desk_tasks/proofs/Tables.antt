@@ -3,6 +3,7 @@
 --     Agrees           both, of anything that is done to a desk
 --     served-agrees    of a post and a turn
 --     fresh-agrees     of making it fresh
+use Rattle.std.proofs.Common.{Ok, Err}
 use mathlib.Core.Path.{◌≡◌, refl, ap, ◌∙◌}
 use mathlib.Core.List.{List, [], ◌∷◌}
 use mathlib.Core.Bool.{Bool, true, false, cond}
@@ -18,8 +19,6 @@ use Rattle.meaning.specs.Openings.{opening}
 use Rattle.meaning.specs.Desks.{Outcome, refused, desk_checks, watch_at, oldest, after, passed, heard_by, post_in, turn_in, fresh_in, post_of, turn_of, fresh_of, turn_by}
 use Rattle.meaning.specs.declared.Refusal.{Refusal}
 use Rattle.meaning.specs.declared.Refusal.TheVariants.{WrongTable}
-use Rattle.meaning.specs.declared.Checked.{Checked}
-use Rattle.meaning.specs.declared.Ran.{Ran}
 use Rattle.meaning.specs.declared.Served.TheVariants as Served
 use Rattle.meaning.specs.declared.Watch.{Watch}
 use Rattle.table_layout.proofs.Form.{table-counts, table-header, table-verdict, states-some}
@@ -27,13 +26,15 @@ use Rattle.table_run.proofs.Answers.{found, run-table}
 use Rattle.desk_tasks.specs.declared.Request.{Request}
 use Rattle.desk_tasks.specs.declared.Request.TheVariants.{Post, Turn}
 use Rattle.desk_tasks.specs.Surveys.{served_in, served_of}
+use Rattle.std.proofs.Common.{Result}
+use Rattle.meaning.specs.declared.Arrival.{Arrival}
 
 module _ (t : List ℕ) (d : List Watch) where
   -- over the bytes t and counts, and over the table t
   pub record Agrees (by : ℕ → ℕ → Outcome) (of : Outcome) : Type 0 where
     pub none : (P S : ℕ) → counts_fit t P S ≡ false → by P S ≡ refused d WrongTable
-    pub wrong : (x : Refusal) → checked_of t ≡ Checked.Refused x → of ≡ refused d WrongTable
-    pub table : (P S : ℕ) → checked_of t ≡ Checked.Table P S → by P S ≡ of
+    pub wrong : (x : Refusal) → checked_of t ≡ Err x → of ≡ refused d WrongTable
+    pub table : (P S : ℕ) → checked_of t ≡ Ok P S → by P S ≡ of
 
   -- ---- a post and a turn
 
@@ -42,28 +43,28 @@ module _ (t : List ℕ) (d : List Watch) where
   served-none P S (Post n i e) q = rw q
   served-none P S (Turn n l) q = rw q
 
-  no_table : (x : Refusal) → checked_of t ≡ Checked.Refused x → is_table t ≡ false
+  no_table : (x : Refusal) → checked_of t ≡ Err x → is_table t ≡ false
   no_table x e = go (is_table t) refl e
     where
-      go : (b : Bool) → is_table t ≡ b → cond b (Checked.Table (signals_in t) (states_in t)) (Checked.Refused WrongTable) ≡ Checked.Refused x → b ≡ false
+      go : (b : Bool) → is_table t ≡ b → cond b (Ok (signals_in t) (states_in t)) (Err WrongTable) ≡ Err x → b ≡ false
       go true p q = let z : ◌≡◌ {A = ℕ} 0 1 = cc in absurd (omega arith)
       go false p q = refl
 
-  served-refused : (r : Request) (x : Refusal) → checked_of t ≡ Checked.Refused x → served_of t r d ≡ refused d WrongTable
+  served-refused : (r : Request) (x : Refusal) → checked_of t ≡ Err x → served_of t r d ≡ refused d WrongTable
   unfolding post_of turn_of
   served-refused (Post n i e) x q = rw (no_table x q)
   served-refused (Turn n l) x q = rw (no_table x q)
 
   -- a turn asks of its steps only what the one that it takes answers
-  turn-same : (n Q R l : ℕ) → checked_of t ≡ Checked.Table Q R
+  turn-same : (n Q R l : ℕ) → checked_of t ≡ Ok Q R
       → turn_by n (λ s e. ran_in t Q R s (e ∷ [])) (alphabet_in t Q) R d l ≡ turn_by n (λ s e. run_of t s (e ∷ [])) (alphabet_in t Q) R d l
   unfolding turn_by
   turn-same n Q R l h =
       let i : ℕ = after (length d) l (passed d l) in
-      ap (λ (x : Ran). first_of (refused d) (desk_checks n (alphabet_in t Q) R d) (cond (ltb (passed d l) (length d)) (heard_by n d i x) (record { answer = Served.NoneWaits l; desk = d })))
+      ap (λ (x : Result (Arrival ℕ) Refusal). first_of (refused d) (desk_checks n (alphabet_in t Q) R d) (cond (ltb (passed d l) (length d)) (heard_by n d i x) (record { answer = Ok (Served.NoneWaits l); desk = d })))
       (run-table t (watch_at d i).state (oldest (watch_at d i) ∷ []) Q R h)
 
-  served-table : (Q R : ℕ) (r : Request) → checked_of t ≡ Checked.Table Q R → served_in t Q R r d ≡ served_of t r d
+  served-table : (Q R : ℕ) (r : Request) → checked_of t ≡ Ok Q R → served_in t Q R r d ≡ served_of t r d
   unfolding post_in turn_in post_of turn_of
   served-table Q R (Post n i e) h = let f = found t Q R h in rw (f.signals, f.states, f.table, table-counts t f.table)
   served-table Q R (Turn n l) h =
@@ -79,11 +80,11 @@ module _ (t : List ℕ) (d : List Watch) where
   unfolding fresh_in
   fresh-none n P S q = rw q
 
-  fresh-refused : (n : ℕ) (x : Refusal) → checked_of t ≡ Checked.Refused x → fresh_of (opening t n) d ≡ refused d WrongTable
+  fresh-refused : (n : ℕ) (x : Refusal) → checked_of t ≡ Err x → fresh_of (opening t n) d ≡ refused d WrongTable
   unfolding fresh_of
   fresh-refused n x q = rw (no_table x q)
 
-  fresh-table : (n Q R : ℕ) → checked_of t ≡ Checked.Table Q R → fresh_in n t Q R d ≡ fresh_of (opening t n) d
+  fresh-table : (n Q R : ℕ) → checked_of t ≡ Ok Q R → fresh_in n t Q R d ≡ fresh_of (opening t n) d
   unfolding fresh_in fresh_of
   fresh-table n Q R h =
       let f = found t Q R h in

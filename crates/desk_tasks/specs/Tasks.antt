@@ -1,4 +1,5 @@
 -- One pass over a row, and what is done after it: the definitions that the code follows.
+use Rattle.std.specs.Prelude.{Ok, Err}
 use Rattle.std.specs.Prelude.{◌≡◌, List, [], ◌∷◌, Bool, true, cond, not, ◌&&◌, ℕ, zero, suc, ltb, leb, eqb}
 use Rattle.meaning.specs.Bytes.{bit}
 use Rattle.meaning.specs.RuleFiles.{first_of}
@@ -9,7 +10,6 @@ use Rattle.meaning.specs.Desks.{counted, watch_at, oldest, with_event, without_o
 use Rattle.meaning.specs.declared.Refusal.{Refusal}
 use Rattle.meaning.specs.declared.Refusal.TheVariants.{WrongEvent, WrongState, WrongWatch, WrongTable, WrongDesk, WrongNumber, QueueFull, CountFull, WrongOpening}
 use Rattle.meaning.specs.declared.Verdict.{Verdict}
-use Rattle.meaning.specs.declared.Ran.{Ran}
 use Rattle.meaning.specs.declared.Watch.{Watch}
 use Rattle.meaning.specs.declared.Served.TheVariants as Served
 use Rattle.table_layout.specs.Masks.{MaskIn}
@@ -19,6 +19,8 @@ use Rattle.desk_tasks.specs.declared.Request.TheVariants.{Post, Turn}
 use Rattle.desk_tasks.specs.declared.Task.{Task}
 use Rattle.desk_tasks.specs.declared.Service.{Service}
 use Rattle.desk_tasks.specs.declared.Check.{Check}
+use Rattle.std.specs.Prelude.{Result, Err}
+use Rattle.meaning.specs.declared.Arrival.{Arrival}
 
 -- the number after which a turn begins
 abbrev pub last_in : Request → ℕ
@@ -97,7 +99,7 @@ row_checked s = first_of Check.Refused (row_checks s) Check.Passed
 
 -- nothing is changed
 abbrev pub refusing : Task → Watch → Refusal → Service
-refusing s w x = record { number = s.length; watch = w; answer = Served.Refused x }
+refusing s w x = record { number = s.length; watch = w; answer = Err x }
 
 -- 19, 12, 20 and 21
 abbrev pub post_checks : Task → Watch → ℕ → ℕ → List (Bool × Refusal)
@@ -110,19 +112,19 @@ post_checks s w i e =
 
 -- the watch w, which has number i, with the event e
 abbrev pub addition : Watch → ℕ → ℕ → Service
-addition w i e = record { number = i; watch = with_event w e; answer = Served.Done }
+addition w i e = record { number = i; watch = with_event w e; answer = Ok Served.Done }
 
 abbrev pub post_decided : Task → Watch → ℕ → ℕ → Service
 post_decided s w i e = first_of (refusing s w) (post_checks s w i e) (addition w i e)
 
 -- hearing, with the opening n, the oldest event of watch w, which has number i and is led by it to a state with a verdict
 abbrev pub hearing : ℕ → Watch → ℕ → ℕ → Verdict → Service
-hearing n w i to v = record { number = i; watch = without_oldest w to v; answer = Served.Heard i (oldest w) (state_of n to) v }
+hearing n w i to v = record { number = i; watch = without_oldest w to v; answer = Ok (Served.Heard i (oldest w) (state_of n to) v) }
 
 -- where the run over it ended so
-abbrev pub hear_decided : Task → Watch → ℕ → Ran → Service
-hear_decided s w i (Ran.Ended to v c) = hearing s.opening w i to v
-hear_decided s w i (Ran.Refused x) = refusing s w x
+abbrev pub hear_decided : Task → Watch → ℕ → Result (Arrival ℕ) Refusal → Service
+hear_decided s w i (Ok a) = hearing s.opening w i to v
+hear_decided s w i (Err x) = refusing s w x
 
 -- the same from what the task knows of the table: 14, 13 and 12 as a run has them, and 14 where the way leaves the table
 abbrev pub heard_from : List ℕ → Task → Watch → ℕ → Service
@@ -143,7 +145,7 @@ counted_from t s w i = cond (ltb w.heard 4294967295) (heard_from t s w i) (refus
 abbrev pub turn_decided : List ℕ → Task → Watch → ℕ → Service
 turn_decided t s w l =
     cond (leb s.length (next_of s))
-    (record { number = s.length; watch = w; answer = Served.NoneWaits l })
+    (record { number = s.length; watch = w; answer = Ok (Served.NoneWaits l) })
     (counted_from t s w (next_of s))
 
 abbrev pub request_decided : List ℕ → Task → Watch → Request → Service

@@ -9,13 +9,13 @@ use Rattle.meaning.specs.TableFiles.{is_table}
 use Rattle.meaning.specs.Runs.{run_of, decided_from}
 use Rattle.meaning.specs.declared.Verdict.TheVariants.{Undecided, Satisfied, Violated}
 use Rattle.meaning.specs.declared.Refusal.TheVariants.{WrongEvent}
-use Rattle.meaning.specs.declared.Ran.TheVariants as Ran
 use Rattle.known_rules.specs.Files.{rule_file, masked_file, table_file}
 use Rattle.known_rules.specs.Rules.{KnownRule}
 use Rattle.known_rules.specs.Masked.{block_p12, answered_dose, block_answered, never_together, masked_rules}
 use Rattle.known_rules.specs.Lines.{bytes, property, Line, TableOf}
 use Rattle.known_rules.proofs.Lines.{rule_in, outcome_of, found, expected, line, line-table}
 use Rattle.known_rules.proofs.Known.{equal-at}
+use Rattle.std.proofs.Common.{Err}
 
 -- what is computed of each file is what its line says
 computed : map found masked_rules ≡ map expected masked_rules
@@ -43,6 +43,6 @@ unfolding masked_file table_file rule_in outcome_of
 satisfied-by-mask = (line-table (line never_together refl) [] tt Satisfied).0 refl
 
 -- "Running such an event is refused by 12": also past a decided state, and the first such event counts
-pub impossible-refused : run_of (bytes block_p12) 0 (1 ∷ 1 ∷ 3 ∷ 4 ∷ []) ≡ Ran.Refused (WrongEvent 2)
+pub impossible-refused : run_of (bytes block_p12) 0 (1 ∷ 1 ∷ 3 ∷ 4 ∷ []) ≡ Err (WrongEvent 2)
 unfolding table_file is_table decided_from
 impossible-refused = refl

@@ -5,11 +5,10 @@ use lib.ListN.{length, take}
 use Rattle.meaning.specs.Runs.{run_of, decided_from}
 use Rattle.meaning.specs.TableFiles.{is_table}
 use Rattle.meaning.specs.declared.Verdict.TheVariants.{Undecided, Violated}
-use Rattle.meaning.specs.declared.Decided.TheVariants.{After, Never}
-use Rattle.meaning.specs.declared.Ran.TheVariants as Ran
 use Rattle.known_rules.specs.Files.{rule_file, table_file}
 use Rattle.known_rules.specs.Rules.{P3, P12}
 use Rattle.known_rules.specs.Lines.{bytes}
+use Rattle.std.proofs.Common.{Ok, Some, None}
 
 -- "P3 as a file is `04 00 00 01 01 01 03 00 02 00 00`."
 pub p3-file : P3.file ≡ 0x04 ∷ 0x00 ∷ 0x00 ∷ 0x01 ∷ 0x01 ∷ 0x01 ∷ 0x03 ∷ 0x00 ∷ 0x02 ∷ 0x00 ∷ 0x00 ∷ []
@@ -26,10 +25,10 @@ unfolding table_file
 p3-length = refl
 
 -- "P12 run on 1, 0, 1 ends violated, count 3. Run on 1, 2, 1 it ends undecided, count none."
-pub p12-violated : run_of (bytes P12) 0 (1 ∷ 0 ∷ 1 ∷ []) ≡ Ran.Ended 2 Violated (After 3)
+pub p12-violated : run_of (bytes P12) 0 (1 ∷ 0 ∷ 1 ∷ []) ≡ Ok 2 Violated (Some 3)
 unfolding table_file is_table decided_from
 p12-violated = refl
 
-pub p12-undecided : run_of (bytes P12) 0 (1 ∷ 2 ∷ 1 ∷ []) ≡ Ran.Ended 1 Undecided Never
+pub p12-undecided : run_of (bytes P12) 0 (1 ∷ 2 ∷ 1 ∷ []) ≡ Ok 1 Undecided None
 unfolding table_file is_table decided_from
 p12-undecided = refl

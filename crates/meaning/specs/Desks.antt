@@ -18,6 +18,7 @@ use Rattle.meaning.specs.declared.Watch.{Watch}
 use Rattle.meaning.specs.declared.Served.{Served}
 use Rattle.std.specs.Prelude.{Result, Ok, Err, Option, Some, None}
 use Rattle.meaning.specs.declared.Arrival.{Arrival}
+use Rattle.std.specs.Prelude.{Result, Ok, Err, Option, Some, None}
 
 -- "each with its state and up to 32 waiting events, oldest first": of its slots the first `waiting`
 abbrev pub queue : Watch → List ℕ
@@ -50,7 +51,7 @@ watch_at d i = get_or d i no_watch
 
 -- An answer, and the desk after it.
 pub record Outcome : Type 0 where
-  pub answer : Result Served Refusal
+  pub answer : Result Result Served Refusal Refusal
   pub desk : List Watch
 
 -- a refusal changes nothing lent

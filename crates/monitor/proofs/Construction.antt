@@ -8,7 +8,6 @@ use lib.ListN.{take, length-take}
 use Rattle.meaning.specs.RuleFiles.{Rule, alphabet_of, Judgement}
 use Rattle.meaning.specs.declared.Node.{Node}
 use Rattle.meaning.specs.declared.Refusal.TheVariants.{TooManyResiduals}
-use Rattle.meaning.specs.declared.Built.{Built}
 use Rattle.walk.specs.Explore.{Explored, within, beyond}
 use Rattle.moore.specs.Grouping.{Machine}
 use Rattle.smallest.proofs.Extensional.{Agree}
@@ -26,9 +25,11 @@ use Rattle.rule_file.specs.Reading.{rule_in}
 use Rattle.monitor.specs.Parts.{Finished}
 use Rattle.monitor.proofs.Walking.{tables_for, class_list, closes, goes-beyond, machine-in, agrees}
 use Rattle.monitor.proofs.Writing.{bytes-are, answer_is, output-is}
+use Rattle.std.proofs.Common.{Result}
+use Rattle.meaning.specs.declared.Refusal.{Refusal}
 
 -- the answer b and the output after it are those of the rule
-pub record Answers (r : Rule) (before : List ℕ) (b : Built) (after : List ℕ) : Type 0 where
+pub record Answers (r : Rule) (before : List ℕ) (b : Result ℕ Refusal) (after : List ℕ) : Type 0 where
   pub answer : b ≡ answer_of (Judgement.Accepted r) before
   pub output : after ≡ output_after (Judgement.Accepted r) before
 
@@ -64,7 +65,7 @@ module _ {r : Rule} (s : Formed r) {n : ℕ} {rows : List (List ℕ)} {classes :
   pub closed-machine : n ≤ 256 → Machine (alphabet_of r) n rows classes
   closed-machine l = (found l).machine
 
-  pub closed-answers : n ≤ 256 → (before after : List ℕ) (b : Built) → Finished r.signals r.mask n rows classes before b after → Answers r before b after
+  pub closed-answers : n ≤ 256 → (before after : List ℕ) (b : Result ℕ Refusal) → Finished r.signals r.mask n rows classes before b after → Answers r before b after
   closed-answers l before after b F =
       let f = found l in
       let is : outcome_of r ≡ Table (table_bytes (alphabet_of r) r.signals F.groups F.bytes F.to) = f.outcome ∙ ap Table (sym (bytes-are r.signals r.mask n f.agree F.reduction)) in
@@ -73,10 +74,10 @@ module _ {r : Rule} (s : Formed r) {n : ℕ} {rows : List (List ℕ)} {classes :
         output = F.output ∙ output-is r F.groups F.bytes F.to is before;
       }
 
-  pub over-answers : 256 < n → (before : List ℕ) → Answers r before (Built.Refused TooManyResiduals) before
+  pub over-answers : 256 < n → (before : List ℕ) → Answers r before (Err TooManyResiduals) before
   over-answers l before = go (explore_keys (tables_for r) (alphabet_of r)) refl a.is
     where
-      go : (m : Explored ℕ (List (List ℕ))) → explore_keys (tables_for r) (alphabet_of r) ≡ m → ExploredAs r.signals (tables_for r) m n rows classes → Answers r before (Built.Refused TooManyResiduals) before
+      go : (m : Explored ℕ (List (List ℕ))) → explore_keys (tables_for r) (alphabet_of r) ≡ m → ExploredAs r.signals (tables_for r) m n rows classes → Answers r before (Err TooManyResiduals) before
       go (within keys states) q A = absurd (omega (arith, (closes r s keys states q).few, A.count))
       go (beyond keys k) q A =
           let e = goes-beyond r s keys k q in

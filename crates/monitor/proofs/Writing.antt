@@ -8,7 +8,6 @@ use lib.Dec.{leb}
 use Rattle.meaning.specs.Traces.{masked}
 use Rattle.meaning.specs.RuleFiles.{Rule, alphabet_of, Judgement}
 use Rattle.meaning.specs.TableFiles.{table_length}
-use Rattle.meaning.specs.declared.Built.{Built}
 use Rattle.meaning.specs.declared.Refusal.TheVariants.{ShortOutput}
 use Rattle.moore.specs.Grouping.{entry, grouping}
 use Rattle.moore.specs.Quotient.{size, verdicts, quotient_rows}
@@ -48,7 +47,7 @@ module _ (r : Rule) (n : ℕ) (bytes : List ℕ) (to : List (List ℕ)) (is : ou
 
   pub answer_is : written_of r.signals n out ≡ answer_of (Judgement.Accepted r) out
   answer_is =
-      ap (λ (k : ℕ). cond (leb k (length out)) (Built.Table k) (Built.Refused ShortOutput)) (sym size_is) ∙ ap (λ (x : Outcome). answer_to x out) (sym is)
+      ap (λ (k : ℕ). cond (leb k (length out)) (Ok k) (Err ShortOutput)) (sym size_is) ∙ ap (λ (x : Outcome). answer_to x out) (sym is)
 
   pub output-is : table_after (alphabet_of r) r.signals n bytes to out ≡ output_after (Judgement.Accepted r) out
   output-is = ap (λ (k : ℕ). cond (leb k (length out)) (table ++ drop k out) out) (sym size_is) ∙ ap (λ (x : Outcome). output_of x out) (sym is)

@@ -1,12 +1,13 @@
 -- What the parts of building say of one another.
 use Rattle.std.specs.Prelude.{◌≡◌, List, ℕ, ◌^◌}
 use Rattle.meaning.specs.Traces.{masked}
-use Rattle.meaning.specs.declared.Built.{Built}
 use Rattle.table_bytes.specs.Written.{written_of, table_after}
 use Rattle.grouping.specs.Reduction.{Reduction}
+use Rattle.std.specs.Prelude.{Result}
+use Rattle.meaning.specs.declared.Refusal.{Refusal}
 
 -- the machine was reduced to so many groups, with these verdict bytes and rows, and they were written
-pub record Finished (P mask n : ℕ) (rows : List (List ℕ)) (classes before : List ℕ) (r : Built) (after : List ℕ) : Type 0 where
+pub record Finished (P mask n : ℕ) (rows : List (List ℕ)) (classes before : List ℕ) (r : Result ℕ Refusal) (after : List ℕ) : Type 0 where
   pub groups : ℕ
   pub bytes₀ : List ℕ
   pub to₀ : List (List ℕ)

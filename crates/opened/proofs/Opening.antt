@@ -14,9 +14,7 @@ use Rattle.meaning.specs.Openings.{opening, state_of, run_from, run_from_in}
 use Rattle.meaning.specs.Desks.{Outcome, fresh_in, fresh_of, post_of, turn_of}
 use Rattle.meaning.specs.Recordings.{judged_in, judged_of}
 use Rattle.meaning.specs.declared.State.{State}
-use Rattle.meaning.specs.declared.Arrived.{Arrived}
 use Rattle.meaning.specs.declared.Watch.{Watch}
-use Rattle.meaning.specs.declared.Checked.{Checked}
 use Rattle.table_layout.proofs.Form.{event-test, states-some, table-header, table-inside}
 use Rattle.table_run.proofs.Answers.{row-table, row-refused}
 use Rattle.openings.specs.Steps.{state_after, stepped_in}
@@ -27,6 +25,10 @@ use Rattle.desk_tasks.specs.declared.Request.TheVariants.{Post, Turn}
 use Rattle.desk_tasks.proofs.Tables.{Agrees, served-agrees, fresh-agrees}
 use Rattle.recordings.proofs.Answers.{judged-table, judged-none, judged-refused}
 use Rattle.opened.specs.OpenedTables.{counts_of, opened_of, outcome_by, ran_by, row_by, stepped_by, stepped_all, judged_by, freshened_by, posted_by, turned_by}
+use Rattle.std.proofs.Common.{Result}
+use Rattle.meaning.specs.declared.Counts.{Counts}
+use Rattle.meaning.specs.declared.Arrival.{Arrival}
+use Rattle.meaning.specs.declared.Refusal.{Refusal}
 
 module _ (x : Bor (List ℕ)) (n : ℕ) where
   -- "Opening checks the bytes and refuses by 14"
@@ -41,33 +43,33 @@ module _ (x : Bor (List ℕ)) (n : ℕ) where
   pub opened-runs : (s : State) (es : List ℕ) → ran_by (opened_of x n) s es ≡ run_from (opening x.now n) s es
   opened-runs s es = go (checked_of x.now) refl
     where
-      go : (c : Checked) → checked_of x.now ≡ c → run_from_in n x.now (counts_of c).signals (counts_of c).states s es ≡ run_from (opening x.now n) s es
-      go (Checked.Table P S) h = run-from-table n x.now s es P S h
-      go (Checked.Refused r) h = run-from-none n x.now s es 0 0 refl ∙ sym (run-from-refused n x.now s es r h)
+      go : (c : Result Counts Refusal) → checked_of x.now ≡ c → run_from_in n x.now (counts_of c).signals (counts_of c).states s es ≡ run_from (opening x.now n) s es
+      go (Ok P S) h = run-from-table n x.now s es P S h
+      go (Err r) h = run-from-none n x.now s es 0 0 refl ∙ sym (run-from-refused n x.now s es r h)
 
   -- "thin functions read a row"
   pub opened-row : (s : ℕ) → row_by (opened_of x n) s ≡ row_read x.now s
   opened-row s = go (checked_of x.now) refl
     where
-      go : (c : Checked) → checked_of x.now ≡ c → row_in x.now (counts_of c).signals (counts_of c).states s ≡ row_read x.now s
-      go (Checked.Table P S) h = row-table x.now s P S h
-      go (Checked.Refused r) h = row-refused x.now s r h
+      go : (c : Result Counts Refusal) → checked_of x.now ≡ c → row_in x.now (counts_of c).signals (counts_of c).states s ≡ row_read x.now s
+      go (Ok P S) h = row-table x.now s P S h
+      go (Err r) h = row-refused x.now s r h
 
   -- "Join two recordings, each filling the other's gaps, and run the table from state 0 over all possible completions."
   pub opened-judges : (a b : List ℕ) → judged_by (opened_of x n) a b ≡ judged_of x.now a b
   opened-judges a b = go (checked_of x.now) refl
     where
-      go : (c : Checked) → checked_of x.now ≡ c → judged_in x.now (counts_of c).signals (counts_of c).states a b ≡ judged_of x.now a b
-      go (Checked.Table P S) h = judged-table x.now a b P S h
-      go (Checked.Refused r) h = judged-none x.now a b 0 0 refl ∙ sym (judged-refused x.now a b r h)
+      go : (c : Result Counts Refusal) → checked_of x.now ≡ c → judged_in x.now (counts_of c).signals (counts_of c).states a b ≡ judged_of x.now a b
+      go (Ok P S) h = judged-table x.now a b P S h
+      go (Err r) h = judged-none x.now a b 0 0 refl ∙ sym (judged-refused x.now a b r h)
 
   -- "A site runs up to 64 tunnels on one table"
   opened-agrees : (d : List Watch) (by : ℕ → ℕ → Outcome) (of : Outcome) → Agrees x.now d by of → by (opened_of x n).signals (opened_of x n).states ≡ of
   opened-agrees d by of a = go (checked_of x.now) refl
     where
-      go : (c : Checked) → checked_of x.now ≡ c → by (counts_of c).signals (counts_of c).states ≡ of
-      go (Checked.Table P S) h = a.table P S h
-      go (Checked.Refused y) h = a.none 0 0 refl ∙ sym (a.wrong y h)
+      go : (c : Result Counts Refusal) → checked_of x.now ≡ c → by (counts_of c).signals (counts_of c).states ≡ of
+      go (Ok P S) h = a.table P S h
+      go (Err y) h = a.none 0 0 refl ∙ sym (a.wrong y h)
 
   opened-serves : (d : List Watch) (r : Request) → served_in x.now (opened_of x n).signals (opened_of x n).states r d ≡ served_of x.now r d
   opened-serves d r = opened-agrees d (λ P S. served_in x.now P S r d) (served_of x.now r d) (served-agrees x.now d r)
@@ -91,7 +93,7 @@ module _ (x : Bor (List ℕ)) (n : ℕ) (h : is_table x.now ≡ true) where
   step-to : (s e : ℕ) → s < states_in x.now → Event Σ e
       → state_after (stepped_by (opened_of x n) (state_of n s) e) (state_of n s) ≡ state_of n (successor x.now (signals_in x.now) s e)
   step-to s e l b =
-      ap (λ (r : Arrived). state_after r (state_of n s)) (opened-runs x n (state_of n s) (e ∷ []))
+      ap (λ (r : Result (Arrival State) Refusal). state_after r (state_of n s)) (opened-runs x n (state_of n s) (e ∷ []))
       ∙ rw (h, eq-eqb n n refl, lt-ltb s (states_in x.now) l, event-test Σ e b)
 
   -- "A checked table is opened once and stepped many times": event by event, the steps follow the table's monitor

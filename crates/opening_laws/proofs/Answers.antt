@@ -19,14 +19,12 @@ use Rattle.meaning.specs.Openings.{Opening, state_of, carried, run_from}
 use Rattle.meaning.specs.declared.Refusal.{Refusal}
 use Rattle.meaning.specs.declared.Refusal.TheVariants.{WrongEvent, WrongState, WrongOpening}
 use Rattle.meaning.specs.declared.Verdict.{Verdict}
-use Rattle.meaning.specs.declared.Decided.{Decided}
 use Rattle.meaning.specs.declared.State.{State}
-use Rattle.meaning.specs.declared.Ran.TheVariants as Ran
-use Rattle.meaning.specs.declared.Arrived.{Arrived}
-use Rattle.meaning.specs.declared.Arrived.TheVariants as Arrived
 use Rattle.table_layout.proofs.Form.{test-event, table-inside}
 use Rattle.event_lists.proofs.Laws.{all-events}
 use Rattle.building.proofs.Running.{word-run, own-run}
+use Rattle.std.proofs.Common.{Result, Ok, Err, Option}
+use Rattle.meaning.specs.declared.Arrival.{Arrival}
 
 -- a list of events that all can happen, by the test
 word_of : (Σ : Alphabet) (es : List ℕ) → ((i : ℕ) → i < length es → is_event Σ (get_or es i 0) ≡ true) → Word Σ es
@@ -34,9 +32,9 @@ word_of Σ [] h = tt
 word_of Σ (e ∷ es) h = (test-event Σ e (h zero (omega arith)), word_of Σ es (λ i l. h (suc i) (omega arith)))
 
 -- the number of a refusal, and 0 where there is none
-abbrev number_of : Arrived → ℕ
-number_of (Arrived.At r v d) = 0
-number_of (Arrived.Refused x) = (code_of x).0
+abbrev number_of : Result (Arrival State) Refusal → ℕ
+number_of (Ok a) = 0
+number_of (Err x) = (code_of x).0
 
 module _ (o : Opening) (form : is_table o.table ≡ true) where
   abbrev pub Σ : Alphabet
@@ -55,8 +53,8 @@ module _ (o : Opening) (form : is_table o.table ≡ true) where
     answer : (a b c : Bool) → eqb s.opening o.number ≡ a → ltb s.number (states_in o.table) ≡ b → ltb (first_bad Σ es) (length es) ≡ c
         → run_from o s es
         ≡ cond a
-        (carried o.number (cond b (cond c (Ran.Refused (WrongEvent (first_bad Σ es))) (end_of m s.number es)) (Ran.Refused WrongState)))
-        (Arrived.Refused (WrongOpening 0))
+        (carried o.number (cond b (cond c (Err (WrongEvent (first_bad Σ es))) (end_of m s.number es)) (Err WrongState)))
+        (Err (WrongOpening 0))
     answer a b c p x y = rw (form, p, x, y)
 
     -- by the cases of the three tests
@@ -72,7 +70,7 @@ module _ (o : Opening) (form : is_table o.table ≡ true) where
       pub state : r ≡ state_of o.number (follow m s.number es)
       pub shown : v ≡ m.verdict (follow m s.number es)
 
-    pub ends : (r : State) (v : Verdict) (d : Decided) → run_from o s es ≡ Arrived.At r v d → Ends r v
+    pub ends : (r : State) (v : Verdict) (d : Option ℕ) → run_from o s es ≡ Ok r v d → Ends r v
     ends r v d q = by_tests go
       where
         go : (a b c : Bool) → eqb s.opening o.number ≡ a → ltb s.number (states_in o.table) ≡ b → ltb (first_bad Σ es) (length es) ≡ c → Ends r v
@@ -92,29 +90,29 @@ module _ (o : Opening) (form : is_table o.table ≡ true) where
 
     -- ---- refused
 
-    pub foreign-if : ¬ (s.opening ≡ o.number) → run_from o s es ≡ Arrived.Refused (WrongOpening 0)
+    pub foreign-if : ¬ (s.opening ≡ o.number) → run_from o s es ≡ Err (WrongOpening 0)
     foreign-if h = rw (form, ne_eqb s.opening o.number h)
 
     module _ (own : s.opening ≡ o.number) where
-      pub foreign-not : ¬ (run_from o s es ≡ Arrived.Refused (WrongOpening 0))
+      pub foreign-not : ¬ (run_from o s es ≡ Err (WrongOpening 0))
       foreign-not q = by_tests go
         where
           go : (a b c : Bool) → eqb s.opening o.number ≡ a → ltb s.number (states_in o.table) ≡ b → ltb (first_bad Σ es) (length es) ≡ c → ⊥
-          go a false c p x y = let e = sym (answer true false c (eq-eqb s.opening o.number own) x y) ∙ q in let z : ◌≡◌ {A = ℕ} 13 24 = ap (λ (r : Arrived). number_of r) e in omega arith
-          go a true true p x y = let e = sym (answer true true true (eq-eqb s.opening o.number own) x y) ∙ q in let z : ◌≡◌ {A = ℕ} 12 24 = ap (λ (r : Arrived). number_of r) e in omega arith
-          go a true false p x y = let e = sym (answer true true false (eq-eqb s.opening o.number own) x y) ∙ q in let z : ◌≡◌ {A = ℕ} 0 24 = ap (λ (r : Arrived). number_of r) e in omega arith
+          go a false c p x y = let e = sym (answer true false c (eq-eqb s.opening o.number own) x y) ∙ q in let z : ◌≡◌ {A = ℕ} 13 24 = ap (λ (r : Result (Arrival State) Refusal). number_of r) e in omega arith
+          go a true true p x y = let e = sym (answer true true true (eq-eqb s.opening o.number own) x y) ∙ q in let z : ◌≡◌ {A = ℕ} 12 24 = ap (λ (r : Result (Arrival State) Refusal). number_of r) e in omega arith
+          go a true false p x y = let e = sym (answer true true false (eq-eqb s.opening o.number own) x y) ∙ q in let z : ◌≡◌ {A = ℕ} 0 24 = ap (λ (r : Result (Arrival State) Refusal). number_of r) e in omega arith
 
       module _ (in_table : s.number < states_in o.table) where
-        pub own-refused : (x : Refusal) → run_from o s es ≡ Arrived.Refused x → (code_of x).0 ≡ 12
+        pub own-refused : (x : Refusal) → run_from o s es ≡ Err x → (code_of x).0 ≡ 12
         own-refused x q = by_tests go
           where
             go : (a b c : Bool) → eqb s.opening o.number ≡ a → ltb s.number (states_in o.table) ≡ b → ltb (first_bad Σ es) (length es) ≡ c → (code_of x).0 ≡ 12
-            go a b true p k y = sym (ap (λ (r : Arrived). number_of r) (sym (answer true true true (eq-eqb s.opening o.number own) (lt-ltb s.number (states_in o.table) in_table) y) ∙ q))
+            go a b true p k y = sym (ap (λ (r : Result (Arrival State) Refusal). number_of r) (sym (answer true true true (eq-eqb s.opening o.number own) (lt-ltb s.number (states_in o.table) in_table) y) ∙ q))
             go a b false p k y =
                 let e = sym (answer true true false (eq-eqb s.opening o.number own) (lt-ltb s.number (states_in o.table) in_table) y) ∙ q in
                 let z : ◌≡◌ {A = ℕ} 0 1 = cc in absurd (omega arith)
 
-        pub own-taken : Word Σ es → (x : Refusal) → ¬ (run_from o s es ≡ Arrived.Refused x)
+        pub own-taken : Word Σ es → (x : Refusal) → ¬ (run_from o s es ≡ Err x)
         own-taken a x q =
             let e = sym (from-own ∙ ap (carried o.number) (word-run o.table form s.number es in_table a)) ∙ q in
             let z : ◌≡◌ {A = ℕ} 0 1 = cc in omega arith

@@ -1,6 +1,7 @@
 -- A desk under distinct numbers: what comes with another opening is refused and changes nothing, so the desk is the one that the actions of its own opening
 -- alone lead to, and the laws of one opening hold of it.
 --     desk-right      refused by 24 exactly with another opening, and otherwise demand 2's verdict for all events heard
+use Rattle.std.proofs.Common.{Ok, Err}
 use mathlib.Core.Path.{◌≡◌, refl, sym, ap, ◌∙◌, subst}
 use mathlib.Core.Logic.{◌⊎◌, inl, inr}
 use mathlib.Core.List.{List, [], ◌∷◌, ◌++◌, append-nil, append_assoc}
@@ -28,6 +29,8 @@ use Rattle.desk_histories.proofs.Moves.{good-by, good-all}
 use Rattle.desk_histories.proofs.Histories.{next-right, verdict-right}
 use Rattle.opening_laws.specs.Laws.{Family, alphabet_at, property_at, served, heard_by, desk_after, DeskRight}
 use Rattle.opening_laws.proofs.States.{form-at}
+use Rattle.std.proofs.Common.{Result, Err}
+use Rattle.meaning.specs.declared.Refusal.{Refusal}
 
 -- ---- one action more at the end of a history
 
@@ -123,7 +126,7 @@ module _ {I : Type 0} (F : Family I) (i : I) (n l : ℕ) (some : 1 ≤ n) (few :
     good-at = subst (λ (c : Standing). Fine o n c.desk) (sym at-is) (good-all o (form-at F i) n some few fresh fresh-good (own h))
 
     -- with its own opening nothing is refused by 24
-    own-taken : (a : Action) → ¬ ((asked o at a).answer ≡ Served.Refused (WrongOpening 0))
+    own-taken : (a : Action) → ¬ ((asked o at a).answer ≡ Err (WrongOpening 0))
     own-taken (Post k e) q = go ((next-right o (form-at F i) n l some few (own h)).post k e (WrongOpening 0) q)
       where
         go : (◌≡◌ {A = ℕ} 24 19) ⊎ (◌≡◌ {A = ℕ} 24 12) ⊎ (◌≡◌ {A = ℕ} 24 20) ⊎ (◌≡◌ {A = ℕ} 24 21) → ⊥
@@ -136,19 +139,19 @@ module _ {I : Type 0} (F : Family I) (i : I) (n l : ℕ) (some : 1 ≤ n) (few :
     apart-numbers : (j : I) → ¬ (i ≡ j) → ¬ (o.number ≡ (F.opening j).number)
     apart-numbers j d e = d (F.distinct i j e)
 
-    foreign-not : (j : I) (a : Action) → i ≡ j → ¬ ((asked (F.opening j) (desk_after F i n l h) a).answer ≡ Served.Refused (WrongOpening 0))
+    foreign-not : (j : I) (a : Action) → i ≡ j → ¬ ((asked (F.opening j) (desk_after F i n l h) a).answer ≡ Err (WrongOpening 0))
     foreign-not j a same =
-        subst (λ (k : I). ¬ ((asked (F.opening k) (desk_after F i n l h) a).answer ≡ Served.Refused (WrongOpening 0))) same
-        (subst (λ (c : Standing). ¬ ((asked o c a).answer ≡ Served.Refused (WrongOpening 0))) (sym at-is) (own-taken a))
+        subst (λ (k : I). ¬ ((asked (F.opening k) (desk_after F i n l h) a).answer ≡ Err (WrongOpening 0))) same
+        (subst (λ (c : Standing). ¬ ((asked o c a).answer ≡ Err (WrongOpening 0))) (sym at-is) (own-taken a))
 
     -- what a turn with the desk's own opening hears
-    heard-right : (k e : ℕ) (s : State) (v : Verdict) → (asked o at Turn).answer ≡ Served.Heard k e s v → Judged (alphabet_at F i) (property_at F i) (heard_by F fresh k h ++ (e ∷ [])) v
+    heard-right : (k e : ℕ) (s : State) (v : Verdict) → (asked o at Turn).answer ≡ Ok (Served.Heard k e s v) → Judged (alphabet_at F i) (property_at F i) (heard_by F fresh k h ++ (e ∷ [])) v
     heard-right k e s v q =
         let facts = (next-right o (form-at F i) n l some few (own h)).heard k e s v q in
         let after : reached o fresh (own h ++ (Turn ∷ [])) ≡ onward o at Turn = reached-last o fresh (own h) Turn in
         let events : heard o fresh k (own h ++ (Turn ∷ [])) ≡ heard_by F fresh k h ++ (e ∷ []) =
         heard-last o fresh k (own h) Turn
-        ∙ ap (λ (y : Served). heard o fresh k (own h) ++ hears k y) q
+        ∙ ap (λ (y : Result Served Refusal). heard o fresh k (own h) ++ hears k y) q
         ∙ ap (λ (b : Bool). heard o fresh k (own h) ++ cond b (e ∷ []) []) (eq-eqb k k refl)
         ∙ ap (λ (r : List ℕ). r ++ (e ∷ [])) (sym ((alike fresh fresh-good h).events k)) in
         let shown : (monitor_of o.table).verdict (watch_at (reached o fresh (own h ++ (Turn ∷ []))).desk k).state ≡ v =
@@ -159,14 +162,14 @@ module _ {I : Type 0} (F : Family I) (i : I) (n l : ℕ) (some : 1 ≤ n) (few :
         (subst (Judged (alphabet_at F i) (property_at F i) (heard o fresh k (own h ++ (Turn ∷ [])))) shown
         (verdict-right (F.file i) o (F.built i) n l some few (own h ++ (Turn ∷ [])) k facts.0))
 
-    verdict-at : (j : I) (k e : ℕ) (s : State) (v : Verdict) → (asked (F.opening j) (desk_after F i n l h) Turn).answer ≡ Served.Heard k e s v
+    verdict-at : (j : I) (k e : ℕ) (s : State) (v : Verdict) → (asked (F.opening j) (desk_after F i n l h) Turn).answer ≡ Ok (Served.Heard k e s v)
         → Judged (alphabet_at F j) (property_at F j) (heard_by F fresh k h ++ (e ∷ [])) v
     verdict-at j k e s v q = go (eqb o.number (F.opening j).number) refl
       where
-        mine : (j : I) → i ≡ j → (asked (F.opening j) (desk_after F i n l h) Turn).answer ≡ Served.Heard k e s v → Judged (alphabet_at F j) (property_at F j) (heard_by F fresh k h ++ (e ∷ [])) v
+        mine : (j : I) → i ≡ j → (asked (F.opening j) (desk_after F i n l h) Turn).answer ≡ Ok (Served.Heard k e s v) → Judged (alphabet_at F j) (property_at F j) (heard_by F fresh k h ++ (e ∷ [])) v
         mine j same =
-            subst (λ (j : I). (asked (F.opening j) (desk_after F i n l h) Turn).answer ≡ Served.Heard k e s v → Judged (alphabet_at F j) (property_at F j) (heard_by F fresh k h ++ (e ∷ [])) v) same
-            (λ p. heard-right k e s v (subst (λ (c : Standing). (asked o c Turn).answer ≡ Served.Heard k e s v) at-is p))
+            subst (λ (j : I). (asked (F.opening j) (desk_after F i n l h) Turn).answer ≡ Ok (Served.Heard k e s v) → Judged (alphabet_at F j) (property_at F j) (heard_by F fresh k h ++ (e ∷ [])) v) same
+            (λ p. heard-right k e s v (subst (λ (c : Standing). (asked o c Turn).answer ≡ Ok (Served.Heard k e s v)) at-is p))
 
         go : (b : Bool) → eqb o.number (F.opening j).number ≡ b → Judged (alphabet_at F j) (property_at F j) (heard_by F fresh k h ++ (e ∷ [])) v
         go true p = mine j (F.distinct i j (eqb-true o.number (F.opening j).number p)) q

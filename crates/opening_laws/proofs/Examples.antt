@@ -12,8 +12,6 @@ use Rattle.meaning.specs.Openings.{opening, state_of, start_of, run_from}
 use Rattle.meaning.specs.declared.Refusal.{Refusal}
 use Rattle.meaning.specs.declared.Refusal.TheVariants.{WrongOpening}
 use Rattle.meaning.specs.declared.Verdict.TheVariants.{Violated}
-use Rattle.meaning.specs.declared.Decided.TheVariants.{After}
-use Rattle.meaning.specs.declared.Arrived.TheVariants as Arrived
 use Rattle.building.specs.Build.{BuiltRight}
 use Rattle.building.proofs.Right.{our-demands}
 use Rattle.known_rules.specs.Files.{table_file}
@@ -22,6 +20,7 @@ use Rattle.known_rules.specs.Lines.{bytes}
 use Rattle.known_rules.proofs.Known.{known}
 use Rattle.opening_laws.specs.Laws.{Family, alphabet_at, Held, start, run}
 use Rattle.opening_laws.proofs.States.{state-right}
+use Rattle.std.proofs.Common.{Ok, Err, Some}
 
 -- the first opening is that of P4, "always p"; the other that of P5, "eventually p"
 abbrev rule : Bool → KnownRule
@@ -64,22 +63,22 @@ two = record {
 
 -- a start is refused by the other opening
 pub start-foreign : (i j : Bool) (es : List ℕ) → ¬ (i ≡ j)
-    → run_from (two.opening j) (start_of (two.opening i)) es ≡ Arrived.Refused (WrongOpening 0)
+    → run_from (two.opening j) (start_of (two.opening i)) es ≡ Err (WrongOpening 0)
 start-foreign i j es = ((state-right two i (start_of (two.opening i)) [] (start i)).foreign j es).1
 
 -- and taken by its own
 pub start-own : (i : Bool) (es : List ℕ) → Word (alphabet_at two i) es → (x : Refusal)
-    → ¬ (run_from (two.opening i) (start_of (two.opening i)) es ≡ Arrived.Refused x)
+    → ¬ (run_from (two.opening i) (start_of (two.opening i)) es ≡ Err x)
 start-own i es = (state-right two i (start_of (two.opening i)) [] (start i)).taken es
 
 -- "always p" arrives at its state 1 by the event 0, violated
-arrived : run_from (two.opening true) (start_of (two.opening true)) (0 ∷ []) ≡ Arrived.At (state_of 1 1) Violated (After 1)
+arrived : run_from (two.opening true) (start_of (two.opening true)) (0 ∷ []) ≡ Ok (state_of 1 1) Violated (Some 1)
 unfolding two is_table decided_from on_table table_file
 arrived = refl
 
 pub held : Held two true (state_of 1 1) (0 ∷ [])
-held = run true (0 ∷ []) (state_of 1 1) Violated (After 1) (start true) arrived
+held = run true (0 ∷ []) (state_of 1 1) Violated (Some 1) (start true) arrived
 
 -- where "eventually p" has a state 1 too, and refuses this one
-pub held-foreign : (es : List ℕ) → run_from (two.opening false) (state_of 1 1) es ≡ Arrived.Refused (WrongOpening 0)
+pub held-foreign : (es : List ℕ) → run_from (two.opening false) (state_of 1 1) es ≡ Err (WrongOpening 0)
 held-foreign es = ((state-right two true (state_of 1 1) (0 ∷ []) held).foreign false es).1 (λ q. true≢false q)

@@ -10,12 +10,11 @@ use Rattle.meaning.specs.Histories.{Action, Turn, Standing, begun, asked, onward
 use Rattle.meaning.specs.declared.Refusal.{Refusal}
 use Rattle.meaning.specs.declared.Refusal.TheVariants.{WrongOpening}
 use Rattle.meaning.specs.declared.Verdict.{Verdict}
-use Rattle.meaning.specs.declared.Decided.{Decided}
 use Rattle.meaning.specs.declared.State.{State}
-use Rattle.meaning.specs.declared.Arrived.{Arrived}
-use Rattle.meaning.specs.declared.Arrived.TheVariants as Arrived
 use Rattle.meaning.specs.declared.Served.TheVariants as Served
 use Rattle.building.specs.Build.{BuiltRight}
+use Rattle.std.specs.Prelude.{Ok, Err}
+use Rattle.meaning.specs.declared.Arrival.{Arrival}
 
 -- A family of openings, of any kind and number: each of a table that was built of some rule file, and no two with the same number.
 pub record Family (I : Type 0) : Type 0 where
@@ -37,19 +36,19 @@ property_at F i = property_of (F.built i).rule
 -- may be tried with any opening of the family.
 pub data Held {I : Type 0} (F : Family I) : I → State → List ℕ → Type 0 where
   start : (i : I) → Held F i (start_of (F.opening i)) []
-  run : {i : I} {s : State} {w : List ℕ} (j : I) (es : List ℕ) (r : State) (v : Verdict) (d : Decided)
-      → Held F i s w → run_from (F.opening j) s es ≡ Arrived.At r v d → Held F j r (w ++ es)
+  run : {i : I} {s : State} {w : List ℕ} (j : I) (es : List ℕ) (a : Arrival State)
+      → Held F i s w → run_from (F.opening j) s es ≡ Ok a → Held F j a.state (w ++ es)
 
 -- of the state s, which opening i returned, after the events w
 pub record StateRight {I : Type 0} (F : Family I) (i : I) (s : State) (w : List ℕ) : Type 0 where
   -- "is refused by 24 exactly if the state is another opening's"
-  pub foreign : (j : I) (es : List ℕ) → (run_from (F.opening j) s es ≡ Arrived.Refused (WrongOpening 0)) ↔ (¬ (i ≡ j))
+  pub foreign : (j : I) (es : List ℕ) → (run_from (F.opening j) s es ≡ Err (WrongOpening 0)) ↔ (¬ (i ≡ j))
   -- "without a refusal it returns demand 2's verdict for all events since that start"
-  pub verdict : (j : I) (es : List ℕ) (r : State) (v : Verdict) (d : Decided) → run_from (F.opening j) s es ≡ Arrived.At r v d
-      → Judged (alphabet_at F j) (property_at F j) (w ++ es) v
+  pub verdict : (j : I) (es : List ℕ) (a : Arrival State) → run_from (F.opening j) s es ≡ Ok a
+      → Judged (alphabet_at F j) (property_at F j) (w ++ es) a.verdict
   -- with the state's own opening a run over events that can happen is not refused, and any other by 12
-  pub taken : (es : List ℕ) → Word (alphabet_at F i) es → (x : Refusal) → ¬ (run_from (F.opening i) s es ≡ Arrived.Refused x)
-  pub refused : (es : List ℕ) (x : Refusal) → run_from (F.opening i) s es ≡ Arrived.Refused x → (code_of x).0 ≡ 12
+  pub taken : (es : List ℕ) → Word (alphabet_at F i) es → (x : Refusal) → ¬ (run_from (F.opening i) s es ≡ Err x)
+  pub refused : (es : List ℕ) (x : Refusal) → run_from (F.opening i) s es ≡ Err x → (code_of x).0 ≡ 12
 
 -- ---- a desk: what is asked of it, and with which opening
 
@@ -70,9 +69,9 @@ module _ {I : Type 0} (F : Family I) where
 
   pub record DeskRight (i : I) (n l : ℕ) (h : List (I × Action)) : Type 0 where
     -- a post or turn is refused by 24, at the first watch, exactly if it comes with another opening than the one that made the desk fresh
-    pub foreign : (j : I) (a : Action) → ((asked (F.opening j) (desk_after i n l h) a).answer ≡ Served.Refused (WrongOpening 0)) ↔ (¬ (i ≡ j))
+    pub foreign : (j : I) (a : Action) → ((asked (F.opening j) (desk_after i n l h) a).answer ≡ Err (WrongOpening 0)) ↔ (¬ (i ≡ j))
     -- and then changes nothing
     pub kept : (j : I) (a : Action) → ¬ (i ≡ j) → onward (F.opening j) (desk_after i n l h) a ≡ desk_after i n l h
     -- a turn that hears an event of tunnel k returns demand 2's verdict for all events of that tunnel heard since the desk was fresh
-    pub verdict : (j : I) (k e : ℕ) (s : State) (v : Verdict) → (asked (F.opening j) (desk_after i n l h) Turn).answer ≡ Served.Heard k e s v
+    pub verdict : (j : I) (k e : ℕ) (s : State) (v : Verdict) → (asked (F.opening j) (desk_after i n l h) Turn).answer ≡ Ok (Served.Heard k e s v)
         → Judged (alphabet_at F j) (property_at F j) (heard_by (begun (F.opening i) n l) k h ++ (e ∷ [])) v

@@ -9,15 +9,16 @@ use lib.Seq.{drop-cons}
 use borrow.Author.Tests.{eq-eqb, ne_eqb}
 use Rattle.meaning.specs.Runs.{ran_in, counts_fit}
 use Rattle.meaning.specs.Openings.{carried, run_from_in}
-use Rattle.meaning.specs.declared.Ran.{Ran}
 use Rattle.meaning.specs.declared.State.{State}
-use Rattle.meaning.specs.declared.Arrived.{Arrived}
 use Rattle.openings.specs.Steps.{foreign_in, state_after, stepped_in}
+use Rattle.std.proofs.Common.{Result}
+use Rattle.meaning.specs.declared.Arrival.{Arrival}
+use Rattle.meaning.specs.declared.Refusal.{Refusal}
 
 module _ (n : ℕ) (t : List ℕ) (P S : ℕ) (s : State) where
   -- a state of this opening: the run of the table, with the number carried along
-  pub own : (es : List ℕ) → s.opening ≡ n → (r : Ran) → r ≡ ran_in t P S s.number es → carried n r ≡ run_from_in n t P S s es
-  own es q r rr = ap (λ (x : Ran). carried n x) rr ∙ go (counts_fit t P S) refl
+  pub own : (es : List ℕ) → s.opening ≡ n → (r : Result (Arrival ℕ) Refusal) → r ≡ ran_in t P S s.number es → carried n r ≡ run_from_in n t P S s es
+  own es q r rr = ap (λ (x : Result (Arrival ℕ) Refusal). carried n x) rr ∙ go (counts_fit t P S) refl
     where
       go : (b : Bool) → counts_fit t P S ≡ b → carried n (ran_in t P S s.number es) ≡ run_from_in n t P S s es
       go true e = rw (e, eq-eqb s.opening n q)
@@ -29,13 +30,13 @@ module _ (n : ℕ) (t : List ℕ) (P S : ℕ) (s : State) where
 
   -- a step passes from the events at i on to those at i + 1, and at the end nothing is left
   module _ (es : List ℕ) (i : ℕ) where
-    pub step-on : i < length es → (e : ℕ) → e ≡ get_or es i 0 → (r : Arrived) → r ≡ run_from_in n t P S s (e ∷ []) → (k : State) → k ≡ state_after r s
+    pub step-on : i < length es → (e : ℕ) → e ≡ get_or es i 0 → (r : Result (Arrival State) Refusal) → r ≡ run_from_in n t P S s (e ∷ []) → (k : State) → k ≡ state_after r s
         → stepped_in n t P S k (drop (i + 1) es) ≡ stepped_in n t P S s (drop i es)
     unfolding stepped_in
     step-on l e ee r re k ke =
         let at : drop i es ≡ get_or es i 0 ∷ drop (i + 1) es = drop-cons es i 0 l ∙ ap (λ (j : ℕ). get_or es i 0 ∷ drop j es) (sym (add-one i)) in
         let to : k ≡ state_after (run_from_in n t P S s (get_or es i 0 ∷ [])) s =
-        ke ∙ ap (λ (x : Arrived). state_after x s) re ∙ ap (λ (x : ℕ). state_after (run_from_in n t P S s (x ∷ [])) s) ee in
+        ke ∙ ap (λ (x : Result (Arrival State) Refusal). state_after x s) re ∙ ap (λ (x : ℕ). state_after (run_from_in n t P S s (x ∷ [])) s) ee in
         ap (λ (x : State). stepped_in n t P S x (drop (i + 1) es)) to ∙ ap (λ (x : List ℕ). stepped_in n t P S s x) (sym at)
 
     pub step_end : length es ≤ i → s ≡ stepped_in n t P S s (drop i es)

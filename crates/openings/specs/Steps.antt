@@ -4,16 +4,18 @@ use Rattle.meaning.specs.Runs.{counts_fit}
 use Rattle.meaning.specs.Openings.{run_from_in}
 use Rattle.meaning.specs.declared.Refusal.TheVariants.{WrongTable, WrongOpening}
 use Rattle.meaning.specs.declared.State.{State}
-use Rattle.meaning.specs.declared.Arrived.{Arrived}
+use Rattle.std.specs.Prelude.{Result}
+use Rattle.meaning.specs.declared.Arrival.{Arrival}
+use Rattle.meaning.specs.declared.Refusal.{Refusal}
 
 -- how a state of another opening is refused: 14 before 24
-abbrev pub foreign_in : List ℕ → ℕ → ℕ → Arrived
-foreign_in t P S = cond (counts_fit t P S) (Arrived.Refused (WrongOpening 0)) (Arrived.Refused WrongTable)
+abbrev pub foreign_in : List ℕ → ℕ → ℕ → Result (Arrival State) Refusal
+foreign_in t P S = cond (counts_fit t P S) (Err (WrongOpening 0)) (Err WrongTable)
 
 -- where an answer leaves the state: where it arrived, or as it was where it was refused
-abbrev pub state_after : Arrived → State → State
-state_after (Arrived.At r v d) s = r
-state_after (Arrived.Refused x) s = s
+abbrev pub state_after : Result (Arrival State) Refusal → State → State
+state_after (Ok a) s = r
+state_after (Err x) s = s
 
 -- "A checked table is opened once and stepped many times": one step for each event
 unfoldable pub stepped_in : ℕ → List ℕ → ℕ → ℕ → State → List ℕ → State

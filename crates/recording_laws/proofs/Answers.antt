@@ -20,14 +20,15 @@ use Rattle.meaning.specs.Recordings.{joined_at, joined_list, Completion, complet
 use Rattle.meaning.specs.declared.Verdict.{Verdict}
 use Rattle.meaning.specs.declared.Verdict.TheVariants.{Undecided, Satisfied, Violated, Moot}
 use Rattle.meaning.specs.declared.Seen.{Seen}
-use Rattle.meaning.specs.declared.Ran.{Ran}
-use Rattle.meaning.specs.declared.Shown.TheVariants as Shown
 use Rattle.table_layout.proofs.Form.{test-event, event-test, table-header, states-some}
 use Rattle.building.specs.Build.{BuiltRight}
 use Rattle.building.proofs.Running.{word-run}
 use Rattle.completions.proofs.Members.{all-complete, complete-all, not-all, completion-word}
 use Rattle.recording_laws.specs.Laws.{EndsWith, AnswerRight, BuiltAnswer}
 use Rattle.recording_laws.proofs.Unrefused.{Unrefused, unrefused, some-completion}
+use Rattle.std.proofs.Common.{Result, Ok}
+use Rattle.meaning.specs.declared.Arrival.{Arrival}
+use Rattle.meaning.specs.declared.Refusal.{Refusal}
 
 -- verdicts with the same number are the same
 number_same : (u v : Verdict) → verdict_number u ≡ verdict_number v → u ≡ v
@@ -103,10 +104,10 @@ module _ (t a b : List ℕ) (v : Verdict) (h : Unrefused t a b v) where
   run_is w c = word-run t h.table 0 w (states-some t (table-header t h.table)) (completion-word Σₜ (signals_in t) (joined_list a b) w c)
 
   pub ends_with : (u : Verdict) (w : List ℕ) → Completion Σₜ (signals_in t) (joined_list a b) w → (monitor_of t).verdict (follow (monitor_of t) 0 w) ≡ u → EndsWith (run_of t 0 w) u
-  ends_with u w c e = subst (λ (r : Ran). EndsWith r u) (sym (run_is w c)) e
+  ends_with u w c e = subst (λ (r : Result (Arrival ℕ) Refusal). EndsWith r u) (sym (run_is w c)) e
 
   with-ends : (u : Verdict) (w : List ℕ) → Completion Σₜ (signals_in t) (joined_list a b) w → EndsWith (run_of t 0 w) u → (monitor_of t).verdict (follow (monitor_of t) 0 w) ≡ u
-  with-ends u w c e = subst (λ (r : Ran). EndsWith r u) (run_is w c) e
+  with-ends u w c e = subst (λ (r : Result (Arrival ℕ) Refusal). EndsWith r u) (run_is w c) e
 
   pub answer_is : (u : Verdict) → decides u ≡ true → ((w : List ℕ) → Completion Σₜ (signals_in t) (joined_list a b) w → (monitor_of t).verdict (follow (monitor_of t) 0 w) ≡ u) → v ≡ u
   answer_is u d k = sym h.answer ∙ over-is Σₜ (signals_in t) (joined_list a b) (monitor_of t) completion.0 completion.1 u d k
@@ -121,7 +122,7 @@ module _ (t a b : List ℕ) (v : Verdict) (h : Unrefused t a b v) where
     only = λ u d k. answer_is u d (λ w c. with-ends u w c (k w c));
   }
 
-pub answer-right : (t a b : List ℕ) (v : Verdict) → judged_of t a b ≡ Shown.Verdict v → AnswerRight t a b v
+pub answer-right : (t a b : List ℕ) (v : Verdict) → judged_of t a b ≡ Ok v → AnswerRight t a b v
 answer-right t a b v h = unrefused-right t a b v (unrefused t a b v h)
 
 -- ---- a built table
@@ -133,7 +134,7 @@ completion-same Σ Σ' P q [] (e ∷ w) c = absurd c
 completion-same Σ Σ' P q (r ∷ rs) [] c = absurd c
 completion-same Σ Σ' P q (r ∷ rs) (e ∷ w) c = (test-event Σ' e (q e ∙ event-test Σ e c.0), c.1, completion-same Σ Σ' P q rs w c.2)
 
-module _ (file t : List ℕ) (built : BuiltRight file t) (a b : List ℕ) (v : Verdict) (h : judged_of t a b ≡ Shown.Verdict v) where
+module _ (file t : List ℕ) (built : BuiltRight file t) (a b : List ℕ) (v : Verdict) (h : judged_of t a b ≡ Ok v) where
   abbrev r : Rule
   r = built.rule
 

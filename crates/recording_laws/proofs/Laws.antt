@@ -29,12 +29,11 @@ use Rattle.meaning.specs.declared.Verdict.TheVariants.{Undecided, Satisfied, Vio
 use Rattle.meaning.specs.declared.Refusal.{Refusal}
 use Rattle.meaning.specs.declared.Refusal.TheVariants.{WrongTable, WrongRecordings}
 use Rattle.meaning.specs.declared.Seen.{Seen}
-use Rattle.meaning.specs.declared.Shown.{Shown}
-use Rattle.meaning.specs.declared.Shown.TheVariants as Shown
 use Rattle.recorded_events.proofs.Laws.{digit, same_bits}
 use Rattle.recording_laws.specs.Laws.{EndsWith, NothingUnknown, recorded_events, KnowsMore, Richer}
 use Rattle.recording_laws.proofs.Unrefused.{Unrefused, unrefused}
 use Rattle.recording_laws.proofs.Answers.{completion, ends_with, answer_is, answer-ends}
+use Rattle.std.proofs.Common.{Result, Ok, Err}
 
 and_comm : (x y : Bool) → (x && y) ≡ (y && x)
 and_comm true true = refl
@@ -78,11 +77,11 @@ module _ (t : List ℕ) where
   abbrev Σ : Alphabet
   Σ = alphabet_in t (signals_in t)
 
-  abbrev answered : Bool → List (Bool × Refusal) → List Seen → Shown
+  abbrev answered : Bool → List (Bool × Refusal) → List Seen → Result Verdict Refusal
   answered fit cs rs =
       cond (is_table t)
-      (first_of Shown.Refused ((not fit, WrongRecordings) ∷ cs) (Shown.Verdict (verdict_over (monitor_of t) (completions Σ (signals_in t) rs))))
-      (Shown.Refused WrongTable)
+      (first_of Err ((not fit, WrongRecordings) ∷ cs) (Ok (verdict_over (monitor_of t) (completions Σ (signals_in t) rs))))
+      (Err WrongTable)
 
   answered-so : (a b : List ℕ) → judged_of t a b ≡ answered (lengths_fit a b) (joined (length a / 2) (event_checks Σ (signals_in t) a b)) (joined_list a b)
   unfolding judged_of
@@ -211,7 +210,7 @@ no-decision Satisfied p u q = never p
 no-decision Violated p u q = never p
 no-decision Moot p u q = never p
 
-module _ (t a b : List ℕ) (v : Verdict) (h : judged_of t a b ≡ Shown.Verdict v) where
+module _ (t a b : List ℕ) (v : Verdict) (h : judged_of t a b ≡ Ok v) where
   abbrev P : ℕ
   P = signals_in t
 
@@ -265,7 +264,7 @@ agree_less P r q k e h = all-is P (λ s. cond (knows r s) (eqb (bit s e) (bit s 
         let y : eqb (bit s e) (bit s q.values) ≡ true = sym (ap (λ (z : Bool). cond z (eqb (bit s e) (bit s q.values)) true) m.0) ∙ all-at P (λ i. cond (knows q i) (eqb (bit i e) (bit i q.values)) true) h s l in
         ap (λ (x : ℕ). eqb (bit s e) x) m.1 ∙ y
 
-module _ (t a b a' b' : List ℕ) (v u : Verdict) (h : judged_of t a b ≡ Shown.Verdict v) (h' : judged_of t a' b' ≡ Shown.Verdict u) (m : Richer (signals_in t) a a') (m' : Richer (signals_in t) b b') where
+module _ (t a b a' b' : List ℕ) (v u : Verdict) (h : judged_of t a b ≡ Ok v) (h' : judged_of t a' b' ≡ Ok u) (m : Richer (signals_in t) a a') (m' : Richer (signals_in t) b b') where
   same_length : length b ≡ length a
   same_length = sym (eqb-true (length a) (length b) (both (eqb (length a) (length b)) (eqb (length a % 2) 0) (unrefused t a b v h).lengths).0)
 
@@ -296,6 +295,6 @@ over-one m Violated e = rw e
 over-one m Moot e = rw e
 
 -- whose one completion is the empty list
-pub empty-start : (t : List ℕ) → is_table t ≡ true → judged_of t [] [] ≡ Shown.Verdict ((monitor_of t).verdict 0)
+pub empty-start : (t : List ℕ) → is_table t ≡ true → judged_of t [] [] ≡ Ok ((monitor_of t).verdict 0)
 unfolding judged_of completions
-empty-start t h = rw h (ap Shown.Verdict (over-one (monitor_of t) ((monitor_of t).verdict 0) refl))
+empty-start t h = rw h (ap Ok (over-one (monitor_of t) ((monitor_of t).verdict 0) refl))

@@ -19,9 +19,8 @@ use Rattle.meaning.specs.declared.Verdict.{Verdict}
 use Rattle.meaning.specs.declared.Refusal.{Refusal}
 use Rattle.meaning.specs.declared.Refusal.TheVariants.{WrongTable}
 use Rattle.meaning.specs.declared.Seen.{Seen}
-use Rattle.meaning.specs.declared.Shown.{Shown}
-use Rattle.meaning.specs.declared.Shown.TheVariants as Shown
 use Rattle.completions.proofs.Members.{In, choices-in}
+use Rattle.std.proofs.Common.{Result, Ok, Err}
 
 -- ---- checks that all pass
 
@@ -29,15 +28,15 @@ abbrev Clear : List (Bool × Refusal) → Type 0
 Clear [] = Unit {0}
 Clear (c ∷ cs) = (c.0 ≡ false) × Clear cs
 
-refusal-shown : {A : Type 0} (x : Refusal) (v : Verdict) → Shown.Refused x ≡ Shown.Verdict v → A
+refusal-shown : {A : Type 0} (x : Refusal) (v : Verdict) → Err x ≡ Ok v → A
 refusal-shown x v q = let z : ◌≡◌ {A = ℕ} 0 1 = cc in absurd (omega arith)
 
-clear_first : (cs : List (Bool × Refusal)) (z : Shown) (v : Verdict) → first_of Shown.Refused cs z ≡ Shown.Verdict v → Clear cs × (z ≡ Shown.Verdict v)
+clear_first : (cs : List (Bool × Refusal)) (z : Result Verdict Refusal) (v : Verdict) → first_of Err cs z ≡ Ok v → Clear cs × (z ≡ Ok v)
 clear_first [] z v h = (tt, h)
 clear_first (c ∷ cs) z v h = go c.0 refl h (λ k. clear_first cs z v k)
   where
-    go : (b : Bool) → c.0 ≡ b → cond b (Shown.Refused c.1) (first_of Shown.Refused cs z) ≡ Shown.Verdict v → (first_of Shown.Refused cs z ≡ Shown.Verdict v → Clear cs × (z ≡ Shown.Verdict v))
-        → Clear (c ∷ cs) × (z ≡ Shown.Verdict v)
+    go : (b : Bool) → c.0 ≡ b → cond b (Err c.1) (first_of Err cs z) ≡ Ok v → (first_of Err cs z ≡ Ok v → Clear cs × (z ≡ Ok v))
+        → Clear (c ∷ cs) × (z ≡ Ok v)
     go true e k more = refusal-shown c.1 v k
     go false e k more = let r = more k in ((e, r.0), r.1)
 
@@ -63,7 +62,7 @@ pub record Unrefused (t a b : List ℕ) (v : Verdict) : Type 0 where
   pub some : (i : ℕ) → i < length a / 2 → 1 ≤ length (choices (alphabet_in t (signals_in t)) (signals_in t) (joined_at a b i))
   pub answer : verdict_over (monitor_of t) (completions (alphabet_in t (signals_in t)) (signals_in t) (joined_list a b)) ≡ v
 
-pub unrefused : (t a b : List ℕ) (v : Verdict) → judged_of t a b ≡ Shown.Verdict v → Unrefused t a b v
+pub unrefused : (t a b : List ℕ) (v : Verdict) → judged_of t a b ≡ Ok v → Unrefused t a b v
 unfolding judged_of
 unrefused t a b v h = go (is_table t) refl h
   where
@@ -71,7 +70,7 @@ unrefused t a b v h = go (is_table t) refl h
     Σ = alphabet_in t (signals_in t)
 
     go : (c : Bool) → is_table t ≡ c
-        → cond c (first_of Shown.Refused (recording_checks Σ (signals_in t) a b) (Shown.Verdict (verdict_over (monitor_of t) (completions Σ (signals_in t) (joined_list a b))))) (Shown.Refused WrongTable) ≡ Shown.Verdict v
+        → cond c (first_of Err (recording_checks Σ (signals_in t) a b) (Ok (verdict_over (monitor_of t) (completions Σ (signals_in t) (joined_list a b))))) (Err WrongTable) ≡ Ok v
         → Unrefused t a b v
     go false e k = refusal-shown WrongTable v k
     go true e k =

@@ -9,13 +9,14 @@ use Rattle.meaning.specs.Runs.{decides, run_of}
 use Rattle.meaning.specs.Recordings.{seen_at, knows, joined_at, joined_list, Completion}
 use Rattle.meaning.specs.declared.Verdict.{Verdict}
 use Rattle.meaning.specs.declared.Seen.{Seen}
-use Rattle.meaning.specs.declared.Ran.{Ran}
-use Rattle.meaning.specs.declared.Ran.TheVariants as Ran
+use Rattle.std.specs.Prelude.{Result, Ok, Err}
+use Rattle.meaning.specs.declared.Arrival.{Arrival}
+use Rattle.meaning.specs.declared.Refusal.{Refusal}
 
 -- the run is not refused, and ends with the verdict v
-abbrev pub EndsWith : Ran → Verdict → Type 0
-EndsWith (Ran.Ended s u d) v = u ≡ v
-EndsWith (Ran.Refused x) v = ⊥
+abbrev pub EndsWith : Result (Arrival ℕ) Refusal → Verdict → Type 0
+EndsWith (Ok a) v = a.verdict ≡ v
+EndsWith (Err x) v = ⊥
 
 -- "Satisfied, violated or moot is answered exactly if every completion's run ends with it; else undecided": v is answered
 pub record AnswerRight (t a b : List ℕ) (v : Verdict) : Type 0 where

@@ -12,11 +12,10 @@ use Rattle.meaning.specs.Runs.{counts_fit, on_table}
 use Rattle.meaning.specs.Recordings.{joined_list, completions, judged_in, judged_of}
 use Rattle.meaning.specs.declared.Refusal.{Refusal}
 use Rattle.meaning.specs.declared.Refusal.TheVariants.{WrongTable}
-use Rattle.meaning.specs.declared.Checked.TheVariants as Checked
-use Rattle.meaning.specs.declared.Shown.{Shown}
 use Rattle.table_layout.proofs.Form.{event-test, table-counts, table-header, states-some}
 use Rattle.table_run.proofs.Answers.{found, on-way}
 use Rattle.completions.proofs.Members.{complete-all, completion-word}
+use Rattle.std.proofs.Common.{Ok, Err}
 
 word-events : (Σ : Alphabet) (w : List ℕ) → Word Σ w → (i : ℕ) → i < length w → is_event Σ (get_or w i 0) ≡ true
 word-events Σ [] h i l = absurd (omega arith)
@@ -32,19 +31,19 @@ module _ (t a b : List ℕ) where
       (λ w c. on-way t h 0 w (states-some t (table-header t h))
       (word-events (alphabet_in t (signals_in t)) w (completion-word (alphabet_in t (signals_in t)) (signals_in t) (joined_list a b) w c)))
 
-  pub judged-table : (Q R : ℕ) → checked_of t ≡ Checked.Table Q R → judged_in t Q R a b ≡ judged_of t a b
+  pub judged-table : (Q R : ℕ) → checked_of t ≡ Ok Q R → judged_in t Q R a b ≡ judged_of t a b
   unfolding judged_in judged_of
   judged-table Q R e = let f = found t Q R e in rw (f.signals, f.states, f.table, table-counts t f.table, stays f.table)
 
   -- counts that fit no table
-  pub judged-none : (Q R : ℕ) → counts_fit t Q R ≡ false → judged_in t Q R a b ≡ Shown.Refused WrongTable
+  pub judged-none : (Q R : ℕ) → counts_fit t Q R ≡ false → judged_in t Q R a b ≡ Err WrongTable
   unfolding judged_in
   judged-none Q R e = rw e
 
-  pub judged-refused : (x : Refusal) → checked_of t ≡ Checked.Refused x → judged_of t a b ≡ Shown.Refused WrongTable
+  pub judged-refused : (x : Refusal) → checked_of t ≡ Err x → judged_of t a b ≡ Err WrongTable
   unfolding judged_of
   judged-refused x e = go (is_table t) refl e
     where
-      go : (c : Bool) → is_table t ≡ c → cond c (Checked.Table (signals_in t) (states_in t)) (Checked.Refused WrongTable) ≡ Checked.Refused x → judged_of t a b ≡ Shown.Refused WrongTable
+      go : (c : Bool) → is_table t ≡ c → cond c (Ok (signals_in t) (states_in t)) (Err WrongTable) ≡ Err x → judged_of t a b ≡ Err WrongTable
       go true p q = let z : ◌≡◌ {A = ℕ} 0 1 = cc in absurd (omega arith)
       go false p q = rw p

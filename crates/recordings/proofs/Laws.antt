@@ -27,7 +27,6 @@ use Rattle.meaning.specs.Recordings.{lengths_fit, seen_at, knows, join, joined_a
 use Rattle.meaning.specs.declared.Refusal.{Refusal}
 use Rattle.meaning.specs.declared.Refusal.TheVariants.{WrongEvent, Contradiction}
 use Rattle.meaning.specs.declared.Seen.{Seen}
-use Rattle.meaning.specs.declared.Shown.{Shown}
 use Rattle.table_layout.specs.Masks.{MaskIn}
 use Rattle.table_layout.proofs.Form.{counts-few, counts_some, row_inside}
 use Rattle.state_sets.specs.Sets.{Among, Moved}
@@ -149,7 +148,7 @@ module _ (t : List ℕ) (P S : ℕ) (a b : List ℕ) where
 
   -- an event is refused
   pub pass-fault : (i : ℕ) (inside : Bool) (members : List Bool) (x : Refusal) → Passed i inside members → i < length a / 2 → Fault (event_checks (alphabet_in t P) P a b i) x
-      → Shown.Refused x ≡ events_judged t P S a b
+      → Err x ≡ events_judged t P S a b
   unfolding events_judged
   pass-fault i inside members x h l k = sym ((fault-at (event_checks (alphabet_in t P) P a b) (length a / 2) i x h.cleared k l).is _)
 

@@ -4,9 +4,11 @@ use Rattle.meaning.specs.TableFiles.{alphabet_in}
 use Rattle.meaning.specs.Recordings.{choices, joined_at, event_checks}
 use Rattle.meaning.specs.declared.Refusal.TheVariants.{WrongTable, WrongEvent}
 use Rattle.meaning.specs.declared.Seen.{Seen}
-use Rattle.meaning.specs.declared.Shown.{Shown}
 use Rattle.completions.specs.Passing.{Cleared, Fault, Steps}
 use Rattle.recordings.specs.declared.Hearing.{Hearing}
+use Rattle.std.specs.Prelude.{Result}
+use Rattle.meaning.specs.declared.Verdict.{Verdict}
+use Rattle.meaning.specs.declared.Refusal.{Refusal}
 
 -- what hearing a joined event with index i says
 abbrev pub HearsJoined : List ℕ → ℕ → ℕ → Seen → ℕ → List Bool → List Bool → Hearing → Type 0
@@ -19,6 +21,6 @@ Hears t P S a b i old new (Hearing.Heard ok) = Cleared (event_checks (alphabet_i
 Hears t P S a b i old new (Hearing.Refused x) = Fault (event_checks (alphabet_in t P) P a b i) x
 
 -- the refusal of an event, handed on
-abbrev pub handed_on : Hearing → Shown
-handed_on (Hearing.Heard ok) = Shown.Refused WrongTable
-handed_on (Hearing.Refused x) = Shown.Refused x
+abbrev pub handed_on : Hearing → Result Verdict Refusal
+handed_on (Hearing.Heard ok) = Err WrongTable
+handed_on (Hearing.Refused x) = Err x

@@ -12,11 +12,11 @@ use Rattle.meaning.specs.Grammar.{Tree}
 use Rattle.meaning.specs.RuleTexts.{size, rule_of, rule_bytes, any_out_of_range, rule_answer, tree_answer}
 use Rattle.meaning.specs.declared.Refusal.{Refusal}
 use Rattle.meaning.specs.declared.Refusal.TheVariants.{WrongSignals, OutOfRange, EighthTemporal, ShortOutput, TooManyNodes}
-use Rattle.meaning.specs.declared.Written.{Written}
 use Rattle.rule_records.proofs.Checks.{Cleared, first-cleared}
 use Rattle.grammar.specs.Signs.{Signs}
 use Rattle.rule_bytes.proofs.RoundTrip.{reads-back}
 use Rattle.rule_bytes.proofs.Trees.{tree-rule}
+use Rattle.std.proofs.Common.{Result}
 
 -- the file of a tree over P signals has n bytes, for which there is room, and is accepted
 pub record AcceptedFile (P room : ℕ) (t : Tree) (n : ℕ) : Type 0 where
@@ -25,19 +25,19 @@ pub record AcceptedFile (P room : ℕ) (t : Tree) (n : ℕ) : Type 0 where
   pub judged : judge (rule_bytes (rule_of P t)) ≡ Accepted (rule_of P t)
 
 -- a length is the answer where no check fails
-cleared : (n : ℕ) (x : Written) (cs : List (Bool × Refusal)) → first_of Written.Refused cs x ≡ Written.Rule n → Cleared cs (length cs) × (x ≡ Written.Rule n)
-cleared n x cs e = first-cleared Written.Refused x (Written.Rule n) other cs e
+cleared : (n : ℕ) (x : Result ℕ Refusal) (cs : List (Bool × Refusal)) → first_of Err cs x ≡ Ok n → Cleared cs (length cs) × (x ≡ Ok n)
+cleared n x cs e = first-cleared Err x (Ok n) other cs e
   where
-    other : (r : Refusal) → Written.Refused r ≡ Written.Rule n → ⊥
+    other : (r : Refusal) → Err r ≡ Ok n → ⊥
     other r e = let z : ◌≡◌ {A = ℕ} 0 1 = cc in omega arith
 
-pub accepted : (P room : ℕ) (t : Tree) (n : ℕ) → Signs t → tree_answer P room t ≡ Written.Rule n → AcceptedFile P room t n
+pub accepted : (P room : ℕ) (t : Tree) (n : ℕ) → Signs t → tree_answer P room t ≡ Ok n → AcceptedFile P room t n
 unfolding tree_answer rule_answer
 accepted P room t n h e =
     let r : Rule = rule_of P t in
     let first = cleared n (rule_answer room r) ((not (leb 1 P && leb P 4), WrongSignals) ∷ (ltb 64 (size t), TooManyNodes) ∷ []) e in
     let second =
-    cleared n (Written.Rule (length (rule_bytes r)))
+    cleared n (Ok (length (rule_bytes r)))
     ((any_out_of_range P r.nodes, OutOfRange 0) ∷ (ltb 7 (temporals r.nodes), EighthTemporal 0) ∷ (ltb room (length (rule_bytes r)), ShortOutput) ∷ [])
     first.1 in
     let q = second.1 in

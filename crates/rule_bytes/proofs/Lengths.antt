@@ -17,15 +17,14 @@ use Rattle.meaning.specs.declared.Node.{Node}
 use Rattle.meaning.specs.declared.Header.{Header}
 use Rattle.meaning.specs.declared.Refusal.{Refusal}
 use Rattle.meaning.specs.declared.Refusal.TheVariants.{TrailingBytes}
-use Rattle.meaning.specs.declared.HeaderReading.{HeaderReading}
-use Rattle.meaning.specs.declared.MaskReading.{MaskReading}
-use Rattle.meaning.specs.declared.Reading.{Reading}
 use Rattle.rule_nodes.proofs.Shapes.{Each, within}
 use Rattle.rule_records.proofs.Records.{header-few, node-told}
 use Rattle.rule_records.proofs.Masks.{mask-near}
 use Rattle.rule_file.proofs.Nodes.{judged, judged-refused, judged-mask-refused}
 use Rattle.grammar.specs.Signs.{Signs}
 use Rattle.rule_bytes.specs.WellFormed.{longest_accepted}
+use Rattle.std.proofs.Common.{Result}
+use Rattle.meaning.specs.declared.Mask.{Mask}
 
 pub bytes-append : (ns ms : List Node) → nodes_bytes (ns ++ ms) ≡ nodes_bytes ns ++ nodes_bytes ms
 unfolding nodes_bytes
@@ -86,12 +85,12 @@ accepted-from zero b P m p earlier r e = go (ltb p (length b)) refl e
 accepted-from (suc k) b P m p earlier r e =
     go (reading_of b P p (length earlier) (temporals earlier)) refl (λ n. accepted-from k b P m (p + 2 + u16_at b p) (earlier ++ (n ∷ [])) r) e
   where
-    go : (x : Reading) → reading_of b P p (length earlier) (temporals earlier) ≡ x
+    go : (x : Result Node Refusal) → reading_of b P p (length earlier) (temporals earlier) ≡ x
         → ((n : Node) → nodes_from k b P m (p + 2 + u16_at b p) (earlier ++ (n ∷ [])) ≡ Accepted r → length b ≤ p + 2 + u16_at b p + 7 * k)
-        → elim x as (λ _. Judgement) [ Reading.Node n ↦ nodes_from k b P m (p + 2 + u16_at b p) (earlier ++ (n ∷ [])) | Reading.Refused r ↦ Refused r ] ≡ Accepted r
+        → elim x as (λ _. Judgement) [ Ok n ↦ nodes_from k b P m (p + 2 + u16_at b p) (earlier ++ (n ∷ [])) | Err r ↦ Refused r ] ≡ Accepted r
         → length b ≤ p + 7 * suc k
-    go (Reading.Node n) q ih e = omega (arith, ih n e, (node-told b P p (length earlier) (temporals earlier) n q).length)
-    go (Reading.Refused y) q ih e = let z : ◌≡◌ {A = ℕ} 0 1 = cc in absurd (omega arith)
+    go (Ok n) q ih e = omega (arith, ih n e, (node-told b P p (length earlier) (temporals earlier) n q).length)
+    go (Err y) q ih e = let z : ◌≡◌ {A = ℕ} 0 1 = cc in absurd (omega arith)
 
 pub accepted-file : (b : List ℕ) (r : Rule) → judge b ≡ Accepted r → length b ≤ longest_accepted
 accepted-file b r e = go (header_of b) refl
@@ -99,11 +98,11 @@ accepted-file b r e = go (header_of b) refl
     refused : (y : Refusal) → judge b ≡ Refused y → length b ≤ longest_accepted
     refused y f = let z : ◌≡◌ {A = ℕ} 0 1 = cc in absurd (omega arith)
 
-    after : (h : Header) → header_of b ≡ HeaderReading.Header h → (x : MaskReading) → mask_of b h.signals ≡ x → length b ≤ longest_accepted
-    after h q (MaskReading.Mask m p) o =
+    after : (h : Header) → header_of b ≡ Ok h → (x : Result Mask Refusal) → mask_of b h.signals ≡ x → length b ≤ longest_accepted
+    after h q (Ok m p) o =
         omega (arith, accepted-from h.nodes b h.signals m p [] r (sym (judged b h q m p o) ∙ e), (header-few b h q).1, mask-near b h.signals m p o)
-    after h q (MaskReading.Refused y) o = refused y (judged-mask-refused b h q y o)
+    after h q (Err y) o = refused y (judged-mask-refused b h q y o)
 
-    go : (x : HeaderReading) → header_of b ≡ x → length b ≤ longest_accepted
-    go (HeaderReading.Header h) q = after h q (mask_of b h.signals) refl
-    go (HeaderReading.Refused y) q = refused y (judged-refused b y q)
+    go : (x : Result Header Refusal) → header_of b ≡ x → length b ≤ longest_accepted
+    go (Ok h) q = after h q (mask_of b h.signals) refl
+    go (Err y) q = refused y (judged-refused b y q)

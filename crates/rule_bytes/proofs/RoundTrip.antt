@@ -15,9 +15,6 @@ use Rattle.meaning.specs.RuleTexts.{node_bytes, nodes_bytes, rule_bytes, any_out
 use Rattle.meaning.specs.declared.Node.{Node}
 use Rattle.meaning.specs.declared.Refusal.{Refusal}
 use Rattle.meaning.specs.declared.Refusal.TheVariants.{WrongOperand, OutOfRange, EighthTemporal}
-use Rattle.meaning.specs.declared.HeaderReading.TheVariants as HeaderReading
-use Rattle.meaning.specs.declared.MaskReading.TheVariants as MaskReading
-use Rattle.meaning.specs.declared.Reading.{Reading}
 use Rattle.rule_nodes.specs.Shapes.{node_of}
 use Rattle.rule_nodes.proofs.Shapes.{Each, within}
 use Rattle.rule_nodes.proofs.Fits.{length-own}
@@ -26,6 +23,7 @@ use Rattle.rule_records.proofs.Records.{header_checks}
 use Rattle.rule_records.proofs.Masks.{mask-absent}
 use Rattle.rule_file.proofs.Nodes.{temporals-more, nodes-more, nodes-end, judged}
 use Rattle.rule_bytes.specs.WellFormed.{Formed, AllFormed, WellFormed}
+use Rattle.std.proofs.Common.{Ok, Err}
 
 -- a list of checks, none of which fails
 cleared : (cs : List (Bool × Refusal)) → Each (λ j. fails_at cs j ≡ false) 0 (length cs) → Cleared cs (length cs)
@@ -34,11 +32,11 @@ cleared cs e = record { none = λ j l. within (λ j. fails_at cs j ≡ false) 0 
 -- ---- the first record
 
 header-back : (P N : ℕ) (rest : List ℕ) → 1 ≤ P → P ≤ 4 → 1 ≤ N → N ≤ 64
-    → header_of (4 ∷ 0 ∷ 0 ∷ 1 ∷ P ∷ N ∷ rest) ≡ HeaderReading.Header (record { signals = P; nodes = N })
+    → header_of (4 ∷ 0 ∷ 0 ∷ 1 ∷ P ∷ N ∷ rest) ≡ Ok (record { signals = P; nodes = N })
 unfolding header_of
 header-back P N rest a b c d =
     let file : List ℕ = 4 ∷ 0 ∷ 0 ∷ 1 ∷ P ∷ N ∷ rest in
-    first-none HeaderReading.Refused (HeaderReading.Header (record { signals = P; nodes = N })) (header_checks file)
+    first-none Err (Ok (record { signals = P; nodes = N })) (header_checks file)
     (cleared (header_checks file) (
       le-ltb (length file - 0) 2 (omega arith),
       (
@@ -112,11 +110,11 @@ module _ (front rest : List ℕ) (n : Node) where
         upper = upper-none n.kind (get_or file (length front + 6) 0) ∙ sym h.upper_unsaid
 
     -- it is read as n where n has the number i, over P signals, after so many temporal nodes
-    reading-back : (P seen : ℕ) → ranges_fit P n ≡ true → seen + cond (temporal n.kind) 1 0 ≤ 7 → reading_of file P (length front) i seen ≡ Reading.Node n
+    reading-back : (P seen : ℕ) → ranges_fit P n ≡ true → seen + cond (temporal n.kind) 1 0 ≤ 7 → reading_of file P (length front) i seen ≡ Ok n
     unfolding reading_of
     reading-back P seen e l =
-        ap (λ (m : Node). first_of Reading.Refused (checks m) (Reading.Node m)) node-back
-        ∙ first-none Reading.Refused (Reading.Node n) (checks n) (cleared (checks n) (
+        ap (λ (m : Node). first_of Err (checks m) (Ok m)) node-back
+        ∙ first-none Err (Ok n) (checks n) (cleared (checks n) (
           le-ltb (length file - p) 2 (omega (arith, room)),
           (
             le-ltb (u16_at file p) 2 (omega (arith, length_back)),
@@ -174,7 +172,7 @@ nodes-back P m (n ∷ ns) front earlier h e l =
 
 -- the kind of the first node, whose record is at 6, is not the mask's
 mask-back : (P m : ℕ) (front : List ℕ) (n : Node) (rest : List ℕ) → length front ≡ 6 → n.kind ≤ 13 → m ≡ full_mask P
-    → mask_of (front ++ (node_bytes n ++ rest)) P ≡ MaskReading.Mask m 6
+    → mask_of (front ++ (node_bytes n ++ rest)) P ≡ Ok m 6
 mask-back P m front n rest e h q =
     let file : List ℕ = front ++ (node_bytes n ++ rest) in
     let kind : u16_at file 8 ≡ n.kind = ap (λ (i : ℕ). u16_at file (i + 2)) (sym e) ∙ kind-back front rest n in

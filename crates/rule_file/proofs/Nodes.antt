@@ -18,12 +18,10 @@ use Rattle.meaning.specs.declared.Node.{Node}
 use Rattle.meaning.specs.declared.Header.{Header}
 use Rattle.meaning.specs.declared.Refusal.{Refusal}
 use Rattle.meaning.specs.declared.Refusal.TheVariants.{TrailingBytes}
-use Rattle.meaning.specs.declared.HeaderReading.TheVariants as HeaderReading
-use Rattle.meaning.specs.declared.MaskReading.TheVariants as MaskReading
-use Rattle.meaning.specs.declared.Reading.{Reading}
 use Rattle.rule_records.proofs.Records.{node-told}
 use Rattle.rule_file.specs.Reading.{blank, padded, read_of}
 use Rattle.rule_file.specs.declared.answer.Outcome.TheVariants as Outcome
+use Rattle.std.proofs.Common.{Result, Ok, Err}
 
 pub temporals-more : (ns : List Node) (n : Node) → temporals (ns ++ (n ∷ [])) ≡ temporals ns + cond (temporal n.kind) 1 0
 temporals-more [] n = omega arith
@@ -32,12 +30,12 @@ temporals-more (m ∷ ns) n = omega (arith, temporals-more ns n)
 -- ---- one step of the judgement
 
 module _ (b : List ℕ) (P m p : ℕ) (earlier : List Node) where
-  pub nodes-more : (k : ℕ) (n : Node) → reading_of b P p (length earlier) (temporals earlier) ≡ Reading.Node n
+  pub nodes-more : (k : ℕ) (n : Node) → reading_of b P p (length earlier) (temporals earlier) ≡ Ok n
       → nodes_from (suc k) b P m p earlier ≡ nodes_from k b P m (p + 2 + u16_at b p) (earlier ++ (n ∷ []))
   unfolding nodes_from
   nodes-more k n e = rw (e, nodes_from)
 
-  nodes-refused : (k : ℕ) (x : Refusal) → reading_of b P p (length earlier) (temporals earlier) ≡ Reading.Refused x → nodes_from (suc k) b P m p earlier ≡ Refused x
+  nodes-refused : (k : ℕ) (x : Refusal) → reading_of b P p (length earlier) (temporals earlier) ≡ Err x → nodes_from (suc k) b P m p earlier ≡ Refused x
   unfolding nodes_from
   nodes-refused k x e = rw (e, nodes_from)
 
@@ -50,16 +48,16 @@ module _ (b : List ℕ) (P m p : ℕ) (earlier : List Node) where
   nodes-end l = rw (le-ltb p (length b) l)
 
 module _ (b : List ℕ) where
-  pub judged-refused : (x : Refusal) → header_of b ≡ HeaderReading.Refused x → judge b ≡ Refused x
+  pub judged-refused : (x : Refusal) → header_of b ≡ Err x → judge b ≡ Refused x
   unfolding judge
   judged-refused x e = rw (e, judge)
 
-  module _ (h : Header) (e : header_of b ≡ HeaderReading.Header h) where
-    pub judged-mask-refused : (x : Refusal) → mask_of b h.signals ≡ MaskReading.Refused x → judge b ≡ Refused x
+  module _ (h : Header) (e : header_of b ≡ Ok h) where
+    pub judged-mask-refused : (x : Refusal) → mask_of b h.signals ≡ Err x → judge b ≡ Refused x
     unfolding judge body_from
     judged-mask-refused x q = rw (e, judge, q, body_from)
 
-    pub judged : (m p : ℕ) → mask_of b h.signals ≡ MaskReading.Mask m p → judge b ≡ nodes_from h.nodes b h.signals m p []
+    pub judged : (m p : ℕ) → mask_of b h.signals ≡ Ok m p → judge b ≡ nodes_from h.nodes b h.signals m p []
     unfolding judge body_from
     judged m p q = rw (e, judge, q, body_from)
 
@@ -95,14 +93,14 @@ module _ {b : List ℕ} {P m N q : ℕ} where
       }
 
   module _ {nodes : List Node} {p seen i : ℕ} (h : Progress b P m N q nodes p seen i) where
-    read_here : {r : Reading} → reading_of b P p i seen ≡ r → reading_of b P p (length h.earlier) (temporals h.earlier) ≡ r
+    read_here : {r : Result Node Refusal} → reading_of b P p i seen ≡ r → reading_of b P p (length h.earlier) (temporals h.earlier) ≡ r
     read_here e = ap₂ (λ (k s : ℕ). reading_of b P p k s) h.number (sym h.temporal-are) ∙ e
 
     left : i < N → nodes_from (suc (N - (i + 1))) b P m p h.earlier ≡ nodes_from N b P m q []
     left l = ap (λ (k : ℕ). nodes_from k b P m p h.earlier) (omega arith) ∙ h.rest
 
     -- a turn: the node n is stored at j, its record's length and whether it is temporal are counted
-    pub progress-more : (n : Node) (j size t : ℕ) → i < N → reading_of b P p i seen ≡ Reading.Node n → j ≡ i → size ≡ u16_at b p
+    pub progress-more : (n : Node) (j size t : ℕ) → i < N → reading_of b P p i seen ≡ Ok n → j ≡ i → size ≡ u16_at b p
         → t ≡ cond (temporal n.kind) 1 0 → t ≤ 1 → Progress b P m N q (set nodes j n) (p + (2 + size)) (seen + t) (i + 1)
     progress-more n j size t l e o u w z =
         let ns = h.earlier in
@@ -127,7 +125,7 @@ module _ {b : List ℕ} {P m N q : ℕ} where
         more : 64 - i ≡ suc (64 - (i + 1))
         more = omega (arith, h.room)
 
-    pub progress-refused : (x : Refusal) → i < N → reading_of b P p i seen ≡ Reading.Refused x → nodes_from N b P m q [] ≡ Refused x
+    pub progress-refused : (x : Refusal) → i < N → reading_of b P p i seen ≡ Err x → nodes_from N b P m q [] ≡ Refused x
     progress-refused x l e = sym (left l) ∙ nodes-refused b P m p h.earlier (N - (i + 1)) x (read_here e)
 
     done : N ≤ i → nodes_from 0 b P m p h.earlier ≡ nodes_from N b P m q []

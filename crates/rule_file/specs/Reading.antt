@@ -3,11 +3,12 @@ use Rattle.std.specs.Prelude.{List, ◌++◌, ℕ, ◌-◌, length, take, replic
 use Rattle.meaning.specs.RuleFiles.{Rule, Judgement, Accepted, Refused}
 use Rattle.meaning.specs.declared.Node.{Node}
 use Rattle.meaning.specs.declared.Refusal.TheVariants.{Truncated}
-use Rattle.meaning.specs.declared.HeaderReading.{HeaderReading}
-use Rattle.meaning.specs.declared.MaskReading.{MaskReading}
-use Rattle.meaning.specs.declared.Reading.{Reading}
 use Rattle.rule_file.specs.declared.answer.Read.{Read}
 use Rattle.rule_file.specs.declared.answer.Outcome.TheVariants as Outcome
+use Rattle.std.specs.Prelude.{Result}
+use Rattle.meaning.specs.declared.Header.{Header}
+use Rattle.meaning.specs.declared.Mask.{Mask}
+use Rattle.meaning.specs.declared.Refusal.{Refusal}
 
 abbrev pub blank : Node
 blank = record { kind = 0; a = 0; b = 0; upper = 0 }
@@ -25,14 +26,14 @@ read_of (Accepted rule) = record { outcome = Outcome.Accepted; signals = rule.si
 read_of (Refused x) = record { outcome = Outcome.Refused x; signals = 0; mask = 0; count = 0; nodes = replicate 64 blank }
 
 -- refusals handed on; in each the case that is no refusal does not arise
-abbrev pub handed_on_header : HeaderReading → Judgement
-handed_on_header (HeaderReading.Header h) = Refused (Truncated 0)
-handed_on_header (HeaderReading.Refused x) = Refused x
+abbrev pub handed_on_header : Result Header Refusal → Judgement
+handed_on_header (Ok h) = Refused (Truncated 0)
+handed_on_header (Err x) = Refused x
 
-abbrev pub handed_on_mask : MaskReading → Judgement
-handed_on_mask (MaskReading.Mask m p) = Refused (Truncated 0)
-handed_on_mask (MaskReading.Refused x) = Refused x
+abbrev pub handed_on_mask : Result Mask Refusal → Judgement
+handed_on_mask (Ok m p) = Refused (Truncated 0)
+handed_on_mask (Err x) = Refused x
 
-abbrev pub handed_on : Reading → Judgement
-handed_on (Reading.Node n) = Refused (Truncated 0)
-handed_on (Reading.Refused x) = Refused x
+abbrev pub handed_on : Result Node Refusal → Judgement
+handed_on (Ok n) = Refused (Truncated 0)
+handed_on (Err x) = Refused x

@@ -13,12 +13,11 @@ use Rattle.meaning.specs.declared.Node.{Node}
 use Rattle.meaning.specs.declared.Header.{Header}
 use Rattle.meaning.specs.declared.Refusal.{Refusal}
 use Rattle.meaning.specs.declared.Refusal.TheVariants.{Truncated, WrongLength, WrongSignals, WrongCount, WrongOperand, OutOfRange, EighthTemporal}
-use Rattle.meaning.specs.declared.HeaderReading.TheVariants as HeaderReading
-use Rattle.meaning.specs.declared.Reading.TheVariants as Reading
 use Rattle.rule_nodes.proofs.Shapes.{within}
 use Rattle.rule_records.specs.Frames.{framed_of}
 use Rattle.rule_records.specs.declared.Framed.TheVariants as Framed
 use Rattle.rule_records.proofs.Checks.{Cleared, cleared-append, first-refused, first-none, first-cleared, first-handed, fails_at, refusal_at}
+use Rattle.std.proofs.Common.{Ok, Err}
 
 -- the checks of the first record, and of a node's
 abbrev pub header_checks : List ℕ → List (Bool × Refusal)
@@ -82,25 +81,25 @@ module _ (b : List ℕ) where
   abbrev header_at : Header
   header_at = record { signals = get_or b 4 0; nodes = get_or b 5 0 }
 
-  pub header-framed : (r : Refusal) → framed_of b 0 ≡ Framed.Refused r → HeaderReading.Refused r ≡ header_of b
+  pub header-framed : (r : Refusal) → framed_of b 0 ≡ Framed.Refused r → Err r ≡ header_of b
   unfolding header_of
-  header-framed r e = sym (framed-refused b 0 HeaderReading.Refused (HeaderReading.Header header_at) r (drop 3 (header_checks b)) e)
+  header-framed r e = sym (framed-refused b 0 Err (Ok header_at) r (drop 3 (header_checks b)) e)
 
   pub header-clear : {l k : ℕ} → Frame b 0 l k → Cleared (header_checks b) 3
   header-clear f = f.clear (drop 3 (header_checks b))
 
-  pub header_refused : {i : ℕ} → Cleared (header_checks b) i → fails_at (header_checks b) i ≡ true → HeaderReading.Refused (refusal_at (header_checks b) i) ≡ header_of b
+  pub header_refused : {i : ℕ} → Cleared (header_checks b) i → fails_at (header_checks b) i ≡ true → Err (refusal_at (header_checks b) i) ≡ header_of b
   unfolding header_of
-  header_refused {i} h q = sym (first-refused HeaderReading.Refused (HeaderReading.Header header_at) (header_checks b) i h q)
+  header_refused {i} h q = sym (first-refused Err (Ok header_at) (header_checks b) i h q)
 
-  pub header_read : Cleared (header_checks b) 7 → (h : Header) → h.signals ≡ get_or b 4 0 → h.nodes ≡ get_or b 5 0 → HeaderReading.Header h ≡ header_of b
+  pub header_read : Cleared (header_checks b) 7 → (h : Header) → h.signals ≡ get_or b 4 0 → h.nodes ≡ get_or b 5 0 → Ok h ≡ header_of b
   unfolding header_of
-  header_read f h p q = let e : h ≡ header_at = ap₂ (λ (s n : ℕ). record { signals = s; nodes = n }) p q in ap HeaderReading.Header e ∙ sym (first-none HeaderReading.Refused (HeaderReading.Header header_at) (header_checks b) f)
+  header_read f h p q = let e : h ≡ header_at = ap₂ (λ (s n : ℕ). record { signals = s; nodes = n }) p q in ap Ok e ∙ sym (first-none Err (Ok header_at) (header_checks b) f)
 
-  pub header-few : (h : Header) → header_of b ≡ HeaderReading.Header h → (h.signals ≤ 4) × (h.nodes ≤ 64)
+  pub header-few : (h : Header) → header_of b ≡ Ok h → (h.signals ≤ 4) × (h.nodes ≤ 64)
   unfolding header_of
   header-few h e =
-      let f = first-cleared HeaderReading.Refused (HeaderReading.Header header_at) (HeaderReading.Header h) other (header_checks b) e in
+      let f = first-cleared Err (Ok header_at) (Ok h) other (header_checks b) e in
       let q = f.1 in
       let s : h.signals ≡ get_or b 4 0 = cc in
       let n : h.nodes ≡ get_or b 5 0 = cc in (
@@ -108,7 +107,7 @@ module _ (b : List ℕ) where
         omega (arith, leb-true (get_or b 5 0) 64 (and_right (leb 1 (get_or b 5 0)) _ (f.0.none 6 (omega arith)))),
       )
     where
-      other : (r : Refusal) → HeaderReading.Refused r ≡ HeaderReading.Header h → ⊥
+      other : (r : Refusal) → Err r ≡ Ok h → ⊥
       other r e = let z : ◌≡◌ {A = ℕ} 0 1 = cc in omega arith
 
 -- ---- a node's record
@@ -128,34 +127,34 @@ module _ (b : List ℕ) (P p number seen : ℕ) where
   abbrev checks : List (Bool × Refusal)
   checks = node_checks b P p number seen
 
-  pub node-framed : (r : Refusal) → framed_of b p ≡ Framed.Refused r → Reading.Refused r ≡ reading_of b P p number seen
+  pub node-framed : (r : Refusal) → framed_of b p ≡ Framed.Refused r → Err r ≡ reading_of b P p number seen
   unfolding reading_of
-  node-framed r e = sym (framed-refused b p Reading.Refused (Reading.Node (node_at b p)) r (drop 3 checks) e)
+  node-framed r e = sym (framed-refused b p Err (Ok (node_at b p)) r (drop 3 checks) e)
 
   pub node-clear : {l k : ℕ} → Frame b p l k → Cleared checks 3
   node-clear f = f.clear (drop 3 checks)
 
-  pub node-refused : {i : ℕ} → Cleared checks i → fails_at checks i ≡ true → Reading.Refused (refusal_at checks i) ≡ reading_of b P p number seen
+  pub node-refused : {i : ℕ} → Cleared checks i → fails_at checks i ≡ true → Err (refusal_at checks i) ≡ reading_of b P p number seen
   unfolding reading_of
-  node-refused {i} h q = sym (first-refused Reading.Refused (Reading.Node (node_at b p)) checks i h q)
+  node-refused {i} h q = sym (first-refused Err (Ok (node_at b p)) checks i h q)
 
-  pub node-read : Cleared checks 8 → (n : Node) → n ≡ node_at b p → Reading.Node n ≡ reading_of b P p number seen
+  pub node-read : Cleared checks 8 → (n : Node) → n ≡ node_at b p → Ok n ≡ reading_of b P p number seen
   unfolding reading_of
-  node-read f n e = ap Reading.Node e ∙ sym (first-none Reading.Refused (Reading.Node (node_at b p)) checks f)
+  node-read f n e = ap Ok e ∙ sym (first-none Err (Ok (node_at b p)) checks f)
 
   -- what a record that is read as n tells
   pub record Told (n : Node) : Type 0 where
     pub kind : n.kind ≤ 13
     pub length : u16_at b p ≤ 5
 
-  pub node-told : (n : Node) → reading_of b P p number seen ≡ Reading.Node n → Told n
+  pub node-told : (n : Node) → reading_of b P p number seen ≡ Ok n → Told n
   unfolding reading_of
   node-told n e =
-      let f = first-cleared Reading.Refused (Reading.Node (node_at b p)) (Reading.Node n) other checks e in
+      let f = first-cleared Err (Ok (node_at b p)) (Ok n) other checks e in
       let q = f.1 in
       let k : n.kind ≡ u16_at b (p + 2) = cc in
       let few : u16_at b (p + 2) ≤ 13 = leb-true (u16_at b (p + 2)) 13 (not-false _ (f.0.none 3 (omega arith))) in
       record { kind = omega arith; length = short (u16_at b (p + 2)) (u16_at b p) few (not-false _ (f.0.none 4 (omega arith))) }
     where
-      other : (r : Refusal) → Reading.Refused r ≡ Reading.Node n → ⊥
+      other : (r : Refusal) → Err r ≡ Ok n → ⊥
       other r e = let z : ◌≡◌ {A = ℕ} 0 1 = cc in omega arith

@@ -9,7 +9,6 @@ use Rattle.meaning.specs.Grammar.{Tree, Parses, Fitting}
 use Rattle.meaning.specs.RuleTexts.{size, nodes_of, rule_of, rule_bytes, rule_answer, tree_answer, output_of}
 use Rattle.meaning.specs.declared.Node.{Node}
 use Rattle.meaning.specs.declared.Refusal.TheVariants.{WrongSignals, WrongText, TooManyNodes}
-use Rattle.meaning.specs.declared.Written.{Written}
 use Rattle.grammar.specs.Reading.{tree_of, parsed_of}
 use Rattle.grammar.proofs.Texts.{parsed, parsed-fitting, parsed-outside, parses-seen}
 use Rattle.text_scan.specs.declared.Scanned.{Scanned}
@@ -21,6 +20,8 @@ use Rattle.rule_bytes.specs.WellFormed.{KindsFit}
 use Rattle.rule_bytes.proofs.Trees.{tree-kinds}
 use Rattle.rule_writer.specs.Writing.{unmasked}
 use Rattle.rule_text.specs.Writing.{Writes}
+use Rattle.std.proofs.Common.{Result}
+use Rattle.meaning.specs.declared.Refusal.{Refusal}
 
 -- ---- the pass
 
@@ -32,10 +33,10 @@ fault-of s ts r p f e = subst (λ (x : Scanned). Found s ts x) e f
 
 -- ---- the text
 
-pub too_long : (s : List ℕ) (P : ℕ) (before : List ℕ) → 1024 < length s → Writes s P before (Written.Refused (WrongText 1024)) before
+pub too_long : (s : List ℕ) (P : ℕ) (before : List ℕ) → 1024 < length s → Writes s P before (Err (WrongText 1024)) before
 too_long s P before h = record { parsed = parsed_of s; reads = parsed s; answer_is = rw (lt-ltb 1024 (length s) h); output = refl }
 
-pub outside : {s : List ℕ} {p : ℕ} (P : ℕ) (before : List ℕ) → length s ≤ 1024 → Fault s p → Writes s P before (Written.Refused (WrongText p)) before
+pub outside : {s : List ℕ} {p : ℕ} (P : ℕ) (before : List ℕ) → length s ≤ 1024 → Fault s p → Writes s P before (Err (WrongText p)) before
 outside {s} {p} P before h f = record {
   parsed = parsed_of s;
   reads = parsed s;
@@ -46,7 +47,7 @@ outside {s} {p} P before h f = record {
 pub signs-parse : {s ts : List ℕ} {n : ℕ} → Whole s ts n → Parses 6 (take n ts) (tree_of (take n ts))
 signs-parse {s} w = subst (λ (l : List ℕ). Parses 6 l (tree_of l)) (sym w.signs) (parses-seen s w.ends)
 
-pub inside : {s ts : List ℕ} {n : ℕ} (P : ℕ) (before : List ℕ) (r : Written) (after : List ℕ) → length s ≤ 1024 → Whole s ts n
+pub inside : {s ts : List ℕ} {n : ℕ} (P : ℕ) (before : List ℕ) (r : Result ℕ Refusal) (after : List ℕ) → length s ≤ 1024 → Whole s ts n
     → r ≡ tree_answer P (length before) (tree_of (take n ts)) → after ≡ output_of r (rule_bytes (rule_of P (tree_of (take n ts)))) before → Writes s P before r after
 inside {s} {ts} {n} P before r after h w a o =
     let e : parsed_of s ≡ Fitting (tree_of (take n ts)) = parsed-fitting s w.ends ∙ ap (λ (l : List ℕ). Fitting (tree_of l)) (sym w.signs) in
@@ -59,16 +60,16 @@ inside {s} {ts} {n} P before r after h w a o =
 
 -- ---- the signs
 
-pub no-signal : (P room : ℕ) (t : Tree) → P < 1 → Written.Refused WrongSignals ≡ tree_answer P room t
+pub no-signal : (P room : ℕ) (t : Tree) → P < 1 → Err WrongSignals ≡ tree_answer P room t
 unfolding tree_answer
 no-signal P room t h = rw (lt-leb 1 P h)
 
-pub five-signals : (P room : ℕ) (t : Tree) → 1 ≤ P → 4 < P → Written.Refused WrongSignals ≡ tree_answer P room t
+pub five-signals : (P room : ℕ) (t : Tree) → 1 ≤ P → 4 < P → Err WrongSignals ≡ tree_answer P room t
 unfolding tree_answer
 five-signals P room t l h = rw (le-leb 1 P l, lt-leb P 4 h)
 
 module _ (P room : ℕ) (t : Tree) (low : 1 ≤ P) (high : P ≤ 4) where
-  pub many : 64 < size t → Written.Refused TooManyNodes ≡ tree_answer P room t
+  pub many : 64 < size t → Err TooManyNodes ≡ tree_answer P room t
   unfolding tree_answer
   many h = rw (le-leb 1 P low, le-leb P 4 high, lt-ltb 64 (size t) h)
 
@@ -84,9 +85,9 @@ pub kinds-fit : (k : ℕ) (nodes : List Node) (t : Tree) → Trees.Signs t → k
 kinds-fit k nodes t g e q = rw (e, q) (tree-kinds t 0 g)
 
 -- what was written for them
-pub written : (P k : ℕ) (nodes : List Node) (t : Tree) (before : List ℕ) (r : Written) (after : List ℕ) → 1 ≤ P → P ≤ 4 → k ≤ 64 → k ≡ size t → take (size t) nodes ≡ nodes_of 0 t
+pub written : (P k : ℕ) (nodes : List Node) (t : Tree) (before : List ℕ) (r : Result ℕ Refusal) (after : List ℕ) → 1 ≤ P → P ≤ 4 → k ≤ 64 → k ≡ size t → take (size t) nodes ≡ nodes_of 0 t
     → r ≡ rule_answer (length before) (unmasked P k nodes) → after ≡ output_of (rule_answer (length before) (unmasked P k nodes)) (rule_bytes (unmasked P k nodes)) before
     → (r ≡ tree_answer P (length before) t) × (after ≡ output_of r (rule_bytes (rule_of P t)) before)
 written P k nodes t before r after low high h e q a o =
     let i = rule-is P k nodes t e q in
-    (a ∙ ap (rule_answer (length before)) i ∙ few P (length before) t low high (omega arith), o ∙ ap₂ (λ (x : Written) (y : Rule). output_of x (rule_bytes y) before) (sym a) i)
+    (a ∙ ap (rule_answer (length before)) i ∙ few P (length before) t low high (omega arith), o ∙ ap₂ (λ (x : Result ℕ Refusal) (y : Rule). output_of x (rule_bytes y) before) (sym a) i)

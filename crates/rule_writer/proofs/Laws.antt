@@ -18,7 +18,6 @@ use Rattle.meaning.specs.RuleTexts.{node, node_bytes, nodes_bytes, rule_bytes, a
 use Rattle.meaning.specs.declared.Node.{Node}
 use Rattle.meaning.specs.declared.Refusal.{Refusal}
 use Rattle.meaning.specs.declared.Refusal.TheVariants.{OutOfRange, EighthTemporal, ShortOutput}
-use Rattle.meaning.specs.declared.Written.{Written}
 use Rattle.rule_file.proofs.Nodes.{temporals-more}
 use Rattle.text_pieces.specs.Put.{Put}
 use Rattle.text_pieces.proofs.Laws.{put-more, put_is, put_front}
@@ -90,31 +89,31 @@ record-bytes n x e =
 -- ---- the answers
 
 module _ (r : Rule) (out : List ℕ) where
-  refused : (x : Refusal) → rule_answer (length out) r ≡ Written.Refused x → Wrote r out (Written.Refused x) out
+  refused : (x : Refusal) → rule_answer (length out) r ≡ Err x → Wrote r out (Err x) out
   refused x e = record { answer = sym e; output = rw e }
 
-  pub wrote-range : any_out_of_range r.signals r.nodes ≡ true → Wrote r out (Written.Refused (OutOfRange 0)) out
+  pub wrote-range : any_out_of_range r.signals r.nodes ≡ true → Wrote r out (Err (OutOfRange 0)) out
   unfolding rule_answer
   wrote-range e = refused (OutOfRange 0) (rw e)
 
   module _ (a : any_out_of_range r.signals r.nodes ≡ false) where
-    pub wrote-temporal : 7 < temporals r.nodes → Wrote r out (Written.Refused (EighthTemporal 0)) out
+    pub wrote-temporal : 7 < temporals r.nodes → Wrote r out (Err (EighthTemporal 0)) out
     unfolding rule_answer
     wrote-temporal l = refused (EighthTemporal 0) (rw (a, lt-ltb 7 (temporals r.nodes) l))
 
     module _ (few : temporals r.nodes ≤ 7) where
-      pub wrote-short : length out < 6 + length (nodes_bytes r.nodes) → Wrote r out (Written.Refused ShortOutput) out
+      pub wrote-short : length out < 6 + length (nodes_bytes r.nodes) → Wrote r out (Err ShortOutput) out
       unfolding rule_answer
       wrote-short l =
           refused ShortOutput (rw (a, le-ltb 7 (temporals r.nodes) few, lt-ltb (length out) (length (rule_bytes r)) (omega (arith, file-length r))))
 
-      pub wrote-file : (n : ℕ) (s : List ℕ) (j : ℕ) → n ≡ 6 + length (nodes_bytes r.nodes) → n ≤ length out → Put out 0 (rule_bytes r) s j → Wrote r out (Written.Rule n) s
+      pub wrote-file : (n : ℕ) (s : List ℕ) (j : ℕ) → n ≡ 6 + length (nodes_bytes r.nodes) → n ≤ length out → Put out 0 (rule_bytes r) s j → Wrote r out (Ok n) s
       unfolding rule_answer
       wrote-file n s j e l h =
-          let q : rule_answer (length out) r ≡ Written.Rule (length (rule_bytes r)) =
+          let q : rule_answer (length out) r ≡ Ok (length (rule_bytes r)) =
           rw (a, le-ltb 7 (temporals r.nodes) few, le-ltb (length out) (length (rule_bytes r)) (omega (arith, file-length r))) in
           let long : n ≡ length (rule_bytes r) = omega (arith, file-length r) in
-          record { answer = ap Written.Rule long ∙ sym q; output = rw q (put_front h (omega (arith, h.next))) }
+          record { answer = ap Ok long ∙ sym q; output = rw q (put_front h (omega (arith, h.next))) }
 
 -- the first record, and the nodes' after it
 pub file-put : (P count : ℕ) (nodes : List Node) {d s r : List ℕ} {i j : ℕ} → length (take count nodes) ≡ count → Put d 0 (4 ∷ 0 ∷ 0 ∷ 1 ∷ P ∷ count ∷ []) s i → Put s i (nodes_bytes (take count nodes)) r j

@@ -16,14 +16,11 @@ use Rattle.meaning.specs.declared.Node.{Node}
 use Rattle.meaning.specs.declared.Header.{Header}
 use Rattle.meaning.specs.declared.Refusal.{Refusal}
 use Rattle.meaning.specs.declared.Refusal.TheVariants.{WrongSignals, WrongCount, WrongOperand, OutOfRange, EighthTemporal, TrailingBytes, NoEvent}
-use Rattle.meaning.specs.declared.HeaderReading.{HeaderReading}
-use Rattle.meaning.specs.declared.HeaderReading.TheVariants as HeaderReading
-use Rattle.meaning.specs.declared.MaskReading.{MaskReading}
-use Rattle.meaning.specs.declared.MaskReading.TheVariants as MaskReading
-use Rattle.meaning.specs.declared.Reading.{Reading}
-use Rattle.meaning.specs.declared.Reading.TheVariants as Reading
 use Rattle.events.proofs.Masks.{in-mask}
 use Rattle.smallest.proofs.Judgements.{Live}
+use Rattle.std.proofs.Common.{Result, Ok, Err}
+use Rattle.meaning.specs.declared.Mask.{Mask}
+use Rattle.meaning.specs.declared.Counts.{Counts}
 
 pub record Signals (P : ℕ) : Type 0 where
   pub low : 1 ≤ P
@@ -62,7 +59,7 @@ pub record Counts (h : Header) : Type 0 where
   pub some : 1 ≤ h.nodes
   pub few : h.nodes ≤ 64
 
-pub header-counts : (b : List ℕ) (h : Header) → header_of b ≡ HeaderReading.Header h → Counts h
+pub header-counts : (b : List ℕ) (h : Header) → header_of b ≡ Ok h → Counts h
 unfolding header_of
 header-counts b h e =
     subst Counts same
@@ -72,8 +69,8 @@ header-counts b h e =
       few = leb-true (get_or b 5 0) 64 u.1;
     })
   where
-    checked : (HeaderReading.Header (record { signals = get_or b 4 0; nodes = get_or b 5 0 }) ≡ HeaderReading.Header h) × Clear (header_checks b)
-    checked = passes HeaderReading.Refused (HeaderReading.Header h) (λ r q. let z : ◌≡◌ {A = ℕ} 0 1 = cc in omega arith) (header_checks b) (HeaderReading.Header (record { signals = get_or b 4 0; nodes = get_or b 5 0 })) e
+    checked : (Ok (record { signals = get_or b 4 0; nodes = get_or b 5 0 }) ≡ Ok h) × Clear (header_checks b)
+    checked = passes Err (Ok h) (λ r q. let z : ◌≡◌ {A = ℕ} 0 1 = cc in omega arith) (header_checks b) (Ok (record { signals = get_or b 4 0; nodes = get_or b 5 0 })) e
 
     same : record { signals = get_or b 4 0; nodes = get_or b 5 0 } ≡ h
     same = cc checked.0
@@ -103,18 +100,18 @@ mask_checks b P =
     ∷ [])
 
 -- an accepted mask has an event
-mask-live : (b : List ℕ) (P m p : ℕ) → mask_of b P ≡ MaskReading.Mask m p → Live (masked (2 ^ P) m)
+mask-live : (b : List ℕ) (P m p : ℕ) → mask_of b P ≡ Ok m p → Live (masked (2 ^ P) m)
 unfolding mask_of
 mask-live b P m p e = go (eqb (u16_at b 8) 257) e
   where
-    there : first_of MaskReading.Refused (mask_checks b P) (MaskReading.Mask (u16_at b 10) 12) ≡ MaskReading.Mask m p → Live (masked (2 ^ P) m)
+    there : first_of Err (mask_checks b P) (Ok (u16_at b 10) 12) ≡ Ok m p → Live (masked (2 ^ P) m)
     there e =
-        let z = passes MaskReading.Refused (MaskReading.Mask m p) (λ r q. let z : ◌≡◌ {A = ℕ} 0 1 = cc in omega arith) (mask_checks b P) (MaskReading.Mask (u16_at b 10) 12) e in
+        let z = passes Err (Ok m p) (λ r q. let z : ◌≡◌ {A = ℕ} 0 1 = cc in omega arith) (mask_checks b P) (Ok (u16_at b 10) 12) e in
         let c = z.1.1.1.1.1.1 in
         let same : u16_at b 10 ≡ m = cc z.0 in
         subst (λ (n : ℕ). Live (masked (2 ^ P) n)) same (masked-live P (u16_at b 10) (leb-false (2 ^ 2 ^ P) (u16_at b 10) c.0) (eqb-false (u16_at b 10) 0 c.1.0))
 
-    go : (t : Bool) → cond t (first_of MaskReading.Refused (mask_checks b P) (MaskReading.Mask (u16_at b 10) 12)) (MaskReading.Mask (full_mask P) 6) ≡ MaskReading.Mask m p → Live (masked (2 ^ P) m)
+    go : (t : Bool) → cond t (first_of Err (mask_checks b P) (Ok (u16_at b 10) 12)) (Ok (full_mask P) 6) ≡ Ok m p → Live (masked (2 ^ P) m)
     go true e = there e
     go false e = let same : full_mask P ≡ m = cc e in subst (λ (n : ℕ). Live (masked (2 ^ P) n)) same (full-live P)
 
@@ -128,12 +125,12 @@ node-checks b P p number seen =
     ∷ (temporal n.kind && leb 7 seen, EighthTemporal p)
     ∷ [])
 
-node-temporal : (b : List ℕ) (P p number seen : ℕ) (n : Node) → reading_of b P p number seen ≡ Reading.Node n → seen ≤ 7 → cond (temporal n.kind) 1 0 + seen ≤ 7
+node-temporal : (b : List ℕ) (P p number seen : ℕ) (n : Node) → reading_of b P p number seen ≡ Ok n → seen ≤ 7 → cond (temporal n.kind) 1 0 + seen ≤ 7
 unfolding reading_of node-checks
 node-temporal b P p number seen n e l = go (temporal n.kind) refl
   where
-    checked : (Reading.Node (node_at b p) ≡ Reading.Node n) × Clear (node-checks b P p number seen)
-    checked = passes Reading.Refused (Reading.Node n) (λ r q. let z : ◌≡◌ {A = ℕ} 0 1 = cc in omega arith) (node-checks b P p number seen) (Reading.Node (node_at b p)) e
+    checked : (Ok (node_at b p) ≡ Ok n) × Clear (node-checks b P p number seen)
+    checked = passes Err (Ok n) (λ r q. let z : ◌≡◌ {A = ℕ} 0 1 = cc in omega arith) (node-checks b P p number seen) (Ok (node_at b p)) e
 
     same : node_at b p ≡ n
     same = cc checked.0
@@ -167,14 +164,14 @@ has-from zero b P m p earlier r e l = go (ltb p (length b)) e
         subst (Has P m (0 + length earlier)) q (record { signals = refl; mask = refl; nodes = omega arith; temporal = l })
 has-from (suc k) b P m p earlier r e l = go (reading_of b P p (length earlier) (temporals earlier)) refl (λ n. has-from k b P m (p + 2 + u16_at b p) (earlier ++ (n ∷ [])) r) e
   where
-    go : (x : Reading) → reading_of b P p (length earlier) (temporals earlier) ≡ x
+    go : (x : Result Node Refusal) → reading_of b P p (length earlier) (temporals earlier) ≡ x
         → ((n : Node) → nodes_from k b P m (p + 2 + u16_at b p) (earlier ++ (n ∷ [])) ≡ Accepted r → temporals (earlier ++ (n ∷ [])) ≤ 7 → Has P m (k + length (earlier ++ (n ∷ []))) r)
-        → elim x as (λ _. Judgement) [ Reading.Node n ↦ nodes_from k b P m (p + 2 + u16_at b p) (earlier ++ (n ∷ [])) | Reading.Refused r ↦ Refused r ] ≡ Accepted r → Has P m (suc k + length earlier) r
-    go (Reading.Node n) q ih e =
+        → elim x as (λ _. Judgement) [ Ok n ↦ nodes_from k b P m (p + 2 + u16_at b p) (earlier ++ (n ∷ [])) | Err r ↦ Refused r ] ≡ Accepted r → Has P m (suc k + length earlier) r
+    go (Ok n) q ih e =
         let h = ih n e (rw (temporals-snoc earlier n) (node-temporal b P p (length earlier) (temporals earlier) n q l)) in
         let c : k + length (earlier ++ (n ∷ [])) ≡ suc k + length earlier = (let d = length-append earlier (n ∷ []) in omega arith) in
         subst (λ (i : ℕ). Has P m i r) c h
-    go (Reading.Refused y) q ih e = let z : ◌≡◌ {A = ℕ} 0 1 = cc in absurd (omega arith)
+    go (Err y) q ih e = let z : ◌≡◌ {A = ℕ} 0 1 = cc in absurd (omega arith)
 
 pub record Formed (r : Rule) : Type 0 where
   pub signals : Signals r.signals
@@ -187,9 +184,9 @@ body-formed : (b : List ℕ) (h : Header) (r : Rule) → Counts h → body_from 
 unfolding body_from
 body-formed b h r c e = go (mask_of b h.signals) refl e
   where
-    go : (x : MaskReading) → mask_of b h.signals ≡ x
-        → elim x as (λ _. Judgement) [ MaskReading.Mask m p ↦ nodes_from h.nodes b h.signals m p [] | MaskReading.Refused r ↦ Refused r ] ≡ Accepted r → Formed r
-    go (MaskReading.Mask m p) q e =
+    go : (x : Result Mask Refusal) → mask_of b h.signals ≡ x
+        → elim x as (λ _. Judgement) [ Ok m p ↦ nodes_from h.nodes b h.signals m p [] | Err r ↦ Refused r ] ≡ Accepted r → Formed r
+    go (Ok m p) q e =
         let f = has-from h.nodes b h.signals m p [] r e (omega arith) in
         record {
           signals = subst Signals (sym f.signals) c.signals;
@@ -198,15 +195,15 @@ body-formed b h r c e = go (mask_of b h.signals) refl e
           few = omega (arith, f.nodes, c.few);
           temporal = f.temporal;
         }
-    go (MaskReading.Refused y) q e = let z : ◌≡◌ {A = ℕ} 0 1 = cc in absurd (omega arith)
+    go (Err y) q e = let z : ◌≡◌ {A = ℕ} 0 1 = cc in absurd (omega arith)
 
 pub accepted-formed : (b : List ℕ) (r : Rule) → judge b ≡ Accepted r → Formed r
 unfolding judge
 accepted-formed b r e = go (header_of b) refl e
   where
-    go : (x : HeaderReading) → header_of b ≡ x → elim x as (λ _. Judgement) [ HeaderReading.Header h ↦ body_from h.nodes b h.signals | HeaderReading.Refused r ↦ Refused r ] ≡ Accepted r → Formed r
-    go (HeaderReading.Header h) q e = body-formed b h r (header-counts b h q) e
-    go (HeaderReading.Refused y) q e = let z : ◌≡◌ {A = ℕ} 0 1 = cc in absurd (omega arith)
+    go : (x : Result Header Refusal) → header_of b ≡ x → elim x as (λ _. Judgement) [ Ok h ↦ body_from h.nodes b h.signals | Err r ↦ Refused r ] ≡ Accepted r → Formed r
+    go (Ok h) q e = body-formed b h r (header-counts b h q) e
+    go (Err y) q e = let z : ◌≡◌ {A = ℕ} 0 1 = cc in absurd (omega arith)
 
 pub accepted-signals : (b : List ℕ) (r : Rule) → judge b ≡ Accepted r → Signals r.signals
 accepted-signals b r e = (accepted-formed b r e).signals

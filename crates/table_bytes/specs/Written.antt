@@ -4,9 +4,9 @@ use Rattle.sequences.specs.Tabulate.{joined}
 use Rattle.meaning.specs.Traces.{Alphabet}
 use Rattle.meaning.specs.TableFiles.{table_length, no_successor}
 use Rattle.meaning.specs.declared.Refusal.TheVariants.{ShortOutput}
-use Rattle.meaning.specs.declared.Built.{Built}
-use Rattle.meaning.specs.declared.Built.TheVariants as Built
 use Rattle.wire.specs.Wire.{u16_bytes}
+use Rattle.std.specs.Prelude.{Result, Ok, Err}
+use Rattle.meaning.specs.declared.Refusal.{Refusal}
 
 -- "First record: kind 512, body P (one byte) and S (two bytes)"
 abbrev pub header_bytes : ℕ → ℕ → List ℕ
@@ -32,8 +32,8 @@ unfoldable pub table_bytes : Alphabet → ℕ → ℕ → List ℕ → List (Lis
 table_bytes Σ P S verdicts rows = header_bytes P S ++ rows_bytes Σ P S verdicts rows
 
 -- the answer: "output shorter than the table" is refused by 10
-abbrev pub written_of : ℕ → ℕ → List ℕ → Built
-written_of P S out = cond (leb (table_length P S) (length out)) (Built.Table (table_length P S)) (Built.Refused ShortOutput)
+abbrev pub written_of : ℕ → ℕ → List ℕ → Result ℕ Refusal
+written_of P S out = cond (leb (table_length P S) (length out)) (Ok (table_length P S)) (Err ShortOutput)
 
 -- the output then: "Output bytes past the table keep their values", and on a refusal "Lent buffers keep every byte"
 abbrev pub table_after : Alphabet → ℕ → ℕ → List ℕ → List (List ℕ) → List ℕ → List ℕ

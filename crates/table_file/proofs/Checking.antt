@@ -11,12 +11,12 @@ use Rattle.meaning.specs.Bytes.{bit}
 use Rattle.meaning.specs.Traces.{full_mask}
 use Rattle.meaning.specs.TableFiles.{header_tests, row_tests, signals_in, states_in, no_successor, successor, successor_fits, is_table, checked_of}
 use Rattle.meaning.specs.declared.Refusal.TheVariants.{WrongTable}
-use Rattle.meaning.specs.declared.Checked.TheVariants as Checked
 use Rattle.table_layout.specs.Masks.{MaskIn}
 use Rattle.table_layout.proofs.Form.{rows_fit}
 use Rattle.events.proofs.Masks.{full-bit}
 use Rattle.table_layout.proofs.Masks.{mask-possible}
 use Rattle.table_file.specs.Successors.{fits_by}
+use Rattle.std.proofs.Common.{Ok, Err}
 
 -- a successor that fits, by whether its event can happen
 pub fits-possible : (b : Bool) (S to : ℕ) → b ≡ true → ltb to S ≡ fits_by b S to
@@ -33,22 +33,22 @@ successors-full P m S to q =
 
 module _ (t : List ℕ) where
   pub checked-table : (P S : ℕ) → every (header_tests t) ≡ true → P ≡ signals_in t → S ≡ states_in t → all_below S (λ s. every (row_tests t P S s)) ≡ true
-      → Checked.Table P S ≡ checked_of t
+      → Ok P S ≡ checked_of t
   unfolding is_table
   checked-table P S h p q r =
       let e : rows_fit t ≡ true = rw (p, q) at r in
       rw (h, e, p, q)
 
   pub checked-rows : (P S : ℕ) → P ≡ signals_in t → S ≡ states_in t → all_below S (λ s. every (row_tests t P S s)) ≡ false
-      → Checked.Refused WrongTable ≡ checked_of t
+      → Err WrongTable ≡ checked_of t
   unfolding is_table
   checked-rows P S p q r = let e : rows_fit t ≡ false = rw (p, q) at r in rw e (go (every (header_tests t)))
     where
-      go : (b : Bool) → Checked.Refused WrongTable ≡ cond (b && false) (Checked.Table (signals_in t) (states_in t)) (Checked.Refused WrongTable)
+      go : (b : Bool) → Err WrongTable ≡ cond (b && false) (Ok (signals_in t) (states_in t)) (Err WrongTable)
       go true = refl
       go false = refl
 
-  pub checked-header : every (header_tests t) ≡ false → Checked.Refused WrongTable ≡ checked_of t
+  pub checked-header : every (header_tests t) ≡ false → Err WrongTable ≡ checked_of t
   unfolding is_table
   checked-header h = rw h
 

@@ -17,13 +17,11 @@ use Rattle.meaning.specs.Monitors.{Monitor, follow}
 use Rattle.meaning.specs.TableFiles.{is_table, alphabet_in, signals_in, states_in, checked_of, verdict_of, verdict_byte, successor, monitor_in, content_tests}
 use Rattle.meaning.specs.Runs.{end_of, first_bad, ran_of, run_of, counts_fit, in_table, on_table, tested, ran_in, no_row, row_of, row_read, row_in}
 use Rattle.meaning.specs.declared.Verdict.{Verdict}
-use Rattle.meaning.specs.declared.Decided.{Decided}
 use Rattle.meaning.specs.declared.Refusal.{Refusal}
 use Rattle.meaning.specs.declared.Refusal.TheVariants.{WrongEvent, WrongState, WrongTable}
-use Rattle.meaning.specs.declared.Checked.TheVariants as Checked
-use Rattle.meaning.specs.declared.Ran.{Ran}
 use Rattle.table_layout.proofs.Form.{test-event, table-counts, table-verdict, table-inside, table-content}
 use Rattle.event_lists.proofs.Laws.{all-events}
+use Rattle.std.proofs.Common.{Ok, Err, Option}
 
 -- ---- any bytes and counts
 module _ (t : List ℕ) (P S : ℕ) where
@@ -37,7 +35,7 @@ module _ (t : List ℕ) (P S : ℕ) where
   on-end s (e ∷ es) h = on-end (successor t P s e) es (both (in_table t P S s) (on_table t P S (successor t P s e) es) h).1
 
   -- the end state is one of the table's, its byte is one of the four, and the verdict is that byte's
-  pub stays : (s : ℕ) (es : List ℕ) (r : ℕ) (v : Verdict) (d : Decided) → ran_in t P S s es ≡ Ran.Ended r v d
+  pub stays : (s : ℕ) (es : List ℕ) (r : ℕ) (v : Verdict) (d : Option ℕ) → ran_in t P S s es ≡ Ok r v d
       → (r < S) × (verdict_byte t P r ≤ 3) × (v ≡ verdict_of (verdict_byte t P r))
   stays s es r v d h = go (counts_fit t P S) (ltb s S) (ltb bad (length es)) (on_table t P S s es) refl h
     where
@@ -45,7 +43,7 @@ module _ (t : List ℕ) (P S : ℕ) where
       bad = first_bad (alphabet_in t P) es
 
       go : (a b c o : Bool) → on_table t P S s es ≡ o
-          → cond a (tested o (cond b (cond c (Ran.Refused (WrongEvent bad)) (end_of m s es)) (Ran.Refused WrongState))) (Ran.Refused WrongTable) ≡ Ran.Ended r v d
+          → cond a (tested o (cond b (cond c (Err (WrongEvent bad)) (end_of m s es)) (Err WrongState))) (Err WrongTable) ≡ Ok r v d
           → (r < S) × (verdict_byte t P r ≤ 3) × (v ≡ verdict_of (verdict_byte t P r))
       go true true false true p e =
           let q : follow m s es ≡ r = cc in
@@ -80,13 +78,13 @@ module _ (t : List ℕ) where
     kept s es = go (ltb s S) (ltb (first_bad Σ es) (length es)) refl refl
       where
         go : (b c : Bool) → ltb s S ≡ b → ltb (first_bad Σ es) (length es) ≡ c
-            → tested (on_table t P S s es) (cond b (cond c (Ran.Refused (WrongEvent (first_bad Σ es))) (end_of (monitor_in t P S) s es)) (Ran.Refused WrongState))
-            ≡ cond b (cond c (Ran.Refused (WrongEvent (first_bad Σ es))) (end_of (monitor_in t P S) s es)) (Ran.Refused WrongState)
+            → tested (on_table t P S s es) (cond b (cond c (Err (WrongEvent (first_bad Σ es))) (end_of (monitor_in t P S) s es)) (Err WrongState))
+            ≡ cond b (cond c (Err (WrongEvent (first_bad Σ es))) (end_of (monitor_in t P S) s es)) (Err WrongState)
         go true true p q = refl
         go true false p q = rw (on-way s es (ltb-true s S p) (all-events Σ es (ltb-false (first_bad Σ es) (length es) q)))
         go false c p q = refl
 
-  differ : (x : Refusal) (Q R : ℕ) → Checked.Refused x ≡ Checked.Table Q R → ⊥
+  differ : (x : Refusal) (Q R : ℕ) → Err x ≡ Ok Q R → ⊥
   differ x Q R e = let z : ◌≡◌ {A = ℕ} 0 1 = cc in omega arith
 
   -- what checking found
@@ -95,27 +93,27 @@ module _ (t : List ℕ) where
     pub signals : Q ≡ signals_in t
     pub states : R ≡ states_in t
 
-  pub found : (Q R : ℕ) → checked_of t ≡ Checked.Table Q R → Found Q R
+  pub found : (Q R : ℕ) → checked_of t ≡ Ok Q R → Found Q R
   found Q R e = go (is_table t) refl e
     where
-      go : (b : Bool) → is_table t ≡ b → cond b (Checked.Table (signals_in t) (states_in t)) (Checked.Refused WrongTable) ≡ Checked.Table Q R → Found Q R
+      go : (b : Bool) → is_table t ≡ b → cond b (Ok (signals_in t) (states_in t)) (Err WrongTable) ≡ Ok Q R → Found Q R
       go true p q = record { table = p; signals = cc; states = cc }
       go false p q = absurd (differ WrongTable Q R q)
 
   module _ (s : ℕ) where
     module _ (es : List ℕ) where
-      pub run-refused : (x : Refusal) → checked_of t ≡ Checked.Refused x → Ran.Refused WrongTable ≡ run_of t s es
+      pub run-refused : (x : Refusal) → checked_of t ≡ Err x → Err WrongTable ≡ run_of t s es
       run-refused x e = go (is_table t) refl e
         where
-          go : (b : Bool) → is_table t ≡ b → cond b (Checked.Table (signals_in t) (states_in t)) (Checked.Refused WrongTable) ≡ Checked.Refused x → Ran.Refused WrongTable ≡ run_of t s es
+          go : (b : Bool) → is_table t ≡ b → cond b (Ok (signals_in t) (states_in t)) (Err WrongTable) ≡ Err x → Err WrongTable ≡ run_of t s es
           go true p q = let z : ◌≡◌ {A = ℕ} 0 1 = cc in absurd (omega arith)
           go false p q = rw p
 
-      pub run-table : (Q R : ℕ) → checked_of t ≡ Checked.Table Q R → ran_in t Q R s es ≡ run_of t s es
+      pub run-table : (Q R : ℕ) → checked_of t ≡ Ok Q R → ran_in t Q R s es ≡ run_of t s es
       run-table Q R e = let f = found Q R e in rw (f.signals, f.states, f.table, table-counts t f.table) (kept f.table s es)
 
     -- a row of checked bytes is the table's, and a refused opening, whose counts are 0, has none
-    pub row-table : (Q R : ℕ) → checked_of t ≡ Checked.Table Q R → row_in t Q R s ≡ row_read t s
+    pub row-table : (Q R : ℕ) → checked_of t ≡ Ok Q R → row_in t Q R s ≡ row_read t s
     row-table Q R e = let f = found Q R e in rw (f.signals, f.states, f.table, table-counts t f.table) (row_kept f.table)
       where
         row_kept : (h : is_table t ≡ true)
@@ -128,9 +126,9 @@ module _ (t : List ℕ) where
             go true e = rw (table-content t h s (ltb-true s (states_in t) e))
             go false e = refl
 
-    pub row-refused : (x : Refusal) → checked_of t ≡ Checked.Refused x → row_in t 0 0 s ≡ row_read t s
+    pub row-refused : (x : Refusal) → checked_of t ≡ Err x → row_in t 0 0 s ≡ row_read t s
     row-refused x e = go (is_table t) refl e
       where
-        go : (b : Bool) → is_table t ≡ b → cond b (Checked.Table (signals_in t) (states_in t)) (Checked.Refused WrongTable) ≡ Checked.Refused x → row_in t 0 0 s ≡ row_read t s
+        go : (b : Bool) → is_table t ≡ b → cond b (Ok (signals_in t) (states_in t)) (Err WrongTable) ≡ Err x → row_in t 0 0 s ≡ row_read t s
         go true p q = let z : ◌≡◌ {A = ℕ} 0 1 = cc in absurd (omega arith)
         go false p q = rw p

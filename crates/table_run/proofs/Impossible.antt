@@ -8,8 +8,7 @@ use Rattle.meaning.specs.TableFiles.{is_table}
 use Rattle.meaning.specs.Runs.{decided_from, run_of}
 use Rattle.meaning.specs.declared.Verdict.TheVariants.{Violated}
 use Rattle.meaning.specs.declared.Refusal.TheVariants.{WrongEvent}
-use Rattle.meaning.specs.declared.Decided.TheVariants.{After}
-use Rattle.meaning.specs.declared.Ran.TheVariants as Ran
+use Rattle.std.proofs.Common.{Ok, Err, Some}
 
 -- the record of a state with a verdict byte and two successors of one byte, or of 65,535
 abbrev row : ℕ → List ℕ → List ℕ → List ℕ
@@ -40,10 +39,10 @@ unfolding is_table
 tables = refl
 
 -- 12 covers the whole list, also past a decided state
-pub one-runs : run_of one 0 (0 ∷ 0 ∷ []) ≡ Ran.Ended 1 Violated (After 1)
+pub one-runs : run_of one 0 (0 ∷ 0 ∷ []) ≡ Ok 1 Violated (Some 1)
 unfolding is_table decided_from
 one-runs = refl
 
-pub one-refused : run_of one 0 (0 ∷ 0 ∷ 1 ∷ []) ≡ Ran.Refused (WrongEvent 2)
+pub one-refused : run_of one 0 (0 ∷ 0 ∷ 1 ∷ []) ≡ Err (WrongEvent 2)
 unfolding is_table
 one-refused = refl

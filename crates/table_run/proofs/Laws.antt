@@ -14,9 +14,6 @@ use Rattle.meaning.specs.Traces.{is_event}
 use Rattle.meaning.specs.TableFiles.{row_at, counts_tests, verdict_of, verdict_byte, successor, no_successor, alphabet_in, content_tests}
 use Rattle.meaning.specs.Runs.{decided_from, first_bad, counts_fit, in_table, on_table, ran_in, no_row, row_of, row_in}
 use Rattle.meaning.specs.declared.Verdict.{Verdict}
-use Rattle.meaning.specs.declared.Decided.{Decided}
-use Rattle.meaning.specs.declared.Ran.{Ran}
-use Rattle.meaning.specs.declared.Ran.TheVariants.{Ended}
 use Rattle.meaning.specs.declared.Refusal.{Refusal}
 use Rattle.meaning.specs.declared.Refusal.TheVariants.{WrongEvent, WrongState, WrongTable}
 use Rattle.event_lists.specs.Bounds.{NoneAbove}
@@ -29,6 +26,8 @@ use Rattle.table_run.specs.Tables.{admission, shown_by}
 use Rattle.table_run.specs.declared.Admission.{Admission}
 use Rattle.table_run.specs.declared.Admission.TheVariants as Adm
 use Rattle.table_run.specs.declared.Admission.TheVariants.{Granted}
+use Rattle.std.proofs.Common.{Result, Ok, Option}
+use Rattle.meaning.specs.declared.Arrival.{Arrival}
 
 -- whether an event can happen, by its successor in the row of state 0
 module _ (t : List ℕ) (P e : ℕ) where
@@ -64,11 +63,11 @@ module _ (t : List ℕ) (P S s : ℕ) where
       go true false p q e = let z : ◌≡◌ {A = ℕ} 0 1 = cc in absurd (omega arith)
       go false b p q e = let z : ◌≡◌ {A = ℕ} 0 1 = cc in absurd (omega arith)
 
-  pub refused : {r : Admission} {x : Refusal} (es : List ℕ) → r ≡ admission t P S s → r ≡ Adm.Refused x → Ran.Refused x ≡ ran_in t P S s es
+  pub refused : {r : Admission} {x : Refusal} (es : List ℕ) → r ≡ admission t P S s → r ≡ Adm.Refused x → Err x ≡ ran_in t P S s es
   refused {r} {x} es k l = go (counts_fit t P S) (ltb s S) refl refl (sym k ∙ l)
     where
       go : (a b : Bool) → counts_fit t P S ≡ a → ltb s S ≡ b → cond a (cond b Granted (Adm.Refused WrongState)) (Adm.Refused WrongTable) ≡ Adm.Refused x
-          → Ran.Refused x ≡ ran_in t P S s es
+          → Err x ≡ ran_in t P S s es
       go true true p q e = let z : ◌≡◌ {A = ℕ} 0 1 = cc in absurd (omega arith)
       go true false p q e = let y : x ≡ WrongState = cc in rw (p, q, y)
       go false b p q e = let y : x ≡ WrongTable = cc in rw (p, y)
@@ -97,10 +96,10 @@ module _ (t : List ℕ) (P S s : ℕ) where
     first : b ≡ bad
     first = q ∙ outside-bad (alphabet_in t P) es m k.bits
 
-    pub run-bad : b < length es → Ran.Refused (WrongEvent b) ≡ ran_in t P S s es
+    pub run-bad : b < length es → Err (WrongEvent b) ≡ ran_in t P S s es
     run-bad l = rw (a.fits, lt-ltb s S a.inside, first, lt-ltb bad (length es) (omega (arith, first, l)))
 
-    pub run_ends : (r : Ran) → r ≡ end_in t P S s es → length es ≤ b → r ≡ ran_in t P S s es
+    pub run_ends : (r : Result (Arrival ℕ) Refusal) → r ≡ end_in t P S s es → length es ≤ b → r ≡ ran_in t P S s es
     run_ends r h l = rw (a.fits, lt-ltb s S a.inside, le-ltb bad (length es) (omega (arith, first, l))) h
 
     -- the events are those that the rows of a run take
@@ -109,22 +108,22 @@ module _ (t : List ℕ) (P S s : ℕ) where
 
   -- and of one event
   module _ (e : ℕ) (a : Start) where
-    pub step-refused : is_event (alphabet_in t P) e ≡ false → Ran.Refused (WrongEvent 0) ≡ ran_in t P S s (e ∷ [])
+    pub step-refused : is_event (alphabet_in t P) e ≡ false → Err (WrongEvent 0) ≡ ran_in t P S s (e ∷ [])
     step-refused h = rw (a.fits, lt-ltb s S a.inside, h)
 
     module _ (h : is_event (alphabet_in t P) e ≡ true) (r : ℕ) (p : r ≡ successor t P s e) where
-      pub step-ended : (v : Verdict) (d : Decided) → in_table t P S s ≡ true → in_table t P S r ≡ true → v ≡ verdict_of (verdict_byte t P r) → d ≡ shown_by t P s r
-          → Ended r v d ≡ ran_in t P S s (e ∷ [])
+      pub step-ended : (v : Verdict) (d : Option ℕ) → in_table t P S s ≡ true → in_table t P S r ≡ true → v ≡ verdict_of (verdict_byte t P r) → d ≡ shown_by t P s r
+          → Ok r v d ≡ ran_in t P S s (e ∷ [])
       unfolding decided_from on_table
       step-ended v d i j q u =
           let k : in_table t P S (successor t P s e) ≡ true = rw p at j in
           rw (a.fits, i, k, lt-ltb s S a.inside, h, q, u, p)
 
-      pub step-off : in_table t P S s ≡ false → Ran.Refused WrongTable ≡ ran_in t P S s (e ∷ [])
+      pub step-off : in_table t P S s ≡ false → Err WrongTable ≡ ran_in t P S s (e ∷ [])
       unfolding on_table
       step-off i = rw (a.fits, i, lt-ltb s S a.inside, h)
 
-      pub step-away : in_table t P S s ≡ true → in_table t P S r ≡ false → Ran.Refused WrongTable ≡ ran_in t P S s (e ∷ [])
+      pub step-away : in_table t P S s ≡ true → in_table t P S r ≡ false → Err WrongTable ≡ ran_in t P S s (e ∷ [])
       unfolding on_table
       step-away i j =
           let k : in_table t P S (successor t P s e) ≡ false = rw p at j in

@@ -6,8 +6,9 @@ use Prim.Native.Nat.{ℕ, ◌≤◌}
 use native.Mathlib.Omega.{arith}
 use Rattle.meaning.specs.TableFiles.{signals_in, states_in, is_table, checked_of}
 use Rattle.meaning.specs.declared.Refusal.{Refusal}
-use Rattle.meaning.specs.declared.Checked.TheVariants as Checked
 use Rattle.table_layout.proofs.Form.{table-header, signals-few, states-few}
+use Rattle.std.proofs.Common.{Ok, Err}
+use Rattle.meaning.specs.declared.Counts.{Counts}
 
 -- t is a table over P signals, with S states
 pub record Counts (t : List ℕ) (P S : ℕ) : Type 0 where
@@ -18,7 +19,7 @@ pub record Counts (t : List ℕ) (P S : ℕ) : Type 0 where
   pub small : S ≤ 256
 
 module _ (t : List ℕ) where
-  pub counts_of : (P S : ℕ) → checked_of t ≡ Checked.Table P S → Counts t P S
+  pub counts_of : (P S : ℕ) → checked_of t ≡ Ok P S → Counts t P S
   counts_of P S h = go (is_table t) refl
     where
       go : (b : Bool) → is_table t ≡ b → Counts t P S
@@ -31,7 +32,7 @@ module _ (t : List ℕ) where
           record { table = e; signals = p; states = q; few = omega arith; small = omega arith }
       go false e = let f = rw e at h in let z : ◌≡◌ {A = ℕ} 0 1 = cc in absurd (omega arith)
 
-  pub no_table : (x : Refusal) → checked_of t ≡ Checked.Refused x → is_table t ≡ false
+  pub no_table : (x : Refusal) → checked_of t ≡ Err x → is_table t ≡ false
   no_table x h = go (is_table t) refl
     where
       go : (b : Bool) → is_table t ≡ b → is_table t ≡ false

@@ -12,6 +12,8 @@ use Rattle.desk_tasks.specs.declared.Request.{Request}
 use Rattle.codes.specs.Codes.{served_code, signals_of, number_of, states_of, opening_in}
 use Rattle.codes.specs.declared.Opening.{Opening}
 use Rattle.tefuji.proofs.Steps.{served-opening}
+use Rattle.std.proofs.Common.{Result}
+use Rattle.meaning.specs.declared.Refusal.{Refusal}
 
 -- the opening in a number has that number's
 number_in : (c : ℕ) → (opening_in c).number ≡ number_of c
@@ -36,7 +38,7 @@ module _ (t : List ℕ) (n : ℕ) (d : List Watch) (ask : ℕ → Request) (q : 
       ∙ ap (λ (k : ℕ). served_in t (opening_in n).signals (opening_in n).states (ask k) d) (number_in n)
       ∙ served-opening t d (ask (number_of n)) n
 
-  pub answer_is : {s : Served} {r : ℕ} → s ≡ done.answer → r ≡ served_code s → r ≡ served_code asked.answer
+  pub answer_is : {s : Result Served Refusal} {r : ℕ} → s ≡ done.answer → r ≡ served_code s → r ≡ served_code asked.answer
   answer_is e re = re ∙ ap served_code (e ∙ ap (λ (o : Outcome). o.answer) done-is)
 
   pub desk-is : {l : List Watch} → l ≡ done.desk → l ≡ asked.desk

@@ -14,10 +14,7 @@ use Rattle.meaning.specs.Desks.{refused, fresh_in, fresh_of}
 use Rattle.meaning.specs.Recordings.{judged_in, judged_of}
 use Rattle.meaning.specs.declared.Refusal.{Refusal}
 use Rattle.meaning.specs.declared.Refusal.TheVariants.{WrongTable}
-use Rattle.meaning.specs.declared.Checked.{Checked}
 use Rattle.meaning.specs.declared.State.{State}
-use Rattle.meaning.specs.declared.Arrived.{Arrived}
-use Rattle.meaning.specs.declared.Shown.TheVariants as Shown
 use Rattle.meaning.specs.declared.Watch.{Watch}
 use Rattle.table_layout.proofs.Form.{table-header, states-few}
 use Rattle.table_run.proofs.Answers.{found}
@@ -28,6 +25,9 @@ use Rattle.desk_tasks.proofs.Tables.{served-agrees, fresh-agrees}
 use Rattle.recordings.proofs.Answers.{judged-table, judged-none, judged-refused}
 use Rattle.codes.specs.declared.Opening.{Opening as Found}
 use Rattle.codes.specs.Codes.{refusal_code, state_code, state_in, opened_code, signals_of, number_of, states_of, start_code, opening_in, run_at, judge_at, fresh_at}
+use Rattle.std.proofs.Common.{Result, Err}
+use Rattle.meaning.specs.declared.Counts.{Counts}
+use Rattle.meaning.specs.declared.Arrival.{Arrival}
 
 -- ---- the parts of an opening's number
 
@@ -59,10 +59,10 @@ refused-large : 4 < signals_of (refusal_code WrongTable)
 refused-large = ltb-true 4 (signals_of (refusal_code WrongTable)) refl
 
 -- checking refuses by 14 alone
-large : (t : List ℕ) (x : Refusal) → checked_of t ≡ Checked.Refused x → 4 < signals_of (refusal_code x)
+large : (t : List ℕ) (x : Refusal) → checked_of t ≡ Err x → 4 < signals_of (refusal_code x)
 large t x k = go (is_table t) k
   where
-    go : (b : Bool) → cond b (Checked.Table (signals_in t) (states_in t)) (Checked.Refused WrongTable) ≡ Checked.Refused x → 4 < signals_of (refusal_code x)
+    go : (b : Bool) → cond b (Ok (signals_in t) (states_in t)) (Err WrongTable) ≡ Err x → 4 < signals_of (refusal_code x)
     go true q = let z : ◌≡◌ {A = ℕ} 0 1 = cc in absurd (omega arith)
     go false q =
         let e : WrongTable ≡ x = cc in
@@ -79,15 +79,15 @@ module _ {A : Type 0} (t : List ℕ) (by : ℕ → ℕ → ℕ → A) (w : A) (n
       go false h = rw h
 
   -- and the number that opening the bytes with n answers, whatever the bytes, as the opened table does
-  module _ (n : ℕ) (n-fits : n < 65536) (of : A) (wrong : (x : Refusal) → checked_of t ≡ Checked.Refused x → of ≡ w) (table : (P S : ℕ) → checked_of t ≡ Checked.Table P S → by n P S ≡ of) where
-    by-checked : (k : Checked) → checked_of t ≡ k → by (number_of (opened_code n k)) (signals_of (opened_code n k)) (states_of (opened_code n k)) ≡ of
-    by-checked (Checked.Table P S) k =
+  module _ (n : ℕ) (n-fits : n < 65536) (of : A) (wrong : (x : Refusal) → checked_of t ≡ Err x → of ≡ w) (table : (P S : ℕ) → checked_of t ≡ Ok P S → by n P S ≡ of) where
+    by-checked : (k : Result Counts Refusal) → checked_of t ≡ k → by (number_of (opened_code n k)) (signals_of (opened_code n k)) (states_of (opened_code n k)) ≡ of
+    by-checked (Ok P S) k =
         let few : S < 65536 = omega (arith, (found t P S k).states, states-few t (table-header t (found t P S k).table)) in
         ap (λ (x : ℕ). by x (signals_of (P * 2 ^ 32 + n * 65536 + S)) (states_of (P * 2 ^ 32 + n * 65536 + S))) (number-back P n S n-fits few)
         ∙ ap (λ (x : ℕ). by n x (states_of (P * 2 ^ 32 + n * 65536 + S))) (signals-back P n S n-fits few)
         ∙ ap (by n P) (states-back P n S n-fits few)
         ∙ table P S k
-    by-checked (Checked.Refused x) k =
+    by-checked (Err x) k =
         none (number_of (refusal_code x)) (signals_of (refusal_code x)) (states_of (refusal_code x)) (many-none t (refusal_code x) (large t x k)) ∙ sym (wrong x k)
 
 -- ---- the start
@@ -95,20 +95,20 @@ module _ {A : Type 0} (t : List ℕ) (by : ℕ → ℕ → ℕ → A) (w : A) (n
 -- the start of the opening that opening a table with n answered is that opening's start
 pub start-checked : (t : List ℕ) (n : ℕ) → n < 65536 → is_table t ≡ true → state_in (start_code (opened_code n (checked_of t))) ≡ start_of (opening t n)
 start-checked t n n-fits h =
-    let k : checked_of t ≡ Checked.Table (signals_in t) (states_in t) = rw h in
+    let k : checked_of t ≡ Ok (signals_in t) (states_in t) = rw h in
     let few : states_in t < 65536 = omega (arith, states-few t (table-header t h)) in
     state-back (state_of (number_of (opened_code n (checked_of t))) 0) (omega arith)
-    ∙ ap (λ (c : Checked). state_of (number_of (opened_code n c)) 0) k
+    ∙ ap (λ (c : Result Counts Refusal). state_of (number_of (opened_code n c)) 0) k
     ∙ ap (λ (x : ℕ). state_of x 0) (number-back (signals_in t) n (states_in t) n-fits few)
 
 -- ---- runs
 
 module _ (t : List ℕ) (s : State) (es : List ℕ) where
   pub run-opening : (c : ℕ) → run_from_in (opening_in c).number t (opening_in c).signals (opening_in c).states s es ≡ run_from_in (number_of c) t (signals_of c) (states_of c) s es
-  run-opening = by-opening t (λ n P S. run_from_in n t P S s es) (Arrived.Refused WrongTable) (λ n. run-from-none n t s es)
+  run-opening = by-opening t (λ n P S. run_from_in n t P S s es) (Err WrongTable) (λ n. run-from-none n t s es)
 
 -- a run over the opening in the number c and the state in q, as o and s
-pub run_is : (t : List ℕ) (c q : ℕ) (es : List ℕ) {o : Found} {s : State} {a : Arrived} → o ≡ opening_in c → s ≡ state_in q
+pub run_is : (t : List ℕ) (c q : ℕ) (es : List ℕ) {o : Found} {s : State} {a : Result (Arrival State) Refusal} → o ≡ opening_in c → s ≡ state_in q
     → a ≡ run_from_in o.number t o.signals o.states s es → a ≡ run_at t c q es
 run_is t c q es {s = s} oe se e =
     e ∙ ap (λ (k : Found). run_from_in k.number t k.signals k.states s es) oe
@@ -118,19 +118,19 @@ run_is t c q es {s = s} oe se e =
 -- with the number that opening the bytes with n answers, whatever the bytes, a run is that of the opened table, and a step one over its event
 pub run-checked : (t : List ℕ) (n : ℕ) → n < 65536 → (s : ℕ) (es : List ℕ) → run_at t (opened_code n (checked_of t)) s es ≡ run_from (opening t n) (state_in s) es
 run-checked t n n-fits s es =
-    by-checked t (λ n P S. run_from_in n t P S (state_in s) es) (Arrived.Refused WrongTable) (λ n. run-from-none n t (state_in s) es)
+    by-checked t (λ n P S. run_from_in n t P S (state_in s) es) (Err WrongTable) (λ n. run-from-none n t (state_in s) es)
     n n-fits (run_from (opening t n) (state_in s) es) (run-from-refused n t (state_in s) es) (run-from-table n t (state_in s) es) (checked_of t) refl
 
 -- ---- recordings
 
 module _ (t a b : List ℕ) where
   pub judge-opening : (c : ℕ) → judged_in t (opening_in c).signals (opening_in c).states a b ≡ judge_at t c a b
-  judge-opening = by-opening t (λ n P S. judged_in t P S a b) (Shown.Refused WrongTable) (λ n. judged-none t a b)
+  judge-opening = by-opening t (λ n P S. judged_in t P S a b) (Err WrongTable) (λ n. judged-none t a b)
 
   -- recordings are judged over the table, whatever its number
   pub judge-checked : (n : ℕ) → n < 65536 → judge_at t (opened_code n (checked_of t)) a b ≡ judged_of t a b
   judge-checked n n-fits =
-      by-checked t (λ n P S. judged_in t P S a b) (Shown.Refused WrongTable) (λ n. judged-none t a b)
+      by-checked t (λ n P S. judged_in t P S a b) (Err WrongTable) (λ n. judged-none t a b)
       n n-fits (judged_of t a b) (judged-refused t a b) (judged-table t a b) (checked_of t) refl
 
 -- ---- a desk

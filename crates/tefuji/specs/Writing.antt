@@ -1,11 +1,12 @@
 -- What writing a text's rule file answers as one number.
 use Rattle.std.specs.Prelude.{◌≡◌, List, ℕ}
-use Rattle.meaning.specs.declared.Written as meaning
 use Rattle.codes.specs.Codes.{written_code}
 use Rattle.rule_text.specs.Writing.{Writes, Right}
+use Rattle.std.specs.Prelude.{Result}
+use Rattle.meaning.specs.declared.Refusal.{Refusal}
 
 -- the number of the answer, with the output before and after
-pub record Written (text : List ℕ) (P : ℕ) (before : List ℕ) (r : ℕ) (after : List ℕ) : Type 0 where
+pub record (Result ℕ Refusal) (text : List ℕ) (P : ℕ) (before : List ℕ) (r : ℕ) (after : List ℕ) : Type 0 where
   pub answer : meaning.Written
   pub code : r ≡ written_code answer
   pub writes : Writes text P before answer after

@@ -13,14 +13,11 @@ use Rattle.meaning.specs.RuleFiles.{body_length, length_fits, temporal, temporal
 use Rattle.meaning.specs.declared.Node.{Node}
 use Rattle.meaning.specs.declared.Refusal.{Refusal}
 use Rattle.meaning.specs.declared.Refusal.TheVariants.{WrongLength, WrongOperand, OutOfRange, EighthTemporal, TrailingBytes}
-use Rattle.meaning.specs.declared.HeaderReading.{HeaderReading}
-use Rattle.meaning.specs.declared.HeaderReading.TheVariants as HeaderReading
-use Rattle.meaning.specs.declared.MaskReading.{MaskReading}
-use Rattle.meaning.specs.declared.MaskReading.TheVariants as MaskReading
-use Rattle.meaning.specs.declared.Reading.{Reading}
-use Rattle.meaning.specs.declared.Reading.TheVariants as Reading
 use Rattle.two_byte_bodies.specs.Earlier.{old_node_at, old_reading, old_nodes, old_body, old_judge}
 use Rattle.two_byte_bodies.specs.Kept.{widened, widened_judgement, ThirdByte}
+use Rattle.std.proofs.Common.{Result, Ok, Err}
+use Rattle.meaning.specs.declared.Header.{Header}
+use Rattle.meaning.specs.declared.Mask.{Mask}
 
 abbrev kind_at : List ℕ → ℕ → ℕ
 kind_at b p = u16_at b (p + 2)
@@ -76,15 +73,15 @@ later_same b P p earlier h =
 -- ---- the nodes by their checks
 
 -- a refusal, or what follows the node that was read
-abbrev after : (Node → Judgement) → Reading → Judgement
-after f x = elim x as (λ _. Judgement) [ Reading.Node n ↦ f n | Reading.Refused r ↦ Refused r ]
+abbrev after : (Node → Judgement) → Result Node Refusal → Judgement
+after f x = elim x as (λ _. Judgement) [ Ok n ↦ f n | Err r ↦ Refused r ]
 
-after_first : (f : Node → Judgement) (cs : List (Bool × Refusal)) (n : Node) → after f (first_of Reading.Refused cs (Reading.Node n)) ≡ first_of Refused cs (f n)
+after_first : (f : Node → Judgement) (cs : List (Bool × Refusal)) (n : Node) → after f (first_of Err cs (Ok n)) ≡ first_of Refused cs (f n)
 after_first f [] n = refl
 after_first f (c ∷ cs) n = go c.0 (after_first f cs n)
   where
-    go : (t : Bool) → after f (first_of Reading.Refused cs (Reading.Node n)) ≡ first_of Refused cs (f n)
-        → after f (cond t (Reading.Refused c.1) (first_of Reading.Refused cs (Reading.Node n))) ≡ cond t (Refused c.1) (first_of Refused cs (f n))
+    go : (t : Bool) → after f (first_of Err cs (Ok n)) ≡ first_of Refused cs (f n)
+        → after f (cond t (Err c.1) (first_of Err cs (Ok n))) ≡ cond t (Refused c.1) (first_of Refused cs (f n))
     go true ih = refl
     go false ih = ih
 
@@ -170,18 +167,18 @@ module _ (b : List ℕ) where
   unfolding body_from old_body
   body_alike k P = go (mask_of b P)
     where
-      go : (x : MaskReading)
-          → Alike (elim x as (λ _. Judgement) [ MaskReading.Mask m p ↦ nodes_from k b P m p [] | MaskReading.Refused r ↦ Refused r ])
-          (elim x as (λ _. Judgement) [ MaskReading.Mask m p ↦ old_nodes k b P m p [] | MaskReading.Refused r ↦ Refused r ])
-      go (MaskReading.Mask m p) = nodes-alike k P m p []
-      go (MaskReading.Refused r) = inl refl
+      go : (x : Result Mask Refusal)
+          → Alike (elim x as (λ _. Judgement) [ Ok m p ↦ nodes_from k b P m p [] | Err r ↦ Refused r ])
+          (elim x as (λ _. Judgement) [ Ok m p ↦ old_nodes k b P m p [] | Err r ↦ Refused r ])
+      go (Ok m p) = nodes-alike k P m p []
+      go (Err r) = inl refl
 
 pub readings : (file : List ℕ) → (judge file ≡ widened_judgement (old_judge file)) ⊎ ThirdByte file
 unfolding judge old_judge
 readings file = elim (go (header_of file)) [ inl q ↦ inl q | inr third ↦ inr (third refl) ]
   where
-    go : (x : HeaderReading)
-        → Alike file (elim x as (λ _. Judgement) [ HeaderReading.Header h ↦ body_from h.nodes file h.signals | HeaderReading.Refused r ↦ Refused r ])
-        (elim x as (λ _. Judgement) [ HeaderReading.Header h ↦ old_body h.nodes file h.signals | HeaderReading.Refused r ↦ Refused r ])
-    go (HeaderReading.Header h) = body_alike file h.nodes h.signals
-    go (HeaderReading.Refused r) = inl refl
+    go : (x : Result Header Refusal)
+        → Alike file (elim x as (λ _. Judgement) [ Ok h ↦ body_from h.nodes file h.signals | Err r ↦ Refused r ])
+        (elim x as (λ _. Judgement) [ Ok h ↦ old_body h.nodes file h.signals | Err r ↦ Refused r ])
+    go (Ok h) = body_alike file h.nodes h.signals
+    go (Err r) = inl refl

@@ -9,10 +9,8 @@ use Rattle.meaning.specs.RuleFiles.{Rule, rule_formula, body_length, temporal, t
 use Rattle.meaning.specs.RuleTexts.{node}
 use Rattle.meaning.specs.declared.Node.{Node}
 use Rattle.meaning.specs.declared.Refusal.TheVariants.{WrongOperand, OutOfRange, EighthTemporal, TrailingBytes}
-use Rattle.meaning.specs.declared.HeaderReading.TheVariants as HeaderReading
-use Rattle.meaning.specs.declared.MaskReading.TheVariants as MaskReading
-use Rattle.meaning.specs.declared.Reading.{Reading}
-use Rattle.meaning.specs.declared.Reading.TheVariants as Reading
+use Rattle.std.specs.Prelude.{Result, Ok, Err}
+use Rattle.meaning.specs.declared.Refusal.{Refusal}
 
 -- ---- meaning
 
@@ -45,35 +43,35 @@ old_node_at b p =
     node k (cond (leb 1 (body_length k)) (get_or b (p + 4) 0) 0) (cond (leb 2 (body_length k)) (get_or b (p + 5) 0) 0)
 
 -- the record at p: each kind had one length
-unfoldable pub old_reading : List ℕ → ℕ → ℕ → ℕ → ℕ → Reading
+unfoldable pub old_reading : List ℕ → ℕ → ℕ → ℕ → ℕ → Result Node Refusal
 old_reading b P p number seen =
     let n = old_node_at b p in
-    first_of Reading.Refused
+    first_of Err
     (frame_checks b p (leb n.kind 13) (eqb (u16_at b p) (2 + body_length n.kind))
     ++ ((not (operands_fit number n), WrongOperand p)
     ∷ (not (ranges_fit P n), OutOfRange p)
     ∷ (temporal n.kind && leb 7 seen, EighthTemporal p)
     ∷ []))
-    (Reading.Node n)
+    (Ok n)
 
 unfoldable pub old_nodes : ℕ → List ℕ → ℕ → ℕ → ℕ → List Node → Judgement
 old_nodes zero b P m p earlier = cond (ltb p (length b)) (Refused (TrailingBytes p)) (Accepted (record { signals = P; mask = m; nodes = earlier }))
 old_nodes (suc k) b P m p earlier =
     elim (old_reading b P p (length earlier) (temporals earlier)) [
-      | Reading.Node n ↦ old_nodes k b P m (p + 4 + body_length n.kind) (earlier ++ (n ∷ []))
-      | Reading.Refused r ↦ Refused r
+      | Ok n ↦ old_nodes k b P m (p + 4 + body_length n.kind) (earlier ++ (n ∷ []))
+      | Err r ↦ Refused r
     ]
 
 unfoldable pub old_body : ℕ → List ℕ → ℕ → Judgement
 old_body k b P =
     elim (mask_of b P) [
-      | MaskReading.Mask m p ↦ old_nodes k b P m p []
-      | MaskReading.Refused r ↦ Refused r
+      | Ok m ↦ old_nodes k b P m.mask m.nodes_at []
+      | Err r ↦ Refused r
     ]
 
 unfoldable pub old_judge : List ℕ → Judgement
 old_judge b =
     elim (header_of b) [
-      | HeaderReading.Header h ↦ old_body h.nodes b h.signals
-      | HeaderReading.Refused r ↦ Refused r
+      | Ok h ↦ old_body h.nodes b h.signals
+      | Err r ↦ Refused r
     ]

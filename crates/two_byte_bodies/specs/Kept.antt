@@ -5,12 +5,12 @@ use Rattle.meaning.specs.Traces.{Lasso}
 use Rattle.meaning.specs.RuleFiles.{Rule, alphabet_of, property_of, Judgement, Accepted, Refused, judge}
 use Rattle.meaning.specs.declared.Node.{Node}
 use Rattle.meaning.specs.declared.Refusal.TheVariants.{WrongLength}
-use Rattle.meaning.specs.declared.Built.{Built}
-use Rattle.meaning.specs.declared.Built.TheVariants as Built
 use Rattle.residuals.specs.System.{System}
 use Rattle.smallest.specs.Table.{table_of}
 use Rattle.building.specs.Build.{answer_to, output_of, answer_of, output_after}
 use Rattle.two_byte_bodies.specs.Earlier.{old_property, old_judge}
+use Rattle.std.specs.Prelude.{Result, Err}
+use Rattle.meaning.specs.declared.Refusal.{Refusal}
 
 -- the same node with its upper count: "Two-byte bodies stay right and mean an upper count of 4."
 abbrev pub widened : Node → Node
@@ -32,9 +32,9 @@ pub record ThirdByte (file : List ℕ) : Type 0 where
 
 -- what building answered, and left in the output: by the judgement of that time, and by any residual system of what the rule meant then
 module _ (system : (r : Rule) → System (alphabet_of r) (old_property r)) where
-  abbrev pub old_answer : Judgement → List ℕ → Built
+  abbrev pub old_answer : Judgement → List ℕ → Result ℕ Refusal
   old_answer (Accepted r) out = answer_to (table_of (system r) r.signals) out
-  old_answer (Refused x) out = Built.Refused x
+  old_answer (Refused x) out = Err x
 
   abbrev pub old_output : Judgement → List ℕ → List ℕ
   old_output (Accepted r) out = output_of (table_of (system r) r.signals) out

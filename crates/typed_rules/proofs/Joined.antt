@@ -15,8 +15,6 @@ use Rattle.meaning.specs.RuleFiles.{Rule, property_of, rule_formula, judge}
 use Rattle.meaning.specs.Grammar.{Tree}
 use Rattle.meaning.specs.RuleTexts.{tree_formula, rule_of}
 use Rattle.meaning.specs.declared.Verdict.{Verdict}
-use Rattle.meaning.specs.declared.Built.{Built}
-use Rattle.meaning.specs.declared.Written.TheVariants as Written
 use Rattle.building.specs.Build as build
 use Rattle.building.proofs.Right.{our-demands, right}
 use Rattle.grammar.proofs.Trees.{signs_of}
@@ -24,6 +22,8 @@ use Rattle.rule_bytes.proofs.Trees.{tree-formula}
 use Rattle.rule_text.specs.Writing as text
 use Rattle.rule_text.proofs.Rights as rights
 use Rattle.typed_rules.specs.Typed.{typed, TableOf, TypedTable, TypedRight}
+use Rattle.std.proofs.Common.{Result, Ok}
+use Rattle.meaning.specs.declared.Refusal.{Refusal}
 
 -- the property of the written rule is what was typed
 property-is : (P : ℕ) (t : Tree) → rule_formula (rule_of P t) ≡ tree_formula t → property_of (rule_of P t) ≡ typed t
@@ -58,13 +58,13 @@ typed-table {text} {file} {P} {t} {table} b =
 
 -- The join. Whatever the text, its file and the buffers: where the text was written as a file of n bytes, building these bytes answers and leaves what
 -- the demands say of what was typed.
-pub joined : (s : List ℕ) (P : ℕ) (before : List ℕ) (n : ℕ) (after : List ℕ) → text.Writes s P before (Written.Rule n) after
-    → (out after' : List ℕ) (b : Built) → build.Right (take n after) out after' b → TypedRight s P (take n after) (length out) after' b
-joined s P before n after w out after' (Built.Table m) h =
-    let t = rights.right s P before (Written.Rule n) after w in
+pub joined : (s : List ℕ) (P : ℕ) (before : List ℕ) (n : ℕ) (after : List ℕ) → text.Writes s P before (Ok n) after
+    → (out after' : List ℕ) (b : Result ℕ Refusal) → build.Right (take n after) out after' b → TypedRight s P (take n after) (length out) after' b
+joined s P before n after w out after' (Ok m) h =
+    let t = rights.right s P before (Ok n) after w in
     typed-table (record { fits = t.fits; reads = t.reads; built = h.built })
-joined s P before n after w out after' (Built.Refused x) h =
-    let t = rights.right s P before (Written.Rule n) after w in
+joined s P before n after w out after' (Err x) h =
+    let t = rights.right s P before (Ok n) after w in
     record {
       tree = t.tree;
       fits = t.fits;
@@ -74,6 +74,6 @@ joined s P before n after w out after' (Built.Refused x) h =
     }
 
 -- and a builder's own answer and output are right
-pub joined-built : (s : List ℕ) (P : ℕ) (before : List ℕ) (n : ℕ) (after : List ℕ) → text.Writes s P before (Written.Rule n) after
+pub joined-built : (s : List ℕ) (P : ℕ) (before : List ℕ) (n : ℕ) (after : List ℕ) → text.Writes s P before (Ok n) after
     → (out : List ℕ) → TypedRight s P (take n after) (length out) (build.output_after (judge (take n after)) out) (build.answer_of (judge (take n after)) out)
 joined-built s P before n after w out = joined s P before n after w out (build.output_after (judge (take n after)) out) (build.answer_of (judge (take n after)) out) (right (take n after) out)

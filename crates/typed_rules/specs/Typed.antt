@@ -10,10 +10,11 @@ use Rattle.meaning.specs.Grammar.{Tree, Fits}
 use Rattle.meaning.specs.RuleTexts.{tree_formula, rule_of}
 use Rattle.meaning.specs.Demands.{Reads}
 use Rattle.meaning.specs.declared.Verdict.{Verdict}
-use Rattle.meaning.specs.declared.Built.{Built}
 use Rattle.ltl.proofs.Instance.{ltl_system}
 use Rattle.smallest.specs.Builder.{Built as BuiltBy}
 use Rattle.building.specs.Build.{NoRoom}
+use Rattle.std.specs.Prelude.{Result}
+use Rattle.meaning.specs.declared.Refusal.{Refusal}
 
 -- what was typed: the traces on which its formula holds
 unfoldable pub typed : Tree → Property
@@ -49,6 +50,6 @@ pub record TypedRefused (text : List ℕ) (P : ℕ) (file : List ℕ) (room numb
   pub why : ((number ≡ 11) × MoreThan (over P) (typed tree) 256) ⊎ ((number ≡ 10) × (¬ MoreThan (over P) (typed tree) 256) × NoRoom file room)
 
 -- what building the file that was written for a text answers, given so much room, with the output after it
-abbrev pub TypedRight : List ℕ → ℕ → List ℕ → ℕ → List ℕ → Built → Type 0
-TypedRight text P file room after (Built.Table n) = TypedTable text P file (take n after)
-TypedRight text P file room after (Built.Refused r) = TypedRefused text P file room (code_of r).0
+abbrev pub TypedRight : List ℕ → ℕ → List ℕ → ℕ → List ℕ → Result ℕ Refusal → Type 0
+TypedRight text P file room after (Ok n) = TypedTable text P file (take n after)
+TypedRight text P file room after (Err r) = TypedRefused text P file room (code_of r).0

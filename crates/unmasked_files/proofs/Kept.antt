@@ -9,8 +9,6 @@ use Rattle.meaning.specs.Bytes.{bit, u16_at}
 use Rattle.meaning.specs.Traces.{full_mask}
 use Rattle.meaning.specs.RuleFiles.{Rule, alphabet_of, property_of, header_of, nodes_from, Judgement, Accepted, Refused, judge}
 use Rattle.meaning.specs.declared.Refusal.{Refusal}
-use Rattle.meaning.specs.declared.HeaderReading.{HeaderReading}
-use Rattle.meaning.specs.declared.HeaderReading.TheVariants as HeaderReading
 use Rattle.residuals.specs.System.{System}
 use Rattle.events.proofs.Masks.{full-bit}
 use Rattle.ltl.proofs.Instance.{nodes_system, ltl_system}
@@ -22,19 +20,21 @@ use Rattle.building.specs.Build.{outcome_of, answer_to, output_of, answer_of, ou
 use Rattle.unmasked_files.specs.Earlier.{old_alphabet, old_judge}
 use Rattle.unmasked_files.specs.Kept.{MaskSecond, old_answer, old_output, Kept}
 use Rattle.unmasked_files.proofs.Readings.{readings}
+use Rattle.std.proofs.Common.{Result, Ok, Err}
+use Rattle.meaning.specs.declared.Header.{Header}
 
 -- a rule that was accepted has the mask of all events
 old-mask : (file : List ℕ) (r : Rule) → old_judge file ≡ Accepted r → r.mask ≡ full_mask r.signals
 unfolding old_judge
 old-mask file r e = go (header_of file) e
   where
-    go : (x : HeaderReading)
-        → elim x as (λ _. Judgement) [ HeaderReading.Header h ↦ nodes_from h.nodes file h.signals (full_mask h.signals) 6 [] | HeaderReading.Refused r ↦ Refused r ] ≡ Accepted r
+    go : (x : Result Header Refusal)
+        → elim x as (λ _. Judgement) [ Ok h ↦ nodes_from h.nodes file h.signals (full_mask h.signals) 6 [] | Err r ↦ Refused r ] ≡ Accepted r
         → r.mask ≡ full_mask r.signals
-    go (HeaderReading.Header h) e =
+    go (Ok h) e =
         let f = has-from h.nodes file h.signals (full_mask h.signals) 6 [] r e (omega arith) in
         f.mask ∙ ap full_mask (sym f.signals)
-    go (HeaderReading.Refused y) e = let z : ◌≡◌ {A = ℕ} 0 1 = cc in absurd (omega arith)
+    go (Err y) e = let z : ◌≡◌ {A = ℕ} 0 1 = cc in absurd (omega arith)
 
 -- and by it each event can happen
 all-possible : (r : Rule) → r.mask ≡ full_mask r.signals → Alike (alphabet_of r) (old_alphabet r) (property_of r) (property_of r)

@@ -3,7 +3,7 @@
 use Rattle.std.specs.Prelude.{List, [], true, ℕ, ◌^◌}
 use Rattle.meaning.specs.Traces.{Alphabet, full_mask}
 use Rattle.meaning.specs.RuleFiles.{Rule, header_of, nodes_from, Judgement, Refused}
-use Rattle.meaning.specs.declared.HeaderReading.TheVariants as HeaderReading
+use Rattle.std.specs.Prelude.{Ok, Err}
 
 -- "An event is one byte below 2^P", and each could happen
 abbrev pub old_alphabet : Rule → Alphabet
@@ -13,6 +13,6 @@ old_alphabet r = record { width = 2 ^ r.signals; possible = λ _. true }
 unfoldable pub old_judge : List ℕ → Judgement
 old_judge b =
     elim (header_of b) [
-      | HeaderReading.Header h ↦ nodes_from h.nodes b h.signals (full_mask h.signals) 6 []
-      | HeaderReading.Refused r ↦ Refused r
+      | Ok h ↦ nodes_from h.nodes b h.signals (full_mask h.signals) 6 []
+      | Err r ↦ Refused r
     ]

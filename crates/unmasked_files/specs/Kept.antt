@@ -4,12 +4,12 @@ use Rattle.meaning.specs.Bytes.{u16_at}
 use Rattle.meaning.specs.Traces.{Event}
 use Rattle.meaning.specs.RuleFiles.{Rule, alphabet_of, property_of, Judgement, Accepted, Refused, judge}
 use Rattle.meaning.specs.declared.Refusal.TheVariants.{WrongKind}
-use Rattle.meaning.specs.declared.Built.{Built}
-use Rattle.meaning.specs.declared.Built.TheVariants as Built
 use Rattle.residuals.specs.System.{System}
 use Rattle.smallest.specs.Table.{table_of}
 use Rattle.building.specs.Build.{answer_to, output_of, answer_of, output_after}
 use Rattle.unmasked_files.specs.Earlier.{old_alphabet, old_judge}
+use Rattle.std.specs.Prelude.{Result, Err}
+use Rattle.meaning.specs.declared.Refusal.{Refusal}
 
 -- the only files with another judgement: they were refused by 3 at their second record, which has kind 257
 pub record MaskSecond (file : List ℕ) : Type 0 where
@@ -18,9 +18,9 @@ pub record MaskSecond (file : List ℕ) : Type 0 where
 
 -- what building answered, and left in the output: by the judgement of that time, and by any residual system over the events of that time
 module _ (system : (r : Rule) → System (old_alphabet r) (property_of r)) where
-  abbrev pub old_answer : Judgement → List ℕ → Built
+  abbrev pub old_answer : Judgement → List ℕ → Result ℕ Refusal
   old_answer (Accepted r) out = answer_to (table_of (system r) r.signals) out
-  old_answer (Refused x) out = Built.Refused x
+  old_answer (Refused x) out = Err x
 
   abbrev pub old_output : Judgement → List ℕ → List ℕ
   old_output (Accepted r) out = output_of (table_of (system r) r.signals) out

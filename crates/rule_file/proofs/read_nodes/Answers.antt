@@ -2,12 +2,14 @@
 use native.Mathlib.Omega.{arith}
 use mathlib.Core.Path.{sym, ap, ◌∙◌}
 use mathlib.Core.Bool.{cond}
-use Rattle.meaning.specs.declared.Reading.{Reading}
 use Rattle.rule_file.specs.Reading.{read_of, handed_on}
 use Rattle.rule_nodes.specs.declared.Shape.{Shape}
 use Rattle.rule_records.proofs.Records.{node-told}
 use Rattle.rule_file.proofs.Nodes.{progress-none, progress-more, progress-refused, progress-over, progress-accepted}
 use Rattle.rule_file.proofs.read_nodes.Goals as goal
+use Rattle.std.proofs.Common.{Result}
+use Rattle.meaning.specs.declared.Node.{Node}
+use Rattle.meaning.specs.declared.Refusal.{Refusal}
 
 pub loop-i-init : goal.loop-i-init
 loop-i-init c = progress-none c.requires.0 c.requires.1 c.requires.2 c.blanks-nodes.ensures
@@ -16,7 +18,7 @@ pub read_node-reading-requires : goal.read_node-reading-requires
 read_node-reading-requires c = omega (arith, c.loop-i.invariant.signals, c.loop-i.invariant.near, c.loop-i.invariant.within, c.loop-i.invariant.room)
 
 pub returns-in_default : goal.returns-in_default
-returns-in_default c = c.handed_on.ensures ∙ ap (λ (r : Reading). read_of (handed_on r)) c.in_default.is
+returns-in_default c = c.handed_on.ensures ∙ ap (λ (r : Result Node Refusal). read_of (handed_on r)) c.in_default.is
     ∙ sym (ap read_of (progress-refused c.loop-i.invariant _ c.loop-i-test.true (sym c.read_node-reading.ensures ∙ c.in_default.is)))
 
 pub shape_of-shape-requires-in-loop-i : goal.shape_of-shape-requires-in-loop-i

@@ -5,15 +5,15 @@ use mathlib.Core.Bool.{not}
 use lib.ListN.{get_or}
 use borrow.Author.Tests.{eq-eqb, ne_eqb}
 use Rattle.meaning.specs.Bytes.{u16_at}
-use Rattle.meaning.specs.declared.HeaderReading.TheVariants as HeaderReading
 use Rattle.rule_records.specs.Frames.{refusal_in}
 use Rattle.rule_records.proofs.Checks.{cleared_more}
 use Rattle.rule_records.proofs.Between.{between, below, above}
 use Rattle.rule_records.proofs.Records.{framed-record, header-framed, header-clear, header_refused, header_read}
 use Rattle.rule_records.proofs.read_header.Goals as goal
+use Rattle.std.proofs.Common.{Err}
 
 pub returns-in_default : goal.returns-in_default
-returns-in_default c = ap HeaderReading.Refused (c.refusal_in.ensures ∙ ap refusal_in c.in_default.is) ∙ header-framed c.args.b.now _ (sym c.frame-framed.ensures ∙ c.in_default.is)
+returns-in_default c = ap Err (c.refusal_in.ensures ∙ ap refusal_in c.in_default.is) ∙ header-framed c.args.b.now _ (sym c.frame-framed.ensures ∙ c.in_default.is)
 
 pub returns-then-kind-ne256 : goal.returns-then-kind-ne256
 returns-then-kind-ne256 c =

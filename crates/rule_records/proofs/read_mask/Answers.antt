@@ -6,18 +6,18 @@ use mathlib.Core.Bool.{not}
 use lib.Pow.{pow_pos}
 use borrow.Author.Tests.{eq-eqb, ne_eqb, le-leb, lt-leb}
 use Rattle.meaning.specs.Bytes.{u16_at}
-use Rattle.meaning.specs.declared.MaskReading.TheVariants as MaskReading
 use Rattle.rule_records.specs.Frames.{refusal_in}
 use Rattle.rule_records.proofs.Checks.{cleared_more}
 use Rattle.rule_records.proofs.Records.{framed-record}
 use Rattle.rule_records.proofs.Masks.{mask-absent, mask-framed, mask-refused, mask-read, mask-clear}
 use Rattle.rule_records.proofs.read_mask.Goals as goal
+use Rattle.std.proofs.Common.{Err}
 
 pub returns-then-u16_at-ne257 : goal.returns-then-u16_at-ne257
 returns-then-u16_at-ne257 c = mask-absent c.args.b.now c.args.signals _ (λ h. omega (arith, c.if-u16_at-ne257.true, c.u16_at.ensures)) c.full_mask-mask.ensures
 
 pub returns-in_default : goal.returns-in_default
-returns-in_default c = ap MaskReading.Refused (c.refusal_in.ensures ∙ ap refusal_in c.in_default.is) ∙ mask-framed c.args.b.now c.args.signals (omega (arith, c.if-u16_at-ne257.false, c.u16_at.ensures)) _ (sym c.frame-framed.ensures ∙ c.in_default.is)
+returns-in_default c = ap Err (c.refusal_in.ensures ∙ ap refusal_in c.in_default.is) ∙ mask-framed c.args.b.now c.args.signals (omega (arith, c.if-u16_at-ne257.false, c.u16_at.ensures)) _ (sym c.frame-framed.ensures ∙ c.in_default.is)
 
 pub returns-then-n-ne4 : goal.returns-then-n-ne4
 returns-then-n-ne4 c =

@@ -8,7 +8,6 @@ use borrow.Author.Tests.{le-leb, lt-leb}
 use Rattle.meaning.specs.Bytes.{u16_at}
 use Rattle.meaning.specs.RuleFiles.{length_fits, operands, operands_fit, ranges_fit}
 use Rattle.meaning.specs.declared.Node.{Node}
-use Rattle.meaning.specs.declared.Reading.{Reading}
 use Rattle.rule_nodes.specs.Shapes.{shape_of, node_of}
 use Rattle.rule_records.specs.Frames.{refusal_in}
 use Rattle.rule_nodes.specs.declared.Shape.{Shape}
@@ -17,7 +16,7 @@ use Rattle.rule_records.proofs.Records.{framed-record, node-framed, node-clear, 
 use Rattle.rule_records.proofs.read_node.Goals as goal
 
 pub returns-in_default : goal.returns-in_default
-returns-in_default c = ap Reading.Refused (c.refusal_in.ensures ∙ ap refusal_in c.in_default.is) ∙ node-framed c.args.b.now c.args.signals c.args.p c.args.number c.args.seen _ (sym c.frame-framed.ensures ∙ c.in_default.is)
+returns-in_default c = ap Err (c.refusal_in.ensures ∙ ap refusal_in c.in_default.is) ∙ node-framed c.args.b.now c.args.signals c.args.p c.args.number c.args.seen _ (sym c.frame-framed.ensures ∙ c.in_default.is)
 
 pub returns-then-kind-gt13 : goal.returns-then-kind-gt13
 returns-then-kind-gt13 c =
