@@ -51,7 +51,7 @@ watch_at d i = get_or d i no_watch
 
 -- An answer, and the desk after it.
 pub record Outcome : Type 0 where
-  pub answer : Result Result Served Refusal Refusal
+  pub answer : Result Served Refusal
   pub desk : List Watch
 
 -- a refusal changes nothing lent

@@ -24,7 +24,7 @@ abbrev pub begun : Opening → ℕ → ℕ → Standing
 begun o n l = record { desk = replicate n (fresh_watch o.number ((monitor_of o.table).verdict 0)); last = l }
 
 -- the number that an answer returns, and l where it returns none
-abbrev pub last_after : Result Result Served Refusal Refusal → ℕ → ℕ
+abbrev pub last_after : Result Served Refusal → ℕ → ℕ
 last_after (Ok Served.Done) l = l
 last_after (Ok (Served.Heard i e s v)) l = i
 last_after (Ok (Served.NoneWaits k)) l = k
@@ -44,7 +44,7 @@ reached o c [] = c
 reached o c (a ∷ rest) = reached o (onward o c a) rest
 
 -- the event that an action adds to tunnel i, if its answer takes it
-abbrev pub takes : ℕ → Action → Result Result Served Refusal Refusal → List ℕ
+abbrev pub takes : ℕ → Action → Result Served Refusal → List ℕ
 takes i (Post j e) (Ok Served.Done) = cond (eqb i j) (e ∷ []) []
 takes i (Post j e) (Ok (Served.Heard k x s v)) = []
 takes i (Post j e) (Ok (Served.NoneWaits k)) = []
@@ -52,7 +52,7 @@ takes i (Post j e) (Err x) = []
 takes i Turn r = []
 
 -- the event of tunnel i that an answer says was heard
-abbrev pub hears : ℕ → Result Result Served Refusal Refusal → List ℕ
+abbrev pub hears : ℕ → Result Served Refusal → List ℕ
 hears i (Ok Served.Done) = []
 hears i (Ok (Served.Heard j e s v)) = cond (eqb i j) (e ∷ []) []
 hears i (Ok (Served.NoneWaits k)) = []
