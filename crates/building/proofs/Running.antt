@@ -129,9 +129,13 @@ module _ (t : List ℕ) (form : is_table t ≡ true) where
   pub word-run : (s : ℕ) (es : List ℕ) → s < states_in t → Word (alphabet_in t (signals_in t)) es → run_of t s es ≡ end_of (monitor_of t) s es
   word-run s es l a = rw (form, lt-ltb s (states_in t) l, none-bad (alphabet_in t (signals_in t)) es a, le-ltb (length es) (length es) (omega arith))
 
+  -- where a run stands, in the state s, with its verdict
+  abbrev standing : ℕ → Option ℕ → Result (Arrival ℕ) Refusal
+  standing s d = Ok (record { state = s; verdict = (monitor_of t).verdict s; decided = d })
+
   -- stepping ends where the events lead, with the verdict of that state
   steps-end : (s : ℕ) (d : Option ℕ) (es : List ℕ) → s < states_in t → Word (alphabet_in t (signals_in t)) es
-      → (d' : Option ℕ) × (steps_from t (Ok s ((monitor_of t).verdict s) d) es ≡ Ok (follow (monitor_of t) s es) ((monitor_of t).verdict (follow (monitor_of t) s es)) d')
+      → (d' : Option ℕ) × (steps_from t (standing s d) es ≡ standing (follow (monitor_of t) s es) d')
   unfolding steps_from
   steps-end s d [] l a = (d, refl)
   steps-end s d (e ∷ es) l a =
@@ -157,6 +161,6 @@ built-steps file table b es a =
     let some = states-some table (table-header table form) in
     let word = word_same (alphabet_of b.rule) (alphabet_in table (signals_in table)) b.demand_3.events es a in
     let end = steps-end table form 0 (decided_from (monitor_of table) 0 0 []) es some word in
-    let q : steps table es ≡ Ok _ (shows (monitor_of table) es) _ = ap (λ (r : Result (Arrival ℕ) Refusal). steps_from table r es) (word-run table form 0 [] some tt) ∙ end.1 in
+    let q : steps table es ≡ standing table form (follow (monitor_of table) 0 es) end.0 = ap (λ (r : Result (Arrival ℕ) Refusal). steps_from table r es) (word-run table form 0 [] some tt) ∙ end.1 in
     subst (λ (r : Result (Arrival ℕ) Refusal). StepRight (alphabet_of b.rule) (property_of b.rule) es r) (sym q)
     ((b.demand_2.verdicts table b.built es a (shows (monitor_of table) es)).0 refl)

@@ -20,7 +20,6 @@ use Rattle.events.proofs.Masks.{in-mask}
 use Rattle.smallest.proofs.Judgements.{Live}
 use Rattle.std.proofs.Common.{Result, Ok, Err}
 use Rattle.meaning.specs.declared.Mask.{Mask}
-use Rattle.meaning.specs.declared.Counts.{Counts}
 
 pub record Signals (P : ℕ) : Type 0 where
   pub low : 1 ≤ P
@@ -54,22 +53,22 @@ header_checks b =
     ∷ [])
 
 -- what an accepted first record says
-pub record Counts (h : Header) : Type 0 where
+pub record HeaderFits (h : Header) : Type 0 where
   pub signals : Signals h.signals
   pub some : 1 ≤ h.nodes
   pub few : h.nodes ≤ 64
 
-pub header-counts : (b : List ℕ) (h : Header) → header_of b ≡ Ok h → Counts h
+pub header-counts : (b : List ℕ) (h : Header) → header_of b ≡ Ok h → HeaderFits h
 unfolding header_of
 header-counts b h e =
-    subst Counts same
+    subst HeaderFits same
     (record {
       signals = record { low = leb-true 1 (get_or b 4 0) t.0; high = leb-true (get_or b 4 0) 4 t.1 };
       some = leb-true 1 (get_or b 5 0) u.0;
       few = leb-true (get_or b 5 0) 64 u.1;
     })
   where
-    checked : (Ok (record { signals = get_or b 4 0; nodes = get_or b 5 0 }) ≡ Ok h) × Clear (header_checks b)
+    checked : (◌≡◌ {A = Result Header Refusal} (Ok (record { signals = get_or b 4 0; nodes = get_or b 5 0 })) (Ok h)) × Clear (header_checks b)
     checked = passes Err (Ok h) (λ r q. let z : ◌≡◌ {A = ℕ} 0 1 = cc in omega arith) (header_checks b) (Ok (record { signals = get_or b 4 0; nodes = get_or b 5 0 })) e
 
     same : record { signals = get_or b 4 0; nodes = get_or b 5 0 } ≡ h
@@ -100,20 +99,25 @@ mask_checks b P =
     ∷ [])
 
 -- an accepted mask has an event
-mask-live : (b : List ℕ) (P m p : ℕ) → mask_of b P ≡ Ok m p → Live (masked (2 ^ P) m)
+mask-live : (b : List ℕ) (P : ℕ) (m : Mask) → mask_of b P ≡ Ok m → Live (masked (2 ^ P) m.mask)
 unfolding mask_of
-mask-live b P m p e = go (eqb (u16_at b 8) 257) e
+mask-live b P m e = go (eqb (u16_at b 8) 257) e
   where
-    there : first_of Err (mask_checks b P) (Ok (u16_at b 10) 12) ≡ Ok m p → Live (masked (2 ^ P) m)
-    there e =
-        let z = passes Err (Ok m p) (λ r q. let z : ◌≡◌ {A = ℕ} 0 1 = cc in omega arith) (mask_checks b P) (Ok (u16_at b 10) 12) e in
-        let c = z.1.1.1.1.1.1 in
-        let same : u16_at b 10 ≡ m = cc z.0 in
-        subst (λ (n : ℕ). Live (masked (2 ^ P) n)) same (masked-live P (u16_at b 10) (leb-false (2 ^ 2 ^ P) (u16_at b 10) c.0) (eqb-false (u16_at b 10) 0 c.1.0))
+    second : Mask
+    second = record { mask = u16_at b 10; nodes_at = 12 }
 
-    go : (t : Bool) → cond t (first_of Err (mask_checks b P) (Ok (u16_at b 10) 12)) (Ok (full_mask P) 6) ≡ Ok m p → Live (masked (2 ^ P) m)
+    there : first_of Err (mask_checks b P) (Ok second) ≡ Ok m → Live (masked (2 ^ P) m.mask)
+    there e =
+        let z = passes {A = Result Mask Refusal} Err (Ok m) (λ r q. let z : ◌≡◌ {A = ℕ} 0 1 = cc in omega arith) (mask_checks b P) (Ok second) e in
+        let c = z.1.1.1.1.1.1 in
+        let same : second ≡ m = cc z.0 in
+        subst (λ (n : Mask). Live (masked (2 ^ P) n.mask)) same (masked-live P (u16_at b 10) (leb-false (2 ^ 2 ^ P) (u16_at b 10) c.0) (eqb-false (u16_at b 10) 0 c.1.0))
+
+    go : (t : Bool) → cond t (first_of Err (mask_checks b P) (Ok second)) (Ok (record { mask = full_mask P; nodes_at = 6 })) ≡ Ok m → Live (masked (2 ^ P) m.mask)
     go true e = there e
-    go false e = let same : full_mask P ≡ m = cc e in subst (λ (n : ℕ). Live (masked (2 ^ P) n)) same (full-live P)
+    go false e =
+        let same : record { mask = full_mask P; nodes_at = 6 } ≡ m = cc e in
+        subst (λ (n : Mask). Live (masked (2 ^ P) n.mask)) same (full-live P)
 
 -- a node that is read is no eighth temporal one
 node-checks : (b : List ℕ) (P p number seen : ℕ) → List (Bool × Refusal)
@@ -129,7 +133,7 @@ node-temporal : (b : List ℕ) (P p number seen : ℕ) (n : Node) → reading_of
 unfolding reading_of node-checks
 node-temporal b P p number seen n e l = go (temporal n.kind) refl
   where
-    checked : (Ok (node_at b p) ≡ Ok n) × Clear (node-checks b P p number seen)
+    checked : (◌≡◌ {A = Result Node Refusal} (Ok (node_at b p)) (Ok n)) × Clear (node-checks b P p number seen)
     checked = passes Err (Ok n) (λ r q. let z : ◌≡◌ {A = ℕ} 0 1 = cc in omega arith) (node-checks b P p number seen) (Ok (node_at b p)) e
 
     same : node_at b p ≡ n
@@ -180,17 +184,17 @@ pub record Formed (r : Rule) : Type 0 where
   pub few : length r.nodes ≤ 64
   pub temporal : temporals r.nodes ≤ 7
 
-body-formed : (b : List ℕ) (h : Header) (r : Rule) → Counts h → body_from h.nodes b h.signals ≡ Accepted r → Formed r
+body-formed : (b : List ℕ) (h : Header) (r : Rule) → HeaderFits h → body_from h.nodes b h.signals ≡ Accepted r → Formed r
 unfolding body_from
 body-formed b h r c e = go (mask_of b h.signals) refl e
   where
     go : (x : Result Mask Refusal) → mask_of b h.signals ≡ x
-        → elim x as (λ _. Judgement) [ Ok m p ↦ nodes_from h.nodes b h.signals m p [] | Err r ↦ Refused r ] ≡ Accepted r → Formed r
-    go (Ok m p) q e =
-        let f = has-from h.nodes b h.signals m p [] r e (omega arith) in
+        → elim x as (λ _. Judgement) [ Ok m ↦ nodes_from h.nodes b h.signals m.mask m.nodes_at [] | Err r ↦ Refused r ] ≡ Accepted r → Formed r
+    go (Ok m) q e =
+        let f = has-from h.nodes b h.signals m.mask m.nodes_at [] r e (omega arith) in
         record {
           signals = subst Signals (sym f.signals) c.signals;
-          live = subst₂ (λ (P n : ℕ). Live (masked (2 ^ P) n)) (sym f.signals) (sym f.mask) (mask-live b h.signals m p q);
+          live = subst₂ (λ (P n : ℕ). Live (masked (2 ^ P) n)) (sym f.signals) (sym f.mask) (mask-live b h.signals m q);
           some = omega (arith, f.nodes, c.some);
           few = omega (arith, f.nodes, c.few);
           temporal = f.temporal;
