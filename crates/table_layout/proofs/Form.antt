@@ -2,7 +2,7 @@
 use mathlib.Core.Path.{◌≡◌, refl}
 use mathlib.Core.List.{List, ◌∷◌}
 use mathlib.Core.Bool.{Bool, true, false, cond, ◌&&◌}
-use Prim.Native.Nat.{ℕ, zero, suc, ◌+◌, ◌^◌, ◌≤◌, ◌<◌}
+use Prim.Native.Nat.{ℕ, ◌+◌, ◌^◌, ◌≤◌, ◌<◌}
 use native.Mathlib.Nat.{mul-le-mul_right}
 use native.Mathlib.Omega.{arith}
 use lib.ListN.{length}
@@ -14,16 +14,8 @@ use Rattle.sequences.proofs.Loops.{all-at}
 use Rattle.sequences.proofs.Pointwise.{is_true}
 use Rattle.meaning.specs.Bytes.{u16_at}
 use Rattle.meaning.specs.Traces.{Alphabet, Event, is_event}
-use Rattle.meaning.specs.TableFiles.{row_length, row_at, table_length, counts_tests, content_tests, header_tests, row_tests, signals_in, states_in, verdict_byte, successor, alphabet_in, successor_fits, event_left, is_table, verdict_of}
+use Rattle.meaning.specs.TableFiles.{row_length, row_at, table_length, counts_tests, content_tests, header_tests, row_tests, signals_in, states_in, verdict_byte, successor, alphabet_in, successor_fits, event_left, is_table}
 use Rattle.meaning.specs.Runs.{counts_fit}
-use Rattle.meaning.specs.declared.Verdict.TheVariants.{Undecided}
-
-pub verdict-else : (v : ℕ) → (v ≡ 1 → ⊥) → (v ≡ 2 → ⊥) → (v ≡ 3 → ⊥) → Undecided ≡ verdict_of v
-verdict-else zero a b c = refl
-verdict-else (suc zero) a b c = absurd (a refl)
-verdict-else (suc (suc zero)) a b c = absurd (b refl)
-verdict-else (suc (suc (suc zero))) a b c = absurd (c refl)
-verdict-else (suc (suc (suc (suc v)))) a b c = refl
 
 never : {A : Type 0} → false ≡ true → A
 never q = let z : ◌≡◌ {A = ℕ} 0 1 = cc in absurd (omega arith)

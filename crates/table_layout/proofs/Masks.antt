@@ -1,5 +1,5 @@
 -- Masks of events.
---     marked-none, -more, -to      where a loop that makes a mask begins, after a turn, at the end
+--     marked_more                  a loop that makes a mask, after a turn
 --     mask-in, mask_full           the mask of a table's events; where every event can happen
 --     mask-possible                which events it has
 --     no-event, some-event         it is 0 exactly if no event is left
@@ -28,9 +28,6 @@ use Rattle.table_layout.proofs.Form.{test-event}
 
 -- ---- a mask, bit by bit
 
-pub marked-none : {f : ℕ → Bool} → Marked 0 f 0
-marked-none = record { small = omega arith; bits = λ i l. absurd (omega (arith, l)) }
-
 -- a turn: bit n is added where the test holds
 pub marked_more : {n m r : ℕ} {f : ℕ → Bool} (b : Bool) → Marked n f m → b ≡ f n → r ≡ m + cond b (2 ^ n) 0 → Marked (n + 1) f r
 marked_more {n} {m} {r} {f} b h q e = record { small = go b e; bits = λ i l. at b q e i (dec_lt i n) l }
@@ -44,10 +41,6 @@ marked_more {n} {m} {r} {f} b h q e = record { small = go b e; bits = λ i l. at
     at true u p i (no g) l = let z : i ≡ n = omega arith in rw (p, z, bit-here n m h.small) u
     at false u p i (yes g) l = let z : r ≡ m = omega arith in rw z (h.bits i g)
     at false u p i (no g) l = let z : i ≡ n = omega arith in let y : r ≡ m = omega arith in rw (y, z, off-above n m n h.small (omega arith)) u
-
--- the end
-pub marked-to : {n m : ℕ} {f : ℕ → Bool} (k : ℕ) → Marked n f m → n ≡ k → Marked k f m
-marked-to {n} {m} {f} k h q = subst (λ (x : ℕ). Marked x f m) q h
 
 -- where the test holds everywhere
 marked-full : (n : ℕ) (f : ℕ → Bool) → ((i : ℕ) → i < n → f i ≡ true) → Marked n f (2 ^ n - 1)

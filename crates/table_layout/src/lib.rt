@@ -10,33 +10,21 @@ ghost use Rattle.table_layout.specs.Masks.{Marked, MaskIn};
 
 use events::{full_mask, width};
 use meaning::Verdict;
-use wire::{byte_at, u16_at, wide, wide16};
+use wire::{byte_at, u16_at};
 
 // The place of a state's record, which for the number of states is the table's length.
 pub fn row_at(signals: u8, state: u16) -> usize
     requires { signals ≤ 4 }
     ensures { (result ≡ row_at signals state) × (result < 4194304) }
 {
-    7 + wide16(state) * (5 + 2 * width(signals))
+    7 + usize::from(state) * (5 + 2 * width(signals))
 }
 
 // Whether the counts are a table's, and the bytes as many as that table has.
 pub fn counts_fit(t: &[u8], signals: u8, states: u16) -> bool
     ensures { result ≡ counts_fit t.now signals states }
 {
-    if signals < 1 {
-        return false;
-    }
-    if 4 < signals {
-        return false;
-    }
-    if states < 1 {
-        return false;
-    }
-    if 256 < states {
-        return false;
-    }
-    t.len() == row_at(signals, states)
+    (1..=4).contains(&signals) && (1..=256).contains(&states) && t.len() == row_at(signals, states)
 }
 
 // The verdict of a state. Past the bytes it is undecided.
@@ -44,8 +32,7 @@ pub fn verdict_at(t: &[u8], signals: u8, state: u16) -> Verdict
     requires { signals ≤ 4 }
     ensures { result ≡ verdict_of (verdict_byte t.now signals state) }
 {
-    let v = byte_at(t, row_at(signals, state) + 4);
-    match v {
+    match byte_at(t, row_at(signals, state) + 4) {
         1 => Verdict::Satisfied,
         2 => Verdict::Violated,
         3 => Verdict::Moot,
@@ -58,23 +45,17 @@ pub fn successor_at(t: &[u8], signals: u8, state: u16, event: u8) -> u16
     requires { signals ≤ 4 }
     ensures { result ≡ successor t.now signals state event }
 {
-    u16_at(t, row_at(signals, state) + 5 + 2 * wide(event))
+    u16_at(t, row_at(signals, state) + 5 + 2 * usize::from(event))
 }
 
 // ---- the successors of a row, within the bytes
-
-fn half(x: u8) -> u16
-    ensures { (result ≡ x) × (result < 256) }
-{
-    x as u16
-}
 
 // The number in two bytes that are there.
 pub fn two_at(t: &[u8], i: usize) -> u16
     requires { i + 2 ≤ length t.now }
     ensures { result ≡ u16_at t.now i }
 {
-    half(t[i]) + 256 * half(t[i + 1])
+    u16::from_le_bytes([t[i], t[i + 1]])
 }
 
 // Whether all the successors from a place on, so many, are below a number.
@@ -82,41 +63,26 @@ pub fn all_below(t: &[u8], at: usize, events: usize, bound: u16) -> bool
     requires { (at < 4194400) × (events ≤ 16) × (at + 2 * events ≤ length t.now) }
     ensures { result ≡ all_below events (λ e. ltb (u16_at t.now (at + 2 * e)) bound) }
 {
-    let mut e: usize = 0;
-    while e < events {
-        let to = two_at(t, at + 2 * e);
-        if bound <= to {
+    for e in 0..events {
+        if bound <= two_at(t, at + 2 * e) {
             return false;
         }
-        e += 1;
     }
     true
 }
 
 // ---- the events that can happen
 
-// A mask of events below one, with that one where it can happen.
-fn with_event(mask: u16, event: usize, possible: bool) -> u16
-    requires { (event < 16) × (mask < 2 ^ event) }
-    ensures { result ≡ mask + cond possible (2 ^ event) 0 }
-{
-    if possible {
-        return mask + (1 << event);
-    }
-    mask
-}
-
 // The mask of the events whose successor, from a place on, is not 65,535.
 fn mask_at(t: &[u8], at: usize, events: usize) -> u16
     requires { (at < 4194400) × (events ≤ 16) × (at + 2 * events ≤ length t.now) }
     ensures { Marked events (λ e. not (eqb (u16_at t.now (at + 2 * e)) no_successor)) result }
 {
-    let mut mask: u16 = 0;
-    let mut e: usize = 0;
-    while e < events {
-        let possible = two_at(t, at + 2 * e) != 65535;
-        mask = with_event(mask, e, possible);
-        e += 1;
+    let mut mask = 0;
+    for e in 0..events {
+        if two_at(t, at + 2 * e) != 65535 {
+            mask += 1 << e;
+        }
     }
     mask
 }
@@ -129,7 +95,8 @@ pub fn possible_mask(t: &[u8], signals: u8) -> u16
     let at = row_at(signals, 0) + 5;
     let events = width(signals);
     if all_below(t, at, events, 65535) {
-        return full_mask(signals);
+        full_mask(signals)
+    } else {
+        mask_at(t, at, events)
     }
-    mask_at(t, at, events)
 }

@@ -1,7 +1,7 @@
 -- `table_layout::mask_at` meets its contract.
 use mathlib.Core.List.{List}
 use mathlib.Core.Bool.{Bool, not}
-use Prim.Native.Nat.{ℕ, ◌+◌, ◌-◌, ◌*◌, ◌≤◌}
+use Prim.Native.Nat.{ℕ, ◌+◌, ◌*◌}
 use lib.Dec.{eqb}
 use Rattle.meaning.specs.Bytes.{u16_at}
 use Rattle.meaning.specs.TableFiles.{no_successor}
@@ -12,7 +12,4 @@ abbrev possible_at : List ℕ → ℕ → ℕ → Bool
 possible_at t at e = not (eqb (u16_at t (at + 2 * e)) no_successor)
 
 abbrev pub invariant-loop-e : goal.invariant-loop-e
-invariant-loop-e l = (l.e ≤ l.events) × Marked l.e (possible_at l.t l.at) l.mask
-
-abbrev pub decreases-loop-e : goal.decreases-loop-e
-decreases-loop-e l = l.events - l.e
+invariant-loop-e l = Marked l.e (possible_at l.t l.at) l.mask
