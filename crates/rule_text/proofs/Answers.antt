@@ -11,9 +11,7 @@ use Rattle.meaning.specs.declared.Node.{Node}
 use Rattle.meaning.specs.declared.Refusal.TheVariants.{WrongSignals, WrongText, TooManyNodes}
 use Rattle.grammar.specs.Reading.{tree_of, parsed_of}
 use Rattle.grammar.proofs.Texts.{parsed, parsed-fitting, parsed-outside, parses-seen}
-use Rattle.text_scan.specs.declared.Scanned.{Scanned}
-use Rattle.text_scan.specs.declared.Scanned.TheVariants.{Signs}
-use Rattle.text_scan.specs.Modes.{Whole, Fault, Found}
+use Rattle.text_scan.specs.Modes.{Whole, Fault}
 use Rattle.meaning.specs.RuleFiles.{Rule}
 use Rattle.grammar.specs.Signs as Trees
 use Rattle.rule_bytes.specs.WellFormed.{KindsFit}
@@ -22,14 +20,6 @@ use Rattle.rule_writer.specs.Writing.{unmasked}
 use Rattle.rule_text.specs.Writing.{Writes}
 use Rattle.std.proofs.Common.{Result}
 use Rattle.meaning.specs.declared.Refusal.{Refusal}
-
--- ---- the pass
-
-pub whole_of : (s ts : List ℕ) (r : Scanned) (n : ℕ) → Found s ts r → r ≡ Signs n → Whole s ts n
-whole_of s ts r n f e = subst (λ (x : Scanned). Found s ts x) e f
-
-pub fault-of : (s ts : List ℕ) (r : Scanned) (p : ℕ) → Found s ts r → r ≡ Scanned.Outside p → Fault s p
-fault-of s ts r p f e = subst (λ (x : Scanned). Found s ts x) e f
 
 -- ---- the text
 

@@ -9,7 +9,7 @@ ghost use Rattle.rule_text.specs.Writing.{written_answer, written_after, Writes,
 
 use meaning::{Refusal, Written};
 use rule_writer::write_nodes;
-use text_scan::{Scanned, scan};
+use text_scan::scan;
 
 // Writes the rule of signs that are an expression.
 fn write_signs(signs: &[u8], signals: u8, rule: &mut [u8]) -> Written
@@ -52,9 +52,8 @@ pub fn write(text: &[u8], signals: u8, rule: &mut [u8]) -> Written
         return Written::Refused(Refusal::WrongText(1024));
     }
     let mut signs = room();
-    let scanned = scan(text, &mut signs);
-    match scanned {
-        Scanned::Outside(place) => Written::Refused(Refusal::WrongText(place)),
-        Scanned::Signs(n) => write_signs(&signs[..n], signals, rule),
+    match scan(text, &mut signs) {
+        Err(place) => Written::Refused(Refusal::WrongText(place)),
+        Ok(n) => write_signs(&signs[..n], signals, rule),
     }
 }

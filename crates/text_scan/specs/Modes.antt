@@ -1,37 +1,38 @@
--- The machine's states as numbers, and what a pass over a text has found.
-use Rattle.std.specs.Prelude.{◌≡◌, true, false, cond, List, [], ◌∷◌, ◌++◌, ℕ, ◌+◌, ◌≤◌, length, take, drop, get_or, eqb}
+-- The machine's states as the code has them, and what a pass over a text has found.
+use Rattle.std.specs.Prelude.{◌≡◌, true, false, List, [], ◌∷◌, ◌++◌, ℕ, ◌+◌, ◌≤◌, length, take, drop, Option, Some, None, Result, Ok, Err}
 use Rattle.grammar.specs.Machine.{State, operand, operator, digit, within, dead, Move, run, seen, passed}
-use Rattle.text_scan.specs.declared.Step.{Step}
 use Rattle.grammar.specs.Reading.{is_end}
-use Rattle.text_scan.specs.declared.Scanned.{Scanned}
-use Rattle.text_scan.specs.declared.Scanned.TheVariants.{Signs, Outside}
+use Rattle.text_scan.specs.declared.Mode.{Mode}
+use Rattle.text_scan.specs.declared.Mode.TheVariants.{Operand, Operator, Digit, Rue, Ue, E, Alse, Lse, Se, Greater, DashGreater}
+use Rattle.text_scan.specs.declared.Step.{Step}
 
--- 0 operand, 1 operator, 2 digit, 3 to 5 rue, ue, e, 6 to 8 alse, lse, se, 9 > and 10 ->; 11 lost
-abbrev pub states : ℕ → List State
-states d =
-    operand d ∷ operator d ∷ digit d
-    ∷ within 114 (117 ∷ 101 ∷ []) (operator d) ∷ within 117 (101 ∷ []) (operator d) ∷ within 101 [] (operator d)
-    ∷ within 97 (108 ∷ 115 ∷ 101 ∷ []) (operator d) ∷ within 108 (115 ∷ 101 ∷ []) (operator d) ∷ within 115 (101 ∷ []) (operator d)
-    ∷ within 62 [] (operand d) ∷ within 45 (62 ∷ []) (operand d) ∷ []
+abbrev pub state_of : Mode → ℕ → State
+state_of Operand d = operand d
+state_of Operator d = operator d
+state_of Digit d = digit d
+state_of Rue d = within 114 (117 ∷ 101 ∷ []) (operator d)
+state_of Ue d = within 117 (101 ∷ []) (operator d)
+state_of E d = within 101 [] (operator d)
+state_of Alse d = within 97 (108 ∷ 115 ∷ 101 ∷ []) (operator d)
+state_of Lse d = within 108 (115 ∷ 101 ∷ []) (operator d)
+state_of Se d = within 115 (101 ∷ []) (operator d)
+state_of Greater d = within 62 [] (operand d)
+state_of DashGreater d = within 45 (62 ∷ []) (operand d)
 
-abbrev pub state_of : ℕ → ℕ → State
-state_of m d = get_or (states d) m dead
-
--- 255 for none
-abbrev pub sign_if : ℕ → List ℕ
-sign_if x = cond (eqb x 255) [] (x ∷ [])
+abbrev pub sign_of : Option ℕ → List ℕ
+sign_of None = []
+sign_of (Some x) = x ∷ []
 
 abbrev pub move_of : Step → Move
-move_of r = record { state = state_of r.0 r.1; sign = sign_if r.2 }
+move_of r = record { state = state_of r.0 r.1; sign = sign_of r.2 }
 
 -- the move m, as the code says it, from a depth
-pub record Moves (m : Move) (d : ℕ) (r : Step) : Type 0 where
-  pub is : m ≡ move_of r
-  pub known : r.0 ≤ 11
-  pub near : r.1 ≤ d + 1
+abbrev pub Moves : Move → ℕ → Option Step → Type 0
+Moves m d None = m.state ≡ dead
+Moves m d (Some r) = (m ≡ move_of r) × (r.1 ≤ d + 1)
 
 -- the pass has come to i, in the state mode and deep, and has seen the signs found
-pub record Scanning (s : List ℕ) (i mode deep : ℕ) (found : List ℕ) : Type 0 where
+pub record Scanning (s : List ℕ) (i : ℕ) (mode : Mode) (deep : ℕ) (found : List ℕ) : Type 0 where
   pub runs : run (operand 0) s ≡ run (state_of mode deep) (drop i s)
   pub sees : seen (operand 0) s ≡ found ++ seen (state_of mode deep) (drop i s)
   pub far : passed (operand 0) s ≡ i + passed (state_of mode deep) (drop i s)
@@ -48,6 +49,6 @@ pub record Fault (s : List ℕ) (p : ℕ) : Type 0 where
   pub place : p ≡ passed (operand 0) s
 
 -- what the pass over s finds
-abbrev pub Found : List ℕ → List ℕ → Scanned → Type 0
-Found s ts (Signs n) = Whole s ts n
-Found s ts (Outside p) = Fault s p
+abbrev pub Found : List ℕ → List ℕ → Result ℕ ℕ → Type 0
+Found s ts (Ok n) = Whole s ts n
+Found s ts (Err p) = Fault s p

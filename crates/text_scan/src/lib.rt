@@ -5,135 +5,140 @@ ghost use Rattle.std.specs.Prelude.{◌≡◌, ℕ, ◌+◌, ◌≤◌, ◌<◌,
 ghost use Rattle.grammar.specs.Machine.{operand, operator, digit, lost, step};
 ghost use Rattle.text_scan.specs.Modes.{state_of, Moves, Found};
 
-// What the machine awaits after a byte (specs/Modes), its depth of brackets, and the sign that the byte begins or ends, 255 for none.
+// What the machine awaits: an operand, an operator, a signal's digit, or the rest of a sign that has begun.
 #[derive(Clone, Copy)]
-struct Step(u8, usize, u8);
-
-// So many signs, or the place of the fault.
-#[derive(Clone, Copy)]
-pub enum Scanned {
-    Signs(usize),
-    Outside(usize),
+enum Mode {
+    Operand,
+    Operator,
+    Digit,
+    Rue,
+    Ue,
+    E,
+    Alse,
+    Lse,
+    Se,
+    Greater,
+    DashGreater,
 }
 
-// ---- one byte
+// What the machine awaits after a byte, its depth of brackets, and the sign that the byte begins or ends.
+#[derive(Clone, Copy)]
+struct Step(Mode, usize, Option<u8>);
+
+// ---- one byte: the step at it, or none where it cannot stand
 
 // Where an operand may stand.
-fn at_operand(deep: usize, b: u8) -> Step
+fn at_operand(deep: usize, b: u8) -> Option<Step>
     requires { deep < 4096 }
     ensures { Moves (step (operand deep) b) deep result }
 {
     match b {
-        b' ' => Step(0, deep, 255),
-        b'!' => Step(0, deep, 6),
-        b'X' => Step(0, deep, 7),
-        b'F' => Step(0, deep, 8),
-        b'G' => Step(0, deep, 9),
-        b'(' => Step(0, deep + 1, 10),
-        b's' => Step(2, deep, 255),
-        b't' => Step(3, deep, 4),
-        b'f' => Step(6, deep, 5),
-        _ => Step(11, deep, 255),
+        b' ' => Some(Step(Mode::Operand, deep, None)),
+        b'!' => Some(Step(Mode::Operand, deep, Some(6))),
+        b'X' => Some(Step(Mode::Operand, deep, Some(7))),
+        b'F' => Some(Step(Mode::Operand, deep, Some(8))),
+        b'G' => Some(Step(Mode::Operand, deep, Some(9))),
+        b'(' => Some(Step(Mode::Operand, deep + 1, Some(10))),
+        b's' => Some(Step(Mode::Digit, deep, None)),
+        b't' => Some(Step(Mode::Rue, deep, Some(4))),
+        b'f' => Some(Step(Mode::Alse, deep, Some(5))),
+        _ => None,
     }
 }
 
 // Where a binary sign or a closing bracket may stand.
-fn at_operator(deep: usize, b: u8) -> Step
+fn at_operator(deep: usize, b: u8) -> Option<Step>
     requires { deep < 4096 }
     ensures { Moves (step (operator deep) b) deep result }
 {
     match b {
-        b' ' => Step(1, deep, 255),
+        b' ' => Some(Step(Mode::Operator, deep, None)),
         b')' => {
             if deep == 0 {
-                Step(11, deep, 11)
+                None
             } else {
-                Step(1, deep - 1, 11)
+                Some(Step(Mode::Operator, deep - 1, Some(11)))
             }
         }
-        b'U' => Step(0, deep, 12),
-        b'&' => Step(0, deep, 13),
-        b'^' => Step(0, deep, 14),
-        b'|' => Step(0, deep, 15),
-        b'-' => Step(9, deep, 16),
-        b'<' => Step(10, deep, 17),
-        _ => Step(11, deep, 255),
+        b'U' => Some(Step(Mode::Operand, deep, Some(12))),
+        b'&' => Some(Step(Mode::Operand, deep, Some(13))),
+        b'^' => Some(Step(Mode::Operand, deep, Some(14))),
+        b'|' => Some(Step(Mode::Operand, deep, Some(15))),
+        b'-' => Some(Step(Mode::Greater, deep, Some(16))),
+        b'<' => Some(Step(Mode::DashGreater, deep, Some(17))),
+        _ => None,
     }
 }
 
 // After the s of a signal.
-fn at_digit(deep: usize, b: u8) -> Step
+fn at_digit(deep: usize, b: u8) -> Option<Step>
     ensures { Moves (step (digit deep) b) deep result }
 {
     match b {
-        b'0' => Step(1, deep, 0),
-        b'1' => Step(1, deep, 1),
-        b'2' => Step(1, deep, 2),
-        b'3' => Step(1, deep, 3),
-        _ => Step(11, deep, 255),
+        b'0' => Some(Step(Mode::Operator, deep, Some(0))),
+        b'1' => Some(Step(Mode::Operator, deep, Some(1))),
+        b'2' => Some(Step(Mode::Operator, deep, Some(2))),
+        b'3' => Some(Step(Mode::Operator, deep, Some(3))),
+        _ => None,
     }
 }
 
 // Within a sign that goes on with one byte only.
-fn at_byte(deep: usize, b: u8, want: u8, next: u8) -> Step
-    requires { next < 11 }
+fn at_byte(deep: usize, b: u8, want: u8, next: Mode) -> Option<Step>
     ensures { Moves (cond (eqb b want) (record { state = state_of next deep; sign = [] }) lost) deep result }
 {
     if b == want {
-        Step(next, deep, 255)
+        Some(Step(next, deep, None))
     } else {
-        Step(11, deep, 255)
+        None
     }
 }
 
 // The step of the machine at a byte.
-fn advance(mode: u8, deep: usize, b: u8) -> Step
-    requires { (deep < 4096) × (mode < 11) }
+fn advance(mode: Mode, deep: usize, b: u8) -> Option<Step>
+    requires { deep < 4096 }
     ensures { Moves (step (state_of mode deep) b) deep result }
 {
     match mode {
-        0 => at_operand(deep, b),
-        1 => at_operator(deep, b),
-        2 => at_digit(deep, b),
-        3 => at_byte(deep, b, b'r', 4),
-        4 => at_byte(deep, b, b'u', 5),
-        5 => at_byte(deep, b, b'e', 1),
-        6 => at_byte(deep, b, b'a', 7),
-        7 => at_byte(deep, b, b'l', 8),
-        8 => at_byte(deep, b, b's', 5),
-        9 => at_byte(deep, b, b'>', 0),
-        _ => at_byte(deep, b, b'-', 9),
+        Mode::Operand => at_operand(deep, b),
+        Mode::Operator => at_operator(deep, b),
+        Mode::Digit => at_digit(deep, b),
+        Mode::Rue => at_byte(deep, b, b'r', Mode::Ue),
+        Mode::Ue => at_byte(deep, b, b'u', Mode::E),
+        Mode::E => at_byte(deep, b, b'e', Mode::Operator),
+        Mode::Alse => at_byte(deep, b, b'a', Mode::Lse),
+        Mode::Lse => at_byte(deep, b, b'l', Mode::Se),
+        Mode::Se => at_byte(deep, b, b's', Mode::E),
+        Mode::Greater => at_byte(deep, b, b'>', Mode::Operand),
+        Mode::DashGreater => at_byte(deep, b, b'-', Mode::Greater),
     }
 }
 
 // ---- the text
 
-// Stores the signs of a text of at most 1,024 bytes at the front of `signs`.
-pub fn scan(text: &[u8], signs: &mut [u8]) -> Scanned
+// Stores the signs of a text of at most 1,024 bytes at the front of `signs`: `Ok` is how many, `Err` the place of the fault.
+#[tactic(auto, using(crate::proofs::Laws::pass))]
+pub fn scan(text: &[u8], signs: &mut [u8]) -> Result<usize, usize>
     requires { (length text.now ≤ 1024) × (length text.now ≤ length signs.old) }
     ensures { Found text.now signs.new result }
 {
-    let mut mode: u8 = 0;
+    let mut mode = Mode::Operand;
     let mut deep: usize = 0;
     let mut count: usize = 0;
-    let mut i: usize = 0;
-    while i < text.len() {
-        let m = advance(mode, deep, text[i]);
-        if m.0 == 11 {
-            return Scanned::Outside(i);
-        }
-        if m.2 != 255 {
-            signs[count] = m.2;
+    for (i, &b) in text.iter().enumerate() {
+        let Some(Step(next, depth, sign)) = advance(mode, deep, b) else {
+            return Err(i);
+        };
+        if let Some(x) = sign {
+            signs[count] = x;
             count += 1;
         }
-        mode = m.0;
-        deep = m.1;
-        i += 1;
+        mode = next;
+        deep = depth;
     }
-    if mode == 1 {
-        if deep == 0 {
-            return Scanned::Signs(count);
-        }
+    if matches!(mode, Mode::Operator) && deep == 0 {
+        Ok(count)
+    } else {
+        Err(text.len())
     }
-    Scanned::Outside(i)
 }
