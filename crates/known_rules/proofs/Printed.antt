@@ -25,10 +25,10 @@ unfolding table_file
 p3-length = refl
 
 -- "P12 run on 1, 0, 1 ends violated, count 3. Run on 1, 2, 1 it ends undecided, count none."
-pub p12-violated : run_of (bytes P12) 0 (1 ∷ 0 ∷ 1 ∷ []) ≡ Ok 2 Violated (Some 3)
+pub p12-violated : run_of (bytes P12) 0 (1 ∷ 0 ∷ 1 ∷ []) ≡ Ok (record { state = 2; verdict = Violated; decided = Some 3 })
 unfolding table_file is_table decided_from
 p12-violated = refl
 
-pub p12-undecided : run_of (bytes P12) 0 (1 ∷ 2 ∷ 1 ∷ []) ≡ Ok 1 Undecided None
+pub p12-undecided : run_of (bytes P12) 0 (1 ∷ 2 ∷ 1 ∷ []) ≡ Ok (record { state = 1; verdict = Undecided; decided = None })
 unfolding table_file is_table decided_from
 p12-undecided = refl

@@ -9,18 +9,16 @@ ghost use Rattle.meaning.specs.TableFiles.{row_length, no_successor};
 ghost use Rattle.table_bytes.specs.Written.{header_bytes, successor_bytes, row_bytes, rows_bytes, written_of, table_after};
 
 use events::{mask_has, width};
-use meaning::{Built, Refusal};
+use meaning::Refusal;
 use table_layout::row_at;
-use wire::{put_u16, wide16};
+use wire::put_u16;
 
 fn put_header(out: &mut [u8], signals: u8, states: u16)
     requires { 7 ≤ length out.old }
     ensures { out.new ≡ sets out.old 0 (header_bytes signals states) }
 {
-    out[0] = 5;
-    out[1] = 0;
-    out[2] = 0;
-    out[3] = 2;
+    put_u16(out, 0, 5);
+    put_u16(out, 2, 512);
     out[4] = signals;
     put_u16(out, 5, states);
 }
@@ -31,20 +29,18 @@ fn written_successor(mask: u16, event: usize, to: u8) -> u16
     ensures { result ≡ cond (eqb (bit event mask) 1) to no_successor }
 {
     if mask_has(mask, event) {
-        return to as u16;
+        u16::from(to)
+    } else {
+        65535
     }
-    65535
 }
 
 fn put_successors(out: &mut [u8], at: usize, events: usize, mask: u16, row: [u8; 16])
     requires { (events ≤ 16) × (at + 2 * events ≤ length out.old) }
     ensures { out.new ≡ sets out.old at (successor_bytes (masked events mask) events row) }
 {
-    let mut e: usize = 0;
-    while e < events {
-        let to = written_successor(mask, e, row[e]);
-        put_u16(out, at + 2 * e, to);
-        e += 1;
+    for e in 0..events {
+        put_u16(out, at + 2 * e, written_successor(mask, e, row[e]));
     }
 }
 
@@ -67,16 +63,12 @@ fn put_rows(
     verdicts: &[u8; 256],
     rows: &[[u8; 16]; 256],
 )
-    requires signals_bound { (signals ≤ 4) × (states ≤ 256) × (7 + states * row_length signals ≤ length out.old) }
-    requires verdicts_len { (length verdicts.now ≡ 256) × (length {A = List ℕ} rows.now ≡ 256) }
+    requires { (signals ≤ 4) × (states ≤ 256) × (7 + states * row_length signals ≤ length out.old) }
     ensures { out.new ≡ sets out.old 7 (rows_bytes (masked (2 ^ signals) mask) signals states verdicts.now rows.now) }
 {
-    let mut s: u16 = 0;
-    while s < states {
-        let i = wide16(s);
-        let row = rows[i];
-        put_row(out, row_at(signals, s), signals, mask, verdicts[i], row);
-        s += 1;
+    for s in 0..states {
+        let i = usize::from(s);
+        put_row(out, row_at(signals, s), signals, mask, verdicts[i], rows[i]);
     }
 }
 
@@ -88,17 +80,16 @@ pub fn write(
     states: u16,
     verdicts: &[u8; 256],
     rows: &[[u8; 16]; 256],
-) -> Built
-    requires signals_bound { (signals ≤ 4) × (states ≤ 256) }
-    requires verdicts_len { (length verdicts.now ≡ 256) × (length {A = List ℕ} rows.now ≡ 256) }
+) -> Result<usize, Refusal>
+    requires { (signals ≤ 4) × (states ≤ 256) }
     ensures value { result ≡ written_of signals states out.old }
     ensures out_after { out.new ≡ table_after (masked (2 ^ signals) mask) signals states verdicts.now rows.now out.old }
 {
     let n = row_at(signals, states);
     if out.len() < n {
-        return Built::Refused(Refusal::ShortOutput);
+        return Err(Refusal::ShortOutput);
     }
     put_header(out, signals, states);
     put_rows(out, signals, mask, states, verdicts, rows);
-    Built::Table(n)
+    Ok(n)
 }

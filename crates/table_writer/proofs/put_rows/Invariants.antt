@@ -1,6 +1,6 @@
 -- `table_writer::put_rows` meets its contract.
 use mathlib.Core.Path.{◌≡◌}
-use Prim.Native.Nat.{◌-◌, ◌^◌, ◌≤◌}
+use Prim.Native.Nat.{◌^◌}
 use lib.ListN.{length}
 use Rattle.sequences.proofs.Stores.{Stored}
 use Rattle.meaning.specs.Traces.{masked}
@@ -8,7 +8,4 @@ use Rattle.table_bytes.specs.Written.{rows_bytes}
 use Rattle.table_writer.proofs.put_rows.Given as goal
 
 abbrev pub invariant-loop-s : goal.invariant-loop-s
-invariant-loop-s l = (l.s ≤ l.states) × (length l.out ≡ length l.initial.out) × Stored l.initial.out 7 (rows_bytes (masked (2 ^ l.signals) l.mask) l.signals l.s l.verdicts l.rows) l.out
-
-abbrev pub decreases-loop-s : goal.decreases-loop-s
-decreases-loop-s l = l.states - l.s
+invariant-loop-s l = (length l.out ≡ length l.initial.out) × Stored l.initial.out 7 (rows_bytes (masked (2 ^ l.signals) l.mask) l.signals l.s l.verdicts l.rows) l.out
