@@ -8,9 +8,8 @@ ghost use Rattle.meaning.specs.Runs.{in_table};
 ghost use Rattle.run_parts.specs.Parts.{Copied, decides_at};
 
 use events::width;
-use meaning::Verdict;
 use table_layout::{row_at, successor_at, verdict_at};
-use wire::{byte_at, u16_at, wide, wide16};
+use wire::{byte_at, u16_at};
 
 // ---- a state's record
 
@@ -19,10 +18,7 @@ pub fn in_table(t: &[u8], signals: u8, states: u16, state: u16) -> bool
     requires { signals ≤ 4 }
     ensures { result ≡ in_table t.now signals states state }
 {
-    if states <= state {
-        return false;
-    }
-    byte_at(t, row_at(signals, state) + 4) <= 3
+    state < states && byte_at(t, row_at(signals, state) + 4) <= 3
 }
 
 // Whether a state shows a verdict other than undecided.
@@ -30,13 +26,7 @@ pub fn decides_at(t: &[u8], signals: u8, state: u16) -> bool
     requires { signals ≤ 4 }
     ensures { result ≡ decides_at t.now signals state }
 {
-    let v = verdict_at(t, signals, state);
-    match v {
-        Verdict::Undecided => false,
-        Verdict::Satisfied => true,
-        Verdict::Violated => true,
-        Verdict::Moot => true,
-    }
+    verdict_at(t, signals, state).is_decided()
 }
 
 // The successors of a state for each event, and 0 past the last.
@@ -45,27 +35,23 @@ pub fn successors_of(t: &[u8], signals: u8, state: u16) -> [u16; 16]
     ensures { result ≡ tabulate (2 ^ signals) (successor t.now signals state) ++ drop (2 ^ signals) (replicate 16 0) }
 {
     let at = row_at(signals, state) + 5;
-    let events = width(signals);
-    let mut row: [u16; 16] = [0; 16];
-    let mut e: usize = 0;
-    while e < events {
+    let mut row = [0; 16];
+    for e in 0..width(signals) {
         row[e] = u16_at(t, at + 2 * e);
-        e += 1;
     }
     row
 }
 
 // ---- copied rows
 
-// The successors of all the states that a table can have, copied out of the bytes, 16 to a state: a long run finds them faster here.
+// The successors of all the states that a table can have, copied out of the bytes, 16 to a state: a long run finds them
+// faster here.
 pub fn fill_rows(t: &[u8], signals: u8, rows: &mut [u16; 4096])
-    requires { (signals ≤ 4) × (length rows.old ≡ 4096) }
+    requires { signals ≤ 4 }
     ensures { Copied t.now signals rows.new × (length rows.new ≡ 4096) }
 {
-    let mut k: usize = 0;
-    while k < 4096 {
-        rows[k] = successor_at(t, signals, (k / 16) as u16, (k % 16) as u8);
-        k += 1;
+    for (k, to) in rows.iter_mut().enumerate() {
+        *to = successor_at(t, signals, (k / 16) as u16, (k % 16) as u8);
     }
 }
 
@@ -75,9 +61,8 @@ pub fn successor_in(t: &[u8], rows: &[u16], signals: u8, state: u16, event: u8) 
     requires copied { Copied t.now signals rows.now }
     ensures { result ≡ successor t.now signals state event }
 {
-    let i = 16 * wide16(state) + wide(event);
-    if i < rows.len() {
-        return rows[i];
+    match rows.get(16 * usize::from(state) + usize::from(event)) {
+        Some(to) => *to,
+        None => successor_at(t, signals, state, event),
     }
-    successor_at(t, signals, state, event)
 }

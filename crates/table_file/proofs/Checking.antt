@@ -9,21 +9,16 @@ use Rattle.sequences.specs.Tabulate.{every, all_below}
 use Rattle.sequences.proofs.Pointwise.{all_same}
 use Rattle.meaning.specs.Bytes.{bit}
 use Rattle.meaning.specs.Traces.{full_mask}
-use Rattle.meaning.specs.TableFiles.{header_tests, row_tests, signals_in, states_in, no_successor, successor, successor_fits, is_table, checked_of}
+use Rattle.meaning.specs.TableFiles.{header_tests, row_tests, signals_in, states_in, successor, successor_fits, is_table, checked_of}
 use Rattle.meaning.specs.declared.Refusal.TheVariants.{WrongTable}
 use Rattle.table_layout.specs.Masks.{MaskIn}
 use Rattle.table_layout.proofs.Form.{rows_fit}
 use Rattle.events.proofs.Masks.{full-bit}
 use Rattle.table_layout.proofs.Masks.{mask-possible}
 use Rattle.table_file.specs.Successors.{fits_by}
-use Rattle.std.proofs.Common.{Ok, Err}
-
--- a successor that fits, by whether its event can happen
-pub fits-possible : (b : Bool) (S to : ℕ) → b ≡ true → ltb to S ≡ fits_by b S to
-fits-possible b S to h = rw h
-
-pub fits-impossible : (b : Bool) (S to : ℕ) → b ≡ false → eqb to no_successor ≡ fits_by b S to
-fits-impossible b S to h = rw h
+use Rattle.meaning.specs.declared.Refusal.{Refusal}
+use Rattle.meaning.specs.declared.Counts.{Counts}
+use Rattle.std.proofs.Common.{Result, Ok, Err}
 
 -- where every event can happen, the successors that fit are the states
 pub successors-full : (P m S : ℕ) (to : ℕ → ℕ) → m ≡ full_mask P → all_below (2 ^ P) (λ e. ltb (to e) S) ≡ all_below (2 ^ P) (λ e. fits_by (eqb (bit e m) 1) S (to e))
@@ -31,9 +26,13 @@ successors-full P m S to q =
     all_same (2 ^ P) (λ e. ltb (to e) S) (λ e. fits_by (eqb (bit e m) 1) S (to e))
     (λ e l. ap (λ (b : Bool). fits_by b S (to e)) (sym (eq-eqb (bit e m) 1 (ap (bit e) q ∙ full-bit (2 ^ P) e l))))
 
+-- the counts in the first record
+abbrev found : List ℕ → Result Counts Refusal
+found t = Ok (record { signals = signals_in t; states = states_in t })
+
 module _ (t : List ℕ) where
   pub checked-table : (P S : ℕ) → every (header_tests t) ≡ true → P ≡ signals_in t → S ≡ states_in t → all_below S (λ s. every (row_tests t P S s)) ≡ true
-      → Ok P S ≡ checked_of t
+      → Ok (record { signals = P; states = S }) ≡ checked_of t
   unfolding is_table
   checked-table P S h p q r =
       let e : rows_fit t ≡ true = rw (p, q) at r in
@@ -44,7 +43,7 @@ module _ (t : List ℕ) where
   unfolding is_table
   checked-rows P S p q r = let e : rows_fit t ≡ false = rw (p, q) at r in rw e (go (every (header_tests t)))
     where
-      go : (b : Bool) → Err WrongTable ≡ cond (b && false) (Ok (signals_in t) (states_in t)) (Err WrongTable)
+      go : (b : Bool) → Err WrongTable ≡ cond (b && false) (found t) (Err WrongTable)
       go true = refl
       go false = refl
 
