@@ -8,28 +8,12 @@ ghost use Rattle.event_lists.specs.Bounds.{NoneAbove};
 ghost use Rattle.event_lists.specs.Masks.{all_in, first_outside};
 
 use events::can_happen;
-use wire::wide;
-
-fn larger(a: u8, b: u8) -> u8
-    ensures { (a ≤ result) × (b ≤ result) }
-{
-    if a < b {
-        return b;
-    }
-    a
-}
 
 // A number that no event is above.
 fn most(events: &[u8]) -> u8
     ensures { NoneAbove (length events.now) events.now result }
 {
-    let mut top: u8 = 0;
-    let mut i: usize = 0;
-    while i < events.len() {
-        top = larger(top, events[i]);
-        i += 1;
-    }
-    top
+    events.iter().copied().max().unwrap_or(0)
 }
 
 // A number below which the mask has every event: how many there are, where it has all of one to four signals.
@@ -50,10 +34,8 @@ pub fn each_in(mask: u16, events: &[u8]) -> bool
     ensures { result ≡ all_in mask events.now }
 {
     let mut all = true;
-    let mut i: usize = 0;
-    while i < events.len() {
-        all = all & can_happen(mask, wide(events[i]));
-        i += 1;
+    for event in events {
+        all &= can_happen(mask, usize::from(*event));
     }
     all
 }
@@ -62,10 +44,7 @@ pub fn each_in(mask: u16, events: &[u8]) -> bool
 pub fn all_in(mask: u16, events: &[u8]) -> bool
     ensures { result ≡ all_in mask events.now }
 {
-    if wide(most(events)) < full_below(mask) {
-        return true;
-    }
-    each_in(mask, events)
+    usize::from(most(events)) < full_below(mask) || each_in(mask, events)
 }
 
 // The index of the first event that the mask does not have, or the length.
@@ -75,14 +54,10 @@ pub fn first_bad(mask: u16, events: &[u8]) -> usize
     if all_in(mask, events) {
         return events.len();
     }
-    let mut i: usize = 0;
-    while i < events.len() {
-        let event = wide(events[i]);
-        if can_happen(mask, event) {
-            i += 1;
-        } else {
+    for (i, event) in events.iter().enumerate() {
+        if !can_happen(mask, usize::from(*event)) {
             return i;
         }
     }
-    i
+    events.len()
 }

@@ -1,6 +1,6 @@
 -- `event_lists::first_bad` meets its contract.
 use native.Mathlib.Omega.{arith}
-use mathlib.Core.Path.{◌≡◌, refl, sym, ap, ◌∙◌}
+use mathlib.Core.Path.{refl, sym, ap, ◌∙◌}
 use mathlib.Core.Bool.{not}
 use Prim.Native.Nat.{ℕ}
 use lib.Dec.{eqb}
@@ -14,16 +14,15 @@ pub returns-then-all_in : goal.returns-then-all_in
 returns-then-all_in c = sym (missed-end (none-outside c.args.mask c.args.events.now (sym c.all_in.ensures ∙ c.if-all_in.true)) (length c.args.events.now) refl)
 
 pub loop-i-init : goal.loop-i-init
-loop-i-init c = (omega arith, missed-none)
+loop-i-init c = missed-none
 
 pub loop-i-preserved : goal.loop-i-preserved
-loop-i-preserved c = let read = c.can_happen.ensures ∙ ap (λ (e : ℕ). eqb (bit e c.args.mask) 1) c.wide-event.ensures.0 in
-    (omega arith, missed_more c.loop-i.invariant.1 (ap not (sym read ∙ c.if-can_happen.true)))
+loop-i-preserved c = let read = c.can_happen.ensures ∙ ap (λ (e : ℕ). eqb (bit e c.args.mask) 1) c.from.ensures in
+    missed_more c.loop-i.invariant (ap not (sym read ∙ c.if-not-can_happen.false))
 
-pub returns-else-can_happen : goal.returns-else-can_happen
-returns-else-can_happen c = let read = c.can_happen.ensures ∙ ap (λ (e : ℕ). eqb (bit e c.args.mask) 1) c.wide-event.ensures.0 in
-    sym (missed-found c.loop-i.invariant.1 (length c.args.events.now) c.loop-i-test.true (ap not (sym read ∙ c.if-can_happen.false)))
+pub returns-then-not-can_happen : goal.returns-then-not-can_happen
+returns-then-not-can_happen c = let read = c.can_happen.ensures ∙ ap (λ (e : ℕ). eqb (bit e c.args.mask) 1) c.from.ensures in
+    sym (missed-found c.loop-i.invariant (length c.args.events.now) c.loop-i-test.true (ap not (sym read ∙ c.if-not-can_happen.true)))
 
 pub returns : goal.returns
-returns c = let e : c.loop-i.i ≡ length c.args.events.now = omega arith in
-    e ∙ sym (missed-end c.loop-i.invariant.1 (length c.args.events.now) e)
+returns c = sym (missed-end c.loop-i.invariant (length c.args.events.now) (omega arith))

@@ -1,13 +1,8 @@
 -- `event_lists::first_bad` meets its contract.
 use mathlib.Core.Bool.{not}
-use Prim.Native.Nat.{◌-◌, ◌≤◌}
-use lib.ListN.{length}
 use Rattle.sequences.proofs.Loops.{Missed}
 use Rattle.event_lists.specs.Masks.{in_mask}
 use Rattle.event_lists.proofs.first_bad.Given as goal
 
 abbrev pub invariant-loop-i : goal.invariant-loop-i
-invariant-loop-i l = (l.i ≤ length l.events) × Missed l.i (λ k. not (in_mask l.mask l.events k))
-
-abbrev pub decreases-loop-i : goal.decreases-loop-i
-decreases-loop-i l = length l.events - l.i
+invariant-loop-i l = Missed l.i (λ k. not (in_mask l.mask l.events k))
