@@ -12,6 +12,7 @@ use native.Mathlib.Numerals.{add-one}
 use native.Mathlib.Omega.{arith}
 use borrow.Author.Tests.{ltb-true, lt-ltb, le-ltb, eq-eqb, ne_eqb}
 use lib.Dec.{eqb, ltb, lit<}
+use mir.Val.{bool_byte}
 use lib.Bits.{bit_and, bit_xor, and_shr, and_mod, xor_shr, xor_mod, and_le_l}
 use lib.ListN.{length, take, set, length-set}
 use lib.Seq.{take-set-le, take-suc-set}
@@ -161,11 +162,11 @@ module _ (P m : ℕ) (r : Seen) where
   chosen_none l = record { room = omega arith; size = l; first = refl }
 
   -- a turn: the event is stored, and counted if it fits
-  pub chosen_more : {n : ℕ} {events : List ℕ} {count : ℕ} → Chosen n events count → n < 16 → (d : ℕ) → d ≡ cond (eqb (bit n m) 1 && agrees P r n) 1 0
+  pub chosen_more : {n : ℕ} {events : List ℕ} {count : ℕ} → Chosen n events count → n < 16 → (d : ℕ) → d ≡ bool_byte (eqb (bit n m) 1 && agrees P r n)
       → Chosen (n + 1) (set events count n) (count + d)
   chosen_more {n} {events} {count} h l d q = rw q (go (eqb (bit n m) 1 && agrees P r n) (keep-both (λ i. eqb (bit i m) 1) (agrees P r) n))
     where
-      go : (t : Bool) → below (n + 1) ≡ below n ++ cond t (n ∷ []) [] → Chosen (n + 1) (set events count n) (count + cond t 1 0)
+      go : (t : Bool) → below (n + 1) ≡ below n ++ cond t (n ∷ []) [] → Chosen (n + 1) (set events count n) (count + bool_byte t)
       go true f = record {
         room = omega (arith, h.room);
         size = length-set events count n ∙ h.size;

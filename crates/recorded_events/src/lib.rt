@@ -1,13 +1,12 @@
 // One recorded event: whether its bytes fit, whether two contradict each other, the two joined, and the possible events that agree with it.
 #![tactic(auto)]
 
-ghost use Rattle.std.specs.Prelude.{◌≡◌, true, cond, ◌+◌, ◌*◌, ◌^◌, ◌≤◌, ◌<◌, length, take};
+ghost use Rattle.std.specs.Prelude.{◌≡◌, true, ◌+◌, ◌*◌, ◌^◌, ◌≤◌, ◌<◌, length, take};
 ghost use Rattle.meaning.specs.Traces.{masked};
 ghost use Rattle.meaning.specs.Recordings.{seen_at, seen_fits, contradict, join, choices};
 
 use events::{mask_has, width};
 use meaning::Seen;
-use wire::wide;
 
 // The recorded event with an index.
 pub fn seen_at(a: &[u8], i: usize) -> Seen
@@ -25,15 +24,8 @@ pub fn seen_fits(signals: u8, r: Seen) -> bool
     requires { signals ≤ 4 }
     ensures { result ≡ seen_fits signals r }
 {
-    let known = r.known;
-    let values = r.values;
-    if width(signals) <= wide(known) {
-        return false;
-    }
-    if width(signals) <= wide(values) {
-        return false;
-    }
-    (known & values) == values
+    let bound = width(signals);
+    usize::from(r.known) < bound && usize::from(r.values) < bound && r.known & r.values == r.values
 }
 
 // Whether both know a signal, with different values.
@@ -41,11 +33,7 @@ pub fn contradicts(signals: u8, r: Seen, q: Seen) -> bool
     requires { seen_fits signals r ≡ true }
     ensures { result ≡ contradict signals r q }
 {
-    let known = r.known;
-    let values = r.values;
-    let other_known = q.known;
-    let other_values = q.values;
-    (known & other_known & (values ^ other_values)) != 0
+    r.known & q.known & (r.values ^ q.values) != 0
 }
 
 // The two joined: known where either knows.
@@ -63,12 +51,7 @@ pub fn joined(r: Seen, q: Seen) -> Seen
 pub struct Choices {
     pub events: [u8; 16],
     pub count: usize,
-}
-
-fn one_if(counted: bool) -> usize
-    ensures { (result ≡ cond counted 1 0) × (result ≤ 1) }
-{
-    if counted { 1 } else { 0 }
+    ghost room: { count ≤ 16 },
 }
 
 // Each event is stored, and the next over it if it does not fit.
@@ -76,16 +59,13 @@ pub fn choices_of(signals: u8, mask: u16, r: Seen) -> Choices
     requires { (signals ≤ 4) × (r.known < 2 ^ signals) }
     ensures { (result.count ≤ 16) × (length result.events ≡ 16) × (take result.count result.events ≡ choices (masked (2 ^ signals) mask) signals r) }
 {
-    let known = wide(r.known);
-    let values = wide(r.values);
-    let mut events: [u8; 16] = [0; 16];
+    let known = usize::from(r.known);
+    let values = usize::from(r.values);
+    let mut events = [0; 16];
     let mut count: usize = 0;
-    let mut e: usize = 0;
-    while e < width(signals) {
-        let fits = mask_has(mask, e) & (known & (e ^ values) == 0);
-        events[count] = e as u8;
-        count += one_if(fits);
-        e += 1;
+    for event in 0..width(signals) {
+        events[count] = event as u8;
+        count += usize::from(mask_has(mask, event) & (known & (event ^ values) == 0));
     }
     Choices { events, count }
 }

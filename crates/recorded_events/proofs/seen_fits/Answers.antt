@@ -1,13 +1,14 @@
 -- `recorded_events::seen_fits` meets its contract.
 use native.Mathlib.Omega.{arith}
-use Rattle.recorded_events.proofs.Laws.{wrong-known, wrong-values, low_fits}
+use mathlib.Core.Path.{sym, ◌∙◌}
+use borrow.Author.Tests.{ltb-true}
+use Rattle.recorded_events.proofs.Laws.{low_fits}
 use Rattle.recorded_events.proofs.seen_fits.Goals as goal
+use Rattle.recorded_events.proofs.seen_fits.Goals.{then-from-bound, else-from-bound}
 
-pub returns-then-width-wide : goal.returns-then-width-wide
-returns-then-width-wide c = wrong-known c.args.signals c.args.r (omega arith)
-
-pub returns-then-width-wide-2 : goal.returns-then-width-wide-2
-returns-then-width-wide-2 c = wrong-values c.args.signals c.args.r (omega arith)
-
-pub returns : goal.returns
-returns c = low_fits c.args.signals c.args.r (omega arith) (omega arith)
+pub returns-then-from-bound-2 : goal.returns-then-from-bound-2
+returns-then-from-bound-2 c = let h = c.if-from-bound-2.true in
+    elim c.if-from-bound.branch [
+      | then-from-bound w ↦ low_fits c.args.signals c.args.r (omega arith) (omega (arith, ltb-true _ _ (sym w.value-is ∙ h)))
+      | else-from-bound w ↦ absurd (omega (arith, ltb-true _ _ (sym w.value-is ∙ h)))
+    ]
