@@ -7,7 +7,7 @@ ghost use Rattle.rule_nodes.specs.Shapes.{shape, shape_of, node_of};
 
 use events::width;
 use meaning::Node;
-use wire::{byte_at, wide, wide16};
+use wire::byte_at;
 
 // ---- kinds
 
@@ -52,10 +52,7 @@ pub fn length_fits(kind: u8, body: u8, length: u16) -> bool
     requires { body ≡ body_length kind }
     ensures { result ≡ length_fits kind length }
 {
-    if wide16(length) == 2 + wide(body) {
-        return true;
-    }
-    kind == 3 && length == 5
+    length == 2 + u16::from(body) || (kind == 3 && length == 5)
 }
 
 // ---- a node
@@ -65,13 +62,11 @@ fn upper_at(b: &[u8], p: usize, kind: u8, length: u16) -> u8
     requires { p < 65536 }
     ensures { result ≡ upper_at b.now p kind length }
 {
-    if kind != 3 {
-        return 0;
+    match (kind, length) {
+        (3, 5) => byte_at(b, p + 6),
+        (3, _) => 4,
+        _ => 0,
     }
-    if length != 5 {
-        return 4;
-    }
-    byte_at(b, p + 6)
 }
 
 // The node whose record is at p, of this kind and length, with as many bytes of its body as the kind has.
@@ -79,30 +74,11 @@ pub fn node_at(b: &[u8], p: usize, kind: u8, body: u8, length: u16) -> Node
     requires { (p < 65536) × (body ≡ body_length kind) }
     ensures { result ≡ node_of b.now p kind length }
 {
-    let upper = upper_at(b, p, kind, length);
-    if body < 1 {
-        return Node {
-            kind,
-            a: 0,
-            b: 0,
-            upper,
-        };
-    }
-    let first = byte_at(b, p + 4);
-    if body < 2 {
-        return Node {
-            kind,
-            a: first,
-            b: 0,
-            upper,
-        };
-    }
-    let second = byte_at(b, p + 5);
     Node {
         kind,
-        a: first,
-        b: second,
-        upper,
+        a: if body < 1 { 0 } else { byte_at(b, p + 4) },
+        b: if body < 2 { 0 } else { byte_at(b, p + 5) },
+        upper: upper_at(b, p, kind, length),
     }
 }
 
@@ -111,16 +87,7 @@ pub fn wrong_operand(node: Node, count: u8, number: u8) -> bool
     requires { count ≡ operands node.kind }
     ensures { result ≡ not (operands_fit number node) }
 {
-    if count < 1 {
-        return false;
-    }
-    if number <= node.a {
-        return true;
-    }
-    if count < 2 {
-        return false;
-    }
-    number <= node.b
+    (1 <= count && number <= node.a) || (2 <= count && number <= node.b)
 }
 
 // Whether a signal, a mask or one of two counts is out of range.
@@ -128,22 +95,11 @@ pub fn out_of_range(node: Node, signals: u8) -> bool
     requires { signals ≤ 4 }
     ensures { result ≡ not (ranges_fit signals node) }
 {
-    let kind = node.kind;
-    if kind == 2 {
-        return signals <= node.a;
+    match node.kind {
+        2 => signals <= node.a,
+        3 => width(signals) <= usize::from(node.a) || 4 < node.b || 4 < node.upper,
+        _ => false,
     }
-    if kind != 3 {
-        return false;
-    }
-    let count = node.b;
-    let upper = node.upper;
-    if width(signals) <= wide(node.a) {
-        return true;
-    }
-    if 4 < count {
-        return true;
-    }
-    4 < upper
 }
 
 // Whether a node is the eighth temporal one.
