@@ -6,26 +6,36 @@
 --     judged, judged-refused, judged-mask-refused     the whole, by the readings of the first record and of the mask
 use mathlib.Core.Path.{◌≡◌, refl, sym, ap, ap₂, ◌∙◌}
 use mathlib.Core.List.{List, [], ◌∷◌, ◌++◌}
-use mathlib.Core.Bool.{cond}
+use mathlib.Core.Bool.{Bool, true, false, cond}
+use mir.Val.{bool_byte}
 use Prim.Native.Nat.{ℕ, suc, ◌+◌, ◌-◌, ◌*◌, ◌≤◌, ◌<◌}
 use native.Mathlib.Omega.{arith}
 use borrow.Author.Tests.{lt-ltb, le-ltb}
 use lib.ListN.{length, set, replicate, length-append}
 use lib.Seq.{set_at, append_snoc}
 use Rattle.meaning.specs.Bytes.{u16_at}
-use Rattle.meaning.specs.RuleFiles.{Accepted, Refused, temporal, temporals, header_of, mask_of, reading_of, nodes_from, body_from, judge}
+use Rattle.meaning.specs.RuleFiles.{Accepted, Refused, temporal, temporals, header_of, mask_of, reading_of, nodes_from, body_from, Judgement, judge}
 use Rattle.meaning.specs.declared.Node.{Node}
 use Rattle.meaning.specs.declared.Header.{Header}
+use Rattle.meaning.specs.declared.Mask.{Mask}
 use Rattle.meaning.specs.declared.Refusal.{Refusal}
 use Rattle.meaning.specs.declared.Refusal.TheVariants.{TrailingBytes}
 use Rattle.rule_records.proofs.Records.{node-told}
 use Rattle.rule_file.specs.Reading.{blank, padded, read_of}
-use Rattle.rule_file.specs.declared.answer.Outcome.TheVariants as Outcome
 use Rattle.std.proofs.Common.{Result, Ok, Err}
 
 pub temporals-more : (ns : List Node) (n : Node) → temporals (ns ++ (n ∷ [])) ≡ temporals ns + cond (temporal n.kind) 1 0
 temporals-more [] n = omega arith
 temporals-more (m ∷ ns) n = omega (arith, temporals-more ns n)
+
+-- a flag as a number, as the code converts it
+pub byte-of : (t : Bool) → bool_byte t ≡ cond t 1 0
+byte-of true = refl
+byte-of false = refl
+
+one-at_most : (t : Bool) → cond t 1 0 ≤ 1
+one-at_most true = omega arith
+one-at_most false = omega arith
 
 -- ---- one step of the judgement
 
@@ -57,87 +67,81 @@ module _ (b : List ℕ) where
     unfolding judge body_from
     judged-mask-refused x q = rw (e, judge, q, body_from)
 
-    pub judged : (m p : ℕ) → mask_of b h.signals ≡ Ok m p → judge b ≡ nodes_from h.nodes b h.signals m p []
+    pub judged : (m : Mask) → mask_of b h.signals ≡ Ok m → judge b ≡ nodes_from h.nodes b h.signals m.mask m.nodes_at []
     unfolding judge body_from
-    judged m p q = rw (e, judge, q, body_from)
+    judged m q = rw (e, judge, q, body_from)
 
 -- ---- the loop
 
--- after i of N nodes, the first of which is at q, so many of them temporal, with the next record at p and the nodes so far at the front of the array
-pub record Progress (b : List ℕ) (P m N q : ℕ) (nodes : List Node) (p seen i : ℕ) : Type 0 where
+-- what is to be judged: all nodes, behind the first record and the mask's
+abbrev pub whole : List ℕ → Header → Mask → Judgement
+whole b h m = nodes_from h.nodes b h.signals m.mask m.nodes_at []
+
+-- after i of the nodes, so many of them temporal, with the next record at p and the nodes so far at the front of the array
+pub record Progress (b : List ℕ) (h : Header) (m : Mask) (nodes : List Node) (p seen i : ℕ) : Type 0 where
   pub earlier : List Node
   pub number : length earlier ≡ i
-  pub signals : P ≤ 4
-  pub room : N ≤ 64
-  pub within : i ≤ N
   pub near : p ≤ 12 + 7 * i
   pub few : seen ≤ i
   pub temporal-are : seen ≡ temporals earlier
   pub array : nodes ≡ earlier ++ replicate (64 - i) blank
-  pub rest : nodes_from (N - i) b P m p earlier ≡ nodes_from N b P m q []
+  pub rest : nodes_from (h.nodes - i) b h.signals m.mask p earlier ≡ whole b h m
 
-module _ {b : List ℕ} {P m N q : ℕ} where
-  pub progress-none : {nodes : List Node} → P ≤ 4 → N ≤ 64 → q ≤ 12 → nodes ≡ replicate 64 blank → Progress b P m N q nodes q 0 0
-  progress-none u v w e =
-      record {
-        earlier = [];
-        number = refl;
-        signals = u;
-        room = v;
-        within = omega arith;
-        near = omega arith;
-        few = omega arith;
-        temporal-are = refl;
-        array = e;
-        rest = ap (λ (k : ℕ). nodes_from k b P m q []) (omega arith);
-      }
+module _ {b : List ℕ} {h : Header} {m : Mask} where
+  pub progress-none : m.nodes_at ≤ 12 → Progress b h m (replicate 64 blank) m.nodes_at 0 0
+  progress-none l = record {
+    earlier = [];
+    number = refl;
+    near = omega arith;
+    few = omega arith;
+    temporal-are = refl;
+    array = refl;
+    rest = ap (λ (k : ℕ). nodes_from k b h.signals m.mask m.nodes_at []) (omega arith);
+  }
 
-  module _ {nodes : List Node} {p seen i : ℕ} (h : Progress b P m N q nodes p seen i) where
-    read_here : {r : Result Node Refusal} → reading_of b P p i seen ≡ r → reading_of b P p (length h.earlier) (temporals h.earlier) ≡ r
-    read_here e = ap₂ (λ (k s : ℕ). reading_of b P p k s) h.number (sym h.temporal-are) ∙ e
+  module _ {nodes : List Node} {p seen i : ℕ} (g : Progress b h m nodes p seen i) where
+    read_here : {r : Result Node Refusal} → reading_of b h.signals p i seen ≡ r → reading_of b h.signals p (length g.earlier) (temporals g.earlier) ≡ r
+    read_here e = ap₂ (λ (k s : ℕ). reading_of b h.signals p k s) g.number (sym g.temporal-are) ∙ e
 
-    left : i < N → nodes_from (suc (N - (i + 1))) b P m p h.earlier ≡ nodes_from N b P m q []
-    left l = ap (λ (k : ℕ). nodes_from k b P m p h.earlier) (omega arith) ∙ h.rest
+    left : i < h.nodes → nodes_from (suc (h.nodes - (i + 1))) b h.signals m.mask p g.earlier ≡ whole b h m
+    left l = ap (λ (k : ℕ). nodes_from k b h.signals m.mask p g.earlier) (omega arith) ∙ g.rest
 
-    -- a turn: the node n is stored at j, its record's length and whether it is temporal are counted
-    pub progress-more : (n : Node) (j size t : ℕ) → i < N → reading_of b P p i seen ≡ Ok n → j ≡ i → size ≡ u16_at b p
-        → t ≡ cond (temporal n.kind) 1 0 → t ≤ 1 → Progress b P m N q (set nodes j n) (p + (2 + size)) (seen + t) (i + 1)
-    progress-more n j size t l e o u w z =
-        let ns = h.earlier in
-        let short : u16_at b p ≤ 5 = (node-told b P p i seen n e).length in
+    -- a turn: the node n is stored, its record's length and whether it is temporal are counted
+    pub progress-more : (n : Node) (j size t : ℕ) → h.nodes ≤ 64 → i < h.nodes → reading_of b h.signals p i seen ≡ Ok n → j ≡ i → size ≡ u16_at b p
+        → t ≡ bool_byte (temporal n.kind) → Progress b h m (set nodes j n) (p + (2 + size)) (seen + t) (i + 1)
+    progress-more n j size t room l e o u w =
+        let ns = g.earlier in
+        let short : u16_at b p ≤ 5 = (node-told b h.signals p i seen n e).length in
         record {
           earlier = ns ++ (n ∷ []);
-          number = length-append ns (n ∷ []) ∙ omega (arith, h.number);
-          signals = h.signals;
-          room = h.room;
-          within = omega arith;
-          near = omega (arith, h.near);
-          few = omega (arith, h.few);
-          temporal-are = omega (arith, h.temporal-are, temporals-more ns n);
+          number = length-append ns (n ∷ []) ∙ omega (arith, g.number);
+          near = omega (arith, g.near);
+          few = omega (arith, g.few, byte-of (temporal n.kind), one-at_most (temporal n.kind));
+          temporal-are = omega (arith, g.temporal-are, temporals-more ns n, byte-of (temporal n.kind));
           array =
-              ap (λ (xs : List Node). set xs j n) (h.array ∙ ap (λ (k : ℕ). ns ++ replicate k blank) more)
-              ∙ set_at ns blank (replicate (64 - (i + 1)) blank) n j (omega (arith, h.number)) ∙ sym (append_snoc ns n (replicate (64 - (i + 1)) blank));
+              ap (λ (xs : List Node). set xs j n) (g.array ∙ ap (λ (k : ℕ). ns ++ replicate k blank) more)
+              ∙ set_at ns blank (replicate (64 - (i + 1)) blank) n j (omega (arith, g.number)) ∙ sym (append_snoc ns n (replicate (64 - (i + 1)) blank));
           rest =
-              ap (λ (k : ℕ). nodes_from (N - (i + 1)) b P m k (ns ++ (n ∷ []))) (omega arith)
-              ∙ sym (nodes-more b P m p ns (N - (i + 1)) n (read_here e)) ∙ left l;
+              ap (λ (k : ℕ). nodes_from (h.nodes - (i + 1)) b h.signals m.mask k (ns ++ (n ∷ []))) (omega arith)
+              ∙ sym (nodes-more b h.signals m.mask p ns (h.nodes - (i + 1)) n (read_here e)) ∙ left l;
         }
       where
         more : 64 - i ≡ suc (64 - (i + 1))
-        more = omega (arith, h.room)
+        more = omega arith
 
-    pub progress-refused : (x : Refusal) → i < N → reading_of b P p i seen ≡ Err x → nodes_from N b P m q [] ≡ Refused x
-    progress-refused x l e = sym (left l) ∙ nodes-refused b P m p h.earlier (N - (i + 1)) x (read_here e)
+    pub progress-refused : (x : Refusal) → i < h.nodes → reading_of b h.signals p i seen ≡ Err x → whole b h m ≡ Refused x
+    progress-refused x l e = sym (left l) ∙ nodes-refused b h.signals m.mask p g.earlier (h.nodes - (i + 1)) x (read_here e)
 
-    done : N ≤ i → nodes_from 0 b P m p h.earlier ≡ nodes_from N b P m q []
-    done l = ap (λ (k : ℕ). nodes_from k b P m p h.earlier) (omega (arith, h.within)) ∙ h.rest
+    done : h.nodes ≤ i → nodes_from 0 b h.signals m.mask p g.earlier ≡ whole b h m
+    done l = ap (λ (k : ℕ). nodes_from k b h.signals m.mask p g.earlier) (omega arith) ∙ g.rest
 
-    pub progress-over : N ≤ i → p < length b → nodes_from N b P m q [] ≡ Refused (TrailingBytes p)
-    progress-over l u = sym (done l) ∙ nodes-over b P m p h.earlier u
+    pub progress-over : h.nodes ≤ i → p < length b → whole b h m ≡ Refused (TrailingBytes p)
+    progress-over l u = sym (done l) ∙ nodes-over b h.signals m.mask p g.earlier u
 
-    pub progress-accepted : N ≤ i → length b ≤ p → record { outcome = Outcome.Accepted; signals = P; mask = m; count = N; nodes = nodes } ≡ read_of (nodes_from N b P m q [])
+    pub progress-accepted : i ≡ h.nodes → length b ≤ p → Ok (record { signals = h.signals; mask = m.mask; count = h.nodes; nodes = nodes }) ≡ read_of (whole b h m)
     progress-accepted l u =
-        let ns = h.earlier in
-        let size : N ≡ length ns = omega (arith, h.within, h.number) in
-        let whole : nodes ≡ padded ns = h.array ∙ ap (λ (k : ℕ). ns ++ replicate (64 - k) blank) (sym h.number) in
-        ap₂ (λ (k : ℕ) (xs : List Node). record { outcome = Outcome.Accepted; signals = P; mask = m; count = k; nodes = xs }) size whole
-        ∙ ap read_of (sym (nodes-end b P m p ns u) ∙ done l)
+        let ns = g.earlier in
+        let size : h.nodes ≡ length ns = omega (arith, g.number) in
+        let array : nodes ≡ padded ns = g.array ∙ ap (λ (k : ℕ). ns ++ replicate (64 - k) blank) (sym g.number) in
+        ap₂ (λ (k : ℕ) (xs : List Node). Ok (record { signals = h.signals; mask = m.mask; count = k; nodes = xs })) size array
+        ∙ ap read_of (sym (nodes-end b h.signals m.mask p ns u) ∙ done (omega arith))

@@ -1,4 +1,3 @@
-pub mod Between
 pub mod Checks
 pub mod Masks
 pub mod Records

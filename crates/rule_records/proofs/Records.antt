@@ -1,22 +1,20 @@
--- Laws of one record: what its frame tells, and what a reading that is no refusal tells.
-use mathlib.Core.Path.{◌≡◌, refl, sym, ap, ap₂, ◌∙◌}
+-- Laws of one record: what a reading that is no refusal tells.
+use mathlib.Core.Path.{◌≡◌, refl, sym}
 use mathlib.Core.List.{List, [], ◌∷◌, ◌++◌}
 use mathlib.Core.Bool.{Bool, true, false, not, ◌&&◌, and-eq-true_iff}
-use Prim.Native.Nat.{ℕ, ◌+◌, ◌-◌, ◌≤◌}
+use Prim.Native.Nat.{ℕ, ◌+◌, ◌≤◌}
 use native.Mathlib.Omega.{arith}
 use borrow.Author.Tests.{leb-true, eqb-true, not-false}
-use lib.Dec.{ltb, leb, eqb}
-use lib.ListN.{length, get_or, drop}
+use lib.Dec.{leb, eqb}
+use lib.ListN.{get_or}
 use Rattle.meaning.specs.Bytes.{u16_at}
-use Rattle.meaning.specs.RuleFiles.{body_length, length_fits, temporal, operands_fit, ranges_fit, first_of, frame_checks, node_at, header_of, reading_of}
+use Rattle.meaning.specs.RuleFiles.{body_length, length_fits, temporal, operands_fit, ranges_fit, frame_checks, node_at, header_of, reading_of}
 use Rattle.meaning.specs.declared.Node.{Node}
 use Rattle.meaning.specs.declared.Header.{Header}
 use Rattle.meaning.specs.declared.Refusal.{Refusal}
-use Rattle.meaning.specs.declared.Refusal.TheVariants.{Truncated, WrongLength, WrongSignals, WrongCount, WrongOperand, OutOfRange, EighthTemporal}
-use Rattle.rule_nodes.proofs.Shapes.{within}
-use Rattle.rule_records.specs.Frames.{framed_of}
-use Rattle.rule_records.specs.declared.Framed.TheVariants as Framed
-use Rattle.rule_records.proofs.Checks.{Cleared, cleared-append, first-refused, first-none, first-cleared, first-handed, fails_at, refusal_at}
+use Rattle.meaning.specs.declared.Refusal.TheVariants.{WrongSignals, WrongCount, WrongOperand, OutOfRange, EighthTemporal}
+use Rattle.rule_nodes.proofs.Ranges.{within}
+use Rattle.rule_records.proofs.Checks.{first-cleared}
 use Rattle.std.proofs.Common.{Ok, Err}
 
 -- the checks of the first record, and of a node's
@@ -36,40 +34,6 @@ node_checks b P p number seen =
     ∷ (temporal n.kind && leb 7 seen, EighthTemporal p)
     ∷ [])
 
--- the checks of a frame before others
-abbrev framing : List (Bool × Refusal) → ℕ → List ℕ → List (Bool × Refusal)
-framing ds p b = (ltb (length b - p) 2, Truncated p) ∷ (ltb (u16_at b p) 2, WrongLength p) ∷ (ltb (length b - p) (2 + u16_at b p), Truncated p) ∷ ds
-
--- ---- the frame
-
-pub record Frame (b : List ℕ) (p l k : ℕ) : Type 0 where
-  pub length-is : l ≡ u16_at b p
-  pub kind-is : k ≡ u16_at b (p + 2)
-  pub clear : (ds : List (Bool × Refusal)) → Cleared (framing ds p b) 3
-
-module _ (b : List ℕ) (p : ℕ) where
-  pub framed-record : (l k : ℕ) → framed_of b p ≡ Framed.Record l k → Frame b p l k
-  unfolding framed_of
-  framed-record l k e =
-      let f = first-cleared Framed.Refused (Framed.Record (u16_at b p) (u16_at b (p + 2))) (Framed.Record l k) other (framing [] p b) e in
-      let q = f.1 in
-      record { length-is = cc; kind-is = cc; clear = λ ds. cleared-append (framing [] p b) ds f.0 }
-    where
-      other : (r : Refusal) → Framed.Refused r ≡ Framed.Record l k → ⊥
-      other r e = let z : ◌≡◌ {A = ℕ} 0 1 = cc in omega arith
-
-  pub framed-refused : {A : Type 0} (refuse : Refusal → A) (x : A) (r : Refusal) (ds : List (Bool × Refusal)) → framed_of b p ≡ Framed.Refused r
-      → first_of refuse (framing ds p b) x ≡ refuse r
-  unfolding framed_of
-  framed-refused refuse x r ds e =
-      first-handed Framed.Refused refuse (Framed.Record (u16_at b p) (u16_at b (p + 2))) x r other same (framing [] p b) ds e
-    where
-      other : Framed.Refused r ≡ Framed.Record (u16_at b p) (u16_at b (p + 2)) → ⊥
-      other e = let z : ◌≡◌ {A = ℕ} 0 1 = cc in omega arith
-
-      same : (q : Refusal) → Framed.Refused q ≡ Framed.Refused r → q ≡ r
-      same q e = cc
-
 -- ---- the first record
 
 and_right : (s t : Bool) → not (s && t) ≡ false → t ≡ true
@@ -80,21 +44,6 @@ and_right false false e = sym e
 module _ (b : List ℕ) where
   abbrev header_at : Header
   header_at = record { signals = get_or b 4 0; nodes = get_or b 5 0 }
-
-  pub header-framed : (r : Refusal) → framed_of b 0 ≡ Framed.Refused r → Err r ≡ header_of b
-  unfolding header_of
-  header-framed r e = sym (framed-refused b 0 Err (Ok header_at) r (drop 3 (header_checks b)) e)
-
-  pub header-clear : {l k : ℕ} → Frame b 0 l k → Cleared (header_checks b) 3
-  header-clear f = f.clear (drop 3 (header_checks b))
-
-  pub header_refused : {i : ℕ} → Cleared (header_checks b) i → fails_at (header_checks b) i ≡ true → Err (refusal_at (header_checks b) i) ≡ header_of b
-  unfolding header_of
-  header_refused {i} h q = sym (first-refused Err (Ok header_at) (header_checks b) i h q)
-
-  pub header_read : Cleared (header_checks b) 7 → (h : Header) → h.signals ≡ get_or b 4 0 → h.nodes ≡ get_or b 5 0 → Ok h ≡ header_of b
-  unfolding header_of
-  header_read f h p q = let e : h ≡ header_at = ap₂ (λ (s n : ℕ). record { signals = s; nodes = n }) p q in ap Ok e ∙ sym (first-none Err (Ok header_at) (header_checks b) f)
 
   pub header-few : (h : Header) → header_of b ≡ Ok h → (h.signals ≤ 4) × (h.nodes ≤ 64)
   unfolding header_of
@@ -108,7 +57,7 @@ module _ (b : List ℕ) where
       )
     where
       other : (r : Refusal) → Err r ≡ Ok h → ⊥
-      other r e = let z : ◌≡◌ {A = ℕ} 0 1 = cc in omega arith
+      other r e = cc
 
 -- ---- a node's record
 
@@ -127,21 +76,6 @@ module _ (b : List ℕ) (P p number seen : ℕ) where
   abbrev checks : List (Bool × Refusal)
   checks = node_checks b P p number seen
 
-  pub node-framed : (r : Refusal) → framed_of b p ≡ Framed.Refused r → Err r ≡ reading_of b P p number seen
-  unfolding reading_of
-  node-framed r e = sym (framed-refused b p Err (Ok (node_at b p)) r (drop 3 checks) e)
-
-  pub node-clear : {l k : ℕ} → Frame b p l k → Cleared checks 3
-  node-clear f = f.clear (drop 3 checks)
-
-  pub node-refused : {i : ℕ} → Cleared checks i → fails_at checks i ≡ true → Err (refusal_at checks i) ≡ reading_of b P p number seen
-  unfolding reading_of
-  node-refused {i} h q = sym (first-refused Err (Ok (node_at b p)) checks i h q)
-
-  pub node-read : Cleared checks 8 → (n : Node) → n ≡ node_at b p → Ok n ≡ reading_of b P p number seen
-  unfolding reading_of
-  node-read f n e = ap Ok e ∙ sym (first-none Err (Ok (node_at b p)) checks f)
-
   -- what a record that is read as n tells
   pub record Told (n : Node) : Type 0 where
     pub kind : n.kind ≤ 13
@@ -157,4 +91,4 @@ module _ (b : List ℕ) (P p number seen : ℕ) where
       record { kind = omega arith; length = short (u16_at b (p + 2)) (u16_at b p) few (not-false _ (f.0.none 4 (omega arith))) }
     where
       other : (r : Refusal) → Err r ≡ Ok n → ⊥
-      other r e = let z : ◌≡◌ {A = ℕ} 0 1 = cc in omega arith
+      other r e = cc

@@ -3,130 +3,112 @@
 
 ghost use Rattle.std.specs.Prelude.{◌≡◌, ◌≤◌, ◌<◌};
 ghost use Rattle.meaning.specs.RuleFiles.{header_of, mask_of, reading_of};
-ghost use Rattle.rule_records.specs.Frames.{framed_of, refusal_in};
+ghost use Rattle.rule_records.specs.Frames.{framed_of};
 
 use events::full_mask;
-use meaning::{Header, HeaderReading, MaskReading, Reading, Refusal};
+use meaning::{Header, Mask, Node, Refusal};
 use rule_nodes::{eighth, length_fits, node_at, out_of_range, shape_of, wrong_operand};
-use wire::{byte_at, u16_at, wide16};
+use wire::{byte_at, u16_at};
 
 // A record's length and kind, once it is known to lie within the bytes.
 #[derive(Clone, Copy)]
-enum Framed {
-    Record { length: u16, kind: u16 },
-    Refused(Refusal),
+struct Frame {
+    length: u16,
+    kind: u16,
 }
 
-fn frame(b: &[u8], p: usize) -> Framed
+#[tactic(auto, unfolding(crate::specs::Frames::framed_of))]
+fn frame_at(b: &[u8], p: usize) -> Result<Frame, Refusal>
     requires { p < 65536 }
     ensures { result ≡ framed_of b.now p }
 {
     if b.len() < p + 2 {
-        return Framed::Refused(Refusal::Truncated(p));
+        return Err(Refusal::Truncated(p));
     }
     let length = u16_at(b, p);
     if length < 2 {
-        return Framed::Refused(Refusal::WrongLength(p));
+        return Err(Refusal::WrongLength(p));
     }
-    if b.len() < p + 2 + wide16(length) {
-        return Framed::Refused(Refusal::Truncated(p));
+    if b.len() < p + 2 + usize::from(length) {
+        return Err(Refusal::Truncated(p));
     }
     let kind = u16_at(b, p + 2);
-    Framed::Record { length, kind }
-}
-
-// Hands on the refusal of a frame.
-fn refusal_in(framed: Framed) -> Refusal
-    ensures { result ≡ refusal_in framed }
-{
-    match framed {
-        Framed::Record { length: _, kind: _ } => Refusal::Truncated(0),
-        Framed::Refused(refusal) => refusal,
-    }
+    Ok(Frame { length, kind })
 }
 
 // The first record.
-pub fn read_header(b: &[u8]) -> HeaderReading
+#[tactic(auto, unfolding(crate::specs::Frames::framed_of, meaning::specs::RuleFiles::header_of))]
+pub fn read_header(b: &[u8]) -> Result<Header, Refusal>
     ensures { result ≡ header_of b.now }
 {
-    let framed = frame(b, 0);
-    let Framed::Record { length, kind } = framed else {
-        return HeaderReading::Refused(refusal_in(framed));
-    };
+    let Frame { length, kind } = frame_at(b, 0)?;
     if kind != 256 {
-        return HeaderReading::Refused(Refusal::WrongKind(0));
+        return Err(Refusal::WrongKind(0));
     }
     if length != 4 {
-        return HeaderReading::Refused(Refusal::WrongLength(0));
+        return Err(Refusal::WrongLength(0));
     }
     let signals = byte_at(b, 4);
-    if signals < 1 {
-        return HeaderReading::Refused(Refusal::WrongSignals);
-    }
-    if 4 < signals {
-        return HeaderReading::Refused(Refusal::WrongSignals);
+    if !(1..=4).contains(&signals) {
+        return Err(Refusal::WrongSignals);
     }
     let nodes = byte_at(b, 5);
-    if nodes < 1 {
-        return HeaderReading::Refused(Refusal::WrongCount);
+    if !(1..=64).contains(&nodes) {
+        return Err(Refusal::WrongCount);
     }
-    if 64 < nodes {
-        return HeaderReading::Refused(Refusal::WrongCount);
-    }
-    HeaderReading::Header(Header { signals, nodes })
+    Ok(Header { signals, nodes })
 }
 
 // What stands between the first record and the nodes: the mask's record, or nothing, and then all events can happen.
-pub fn read_mask(b: &[u8], signals: u8) -> MaskReading
+#[tactic(auto, unfolding(crate::specs::Frames::framed_of, meaning::specs::RuleFiles::mask_of))]
+pub fn read_mask(b: &[u8], signals: u8) -> Result<Mask, Refusal>
     requires { signals ≤ 4 }
     ensures { result ≡ mask_of b.now signals }
 {
+    let all = full_mask(signals);
     if u16_at(b, 8) != 257 {
-        let mask = full_mask(signals);
-        return MaskReading::Mask { mask, nodes_at: 6 };
+        return Ok(Mask {
+            mask: all,
+            nodes_at: 6,
+        });
     }
-    let framed = frame(b, 6);
-    let Framed::Record { length: n, kind: _ } = framed else {
-        return MaskReading::Refused(refusal_in(framed));
-    };
-    if n != 4 {
-        return MaskReading::Refused(Refusal::WrongLength(6));
+    if frame_at(b, 6)?.length != 4 {
+        return Err(Refusal::WrongLength(6));
     }
     let mask = u16_at(b, 10);
-    if full_mask(signals) < mask {
-        return MaskReading::Refused(Refusal::OutOfRange(6));
+    if all < mask {
+        return Err(Refusal::OutOfRange(6));
     }
-    if mask < 1 {
-        return MaskReading::Refused(Refusal::NoEvent(6));
+    if mask == 0 {
+        return Err(Refusal::NoEvent(6));
     }
-    MaskReading::Mask { mask, nodes_at: 12 }
+    Ok(Mask { mask, nodes_at: 12 })
 }
 
 // The record at p, of the node with this number, after so many temporal ones.
-pub fn read_node(b: &[u8], signals: u8, p: usize, number: u8, seen: u8) -> Reading
+#[tactic(auto, unfolding(crate::specs::Frames::framed_of, meaning::specs::RuleFiles::reading_of))]
+pub fn read_node(b: &[u8], signals: u8, p: usize, number: u8, seen: u8) -> Result<Node, Refusal>
     requires { (signals ≤ 4) × (p < 65536) }
     ensures { result ≡ reading_of b.now signals p number seen }
 {
-    let framed = frame(b, p);
-    let Framed::Record { length, kind } = framed else {
-        return Reading::Refused(refusal_in(framed));
-    };
+    let Frame { length, kind } = frame_at(b, p)?;
     if 13 < kind {
-        return Reading::Refused(Refusal::WrongKind(p));
+        return Err(Refusal::WrongKind(p));
     }
-    let shape = shape_of(kind as u8);
-    if !length_fits(kind as u8, shape.body, length) {
-        return Reading::Refused(Refusal::WrongLength(p));
+    let kind = kind as u8;
+    let shape = shape_of(kind);
+    if !length_fits(kind, shape.body, length) {
+        return Err(Refusal::WrongLength(p));
     }
-    let node = node_at(b, p, kind as u8, shape.body, length);
+    let node = node_at(b, p, kind, shape.body, length);
     if wrong_operand(node, shape.operands, number) {
-        return Reading::Refused(Refusal::WrongOperand(p));
+        return Err(Refusal::WrongOperand(p));
     }
     if out_of_range(node, signals) {
-        return Reading::Refused(Refusal::OutOfRange(p));
+        return Err(Refusal::OutOfRange(p));
     }
     if eighth(shape.temporal, seen) {
-        return Reading::Refused(Refusal::EighthTemporal(p));
+        return Err(Refusal::EighthTemporal(p));
     }
-    Reading::Node(node)
+    Ok(node)
 }
