@@ -16,7 +16,7 @@ use Rattle.rule_records.proofs.Checks.{Cleared, first-cleared}
 use Rattle.grammar.specs.Signs.{Signs}
 use Rattle.rule_bytes.proofs.RoundTrip.{reads-back}
 use Rattle.rule_bytes.proofs.Trees.{tree-rule}
-use Rattle.std.proofs.Common.{Result}
+use Rattle.std.proofs.Common.{Result, Ok, Err}
 
 -- the file of a tree over P signals has n bytes, for which there is room, and is accepted
 pub record AcceptedFile (P room : ℕ) (t : Tree) (n : ℕ) : Type 0 where

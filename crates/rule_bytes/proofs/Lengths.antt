@@ -17,13 +17,13 @@ use Rattle.meaning.specs.declared.Node.{Node}
 use Rattle.meaning.specs.declared.Header.{Header}
 use Rattle.meaning.specs.declared.Refusal.{Refusal}
 use Rattle.meaning.specs.declared.Refusal.TheVariants.{TrailingBytes}
-use Rattle.rule_nodes.proofs.Shapes.{Each, within}
+use Rattle.rule_nodes.proofs.Ranges.{Each, within}
 use Rattle.rule_records.proofs.Records.{header-few, node-told}
 use Rattle.rule_records.proofs.Masks.{mask-near}
 use Rattle.rule_file.proofs.Nodes.{judged, judged-refused, judged-mask-refused}
 use Rattle.grammar.specs.Signs.{Signs}
 use Rattle.rule_bytes.specs.WellFormed.{longest_accepted}
-use Rattle.std.proofs.Common.{Result}
+use Rattle.std.proofs.Common.{Result, Ok, Err}
 use Rattle.meaning.specs.declared.Mask.{Mask}
 
 pub bytes-append : (ns ms : List Node) → nodes_bytes (ns ++ ms) ≡ nodes_bytes ns ++ nodes_bytes ms
@@ -99,8 +99,8 @@ accepted-file b r e = go (header_of b) refl
     refused y f = let z : ◌≡◌ {A = ℕ} 0 1 = cc in absurd (omega arith)
 
     after : (h : Header) → header_of b ≡ Ok h → (x : Result Mask Refusal) → mask_of b h.signals ≡ x → length b ≤ longest_accepted
-    after h q (Ok m p) o =
-        omega (arith, accepted-from h.nodes b h.signals m p [] r (sym (judged b h q m p o) ∙ e), (header-few b h q).1, mask-near b h.signals m p o)
+    after h q (Ok m) o =
+        omega (arith, accepted-from h.nodes b h.signals m.mask m.nodes_at [] r (sym (judged b h q m o) ∙ e), (header-few b h q).1, mask-near b h.signals m o)
     after h q (Err y) o = refused y (judged-mask-refused b h q y o)
 
     go : (x : Result Header Refusal) → header_of b ≡ x → length b ≤ longest_accepted

@@ -7,7 +7,7 @@ use native.Mathlib.Omega.{arith}
 use lib.ListN.{length, get_or, take, length-append}
 use lib.Seq.{get_or-append-add, length-take-le, append_snoc}
 use lib.Dec.{leb, eqb}
-use borrow.Author.Tests.{leb-true, eqb-true, le-ltb, le-leb, lt-leb}
+use borrow.Author.Tests.{leb-true, eqb-true, eq-eqb, le-ltb, le-leb, lt-leb}
 use Rattle.meaning.specs.Bytes.{u16_at}
 use Rattle.meaning.specs.Traces.{full_mask}
 use Rattle.meaning.specs.RuleFiles.{Rule, Accepted, body_length, length_fits, upper_at, operands_fit, ranges_fit, temporal, temporals, first_of, frame_checks, header_of, mask_of, node_at, reading_of, nodes_from, judge}
@@ -16,8 +16,7 @@ use Rattle.meaning.specs.declared.Node.{Node}
 use Rattle.meaning.specs.declared.Refusal.{Refusal}
 use Rattle.meaning.specs.declared.Refusal.TheVariants.{WrongOperand, OutOfRange, EighthTemporal}
 use Rattle.rule_nodes.specs.Shapes.{node_of}
-use Rattle.rule_nodes.proofs.Shapes.{Each, within}
-use Rattle.rule_nodes.proofs.Fits.{length-own}
+use Rattle.rule_nodes.proofs.Ranges.{Each, within}
 use Rattle.rule_records.proofs.Checks.{Cleared, fails_at, first-none}
 use Rattle.rule_records.proofs.Records.{header_checks}
 use Rattle.rule_records.proofs.Masks.{mask-absent}
@@ -123,7 +122,7 @@ module _ (front rest : List ℕ) (n : Node) where
               (
                 ap not (le-leb n.kind 13 h.kind),
                 (
-                  ap not (sym (length-own n.kind (u16_at file p) length_back)),
+                  rw (eq-eqb (u16_at file p) (2 + body_length n.kind) length_back),
                   (ap not h.operands, (ap not e, (not-eighth (temporal n.kind) seen l, tt))),
                 ),
               ),
@@ -172,7 +171,7 @@ nodes-back P m (n ∷ ns) front earlier h e l =
 
 -- the kind of the first node, whose record is at 6, is not the mask's
 mask-back : (P m : ℕ) (front : List ℕ) (n : Node) (rest : List ℕ) → length front ≡ 6 → n.kind ≤ 13 → m ≡ full_mask P
-    → mask_of (front ++ (node_bytes n ++ rest)) P ≡ Ok m 6
+    → mask_of (front ++ (node_bytes n ++ rest)) P ≡ Ok (record { mask = m; nodes_at = 6 })
 mask-back P m front n rest e h q =
     let file : List ℕ = front ++ (node_bytes n ++ rest) in
     let kind : u16_at file 8 ≡ n.kind = ap (λ (i : ℕ). u16_at file (i + 2)) (sym e) ∙ kind-back front rest n in
@@ -188,7 +187,7 @@ all_back P m (n ∷ ns) h =
     let front : List ℕ = 4 ∷ 0 ∷ 0 ∷ 1 ∷ P ∷ N ∷ [] in
     judged (front ++ nodes_bytes (n ∷ ns)) (record { signals = P; nodes = N })
     (header-back P N (nodes_bytes (n ∷ ns)) (omega (arith, h.signals_low)) (omega (arith, h.signals_high)) (omega (arith, h.count_low)) (omega (arith, h.count_high)))
-    m 6 (mask-back P m front n (nodes_bytes ns) refl h.formed.0.kind (omega (arith, h.mask_unsaid)))
+    (record { mask = m; nodes_at = 6 }) (mask-back P m front n (nodes_bytes ns) refl h.formed.0.kind (omega (arith, h.mask_unsaid)))
     ∙ nodes-back P m (n ∷ ns) front [] h.formed h.in_range (omega (arith, h.temporal_few))
 
 pub reads-back : (r : Rule) → WellFormed r → judge (rule_bytes r) ≡ Accepted r

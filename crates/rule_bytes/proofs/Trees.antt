@@ -13,7 +13,7 @@ use Rattle.meaning.specs.RuleFiles.{body_length, operands, temporals, formula_of
 use Rattle.meaning.specs.Grammar.{Tree, leaf, pre, bin}
 use Rattle.meaning.specs.RuleTexts.{tree_formula, kind_of, node, size, nodes_of, rule_of, any_out_of_range}
 use Rattle.meaning.specs.declared.Node.{Node}
-use Rattle.rule_nodes.proofs.Shapes.{within}
+use Rattle.rule_nodes.proofs.Ranges.{within}
 use Rattle.grammar.specs.Signs.{Signs}
 use Rattle.grammar.proofs.Trees.{size-some, nodes-length}
 use Rattle.rule_bytes.specs.WellFormed.{Formed, AllFormed, KindsFit, WellFormed}
