@@ -5,6 +5,8 @@ use Prim.Native.Nat.{ℕ, suc, ◌≤◌, ◌<◌}
 use native.Mathlib.Omega.{arith}
 use lib.ListN.{get_or, get_or-eq_default}
 use lib.Bits.{bit_and, bit_or}
+use Rattle.std.proofs.Common.{bit_xor}
+use Rattle.node_words.proofs.Lanewise.{Flipped, on_xor, every-on}
 use Rattle.meaning.specs.declared.Node.{Node}
 use Rattle.ltl.specs.Sets.{on}
 use Rattle.ltl.proofs.Sets.{on-zero, on_and, on_or}
@@ -12,26 +14,18 @@ use Rattle.ltl.specs.Nodes.{Split, plain, falsum, at_least, kinds}
 use Rattle.ltl.specs.Valuation.{plain_value}
 use Rattle.node_words.specs.declared.Words.{Words}
 use Rattle.node_words.specs.Bits.{plain_bits, temporal_bits, bits_of}
-use Rattle.node_words.specs.Words.{Lanes, lane_of, plain_words, promise_words, Flipped, Everywhere}
+use Rattle.node_words.specs.Words.{Lanes, lane_of, plain_words, promise_words, Everywhere}
 
 -- a number that is none of those before j, nor j
 pub past : (j k : ℕ) → j ≤ k → (k ≡ j → ⊥) → suc j ≤ k
 past j k h n = omega arith
 
-iff-bits : (a b : Bool) → ((a && b) || not (a || b)) ≡ beq a b
-iff-bits true true = refl
-iff-bits true false = refl
-iff-bits false true = refl
-iff-bits false false = refl
-
-xor-bits : (a b : Bool) → ((a || b) && not (a && b)) ≡ not (beq a b)
-xor-bits true true = refl
-xor-bits true false = refl
-xor-bits false true = refl
-xor-bits false false = refl
+twice-not : (a : Bool) → not (not a) ≡ a
+twice-not true = refl
+twice-not false = refl
 
 plain_lane : (W l : ℕ) (v : Bool) → on W l ≡ v → lane_of (plain_words W) l ≡ plain_bits v
-plain_lane W l v q = rw (q, on-zero l)
+plain_lane W l v q = ap plain_bits q
 
 promise-lane : (W Y F l : ℕ) (v y f : Bool) → on W l ≡ v → on Y l ≡ y → on F l ≡ f → lane_of (promise_words W Y F) l ≡ temporal_bits v y f
 promise-lane W Y F l v y f p q r = rw (p, q, r)
@@ -40,7 +34,7 @@ promise-lane W Y F l v y f p q r = rw (p, q, r)
 abbrev kind_at : Node → ℕ → Split
 kind_at n j = get_or (kinds n.a n.b n.upper) j (plain falsum)
 
-module _ (e a b x : ℕ) (n : Node) {r : Words} where
+module _ {e a b x : ℕ} {n : Node} {r : Words} where
   -- the words of a node of kind j with the same operands
   by_kind : (j : ℕ) → n.kind ≡ j → {w : Words} → r ≡ w
       → ((v l : ℕ) → l < 64 → on a l ≡ on v n.a → on b l ≡ on v n.b → lane_of w l ≡ bits_of v e (on x l) (kind_at n j)) → Lanes e a b x n r
@@ -56,8 +50,8 @@ module _ (e a b x : ℕ) (n : Node) {r : Words} where
   pub falsum-words : n.kind ≡ 0 → r ≡ plain_words 0 → Lanes e a b x n r
   falsum-words k q = by_kind 0 k q (λ v l m p s. plain_lane 0 l false (on-zero l))
 
-  pub verum-words : n.kind ≡ 1 → (W : ℕ) → Everywhere true W → r ≡ plain_words W → Lanes e a b x n r
-  verum-words k W h q = by_kind 1 k q (λ v l m p s. plain_lane W l true (h.all l m))
+  pub verum-words : n.kind ≡ 1 → r ≡ plain_words 18446744073709551615 → Lanes e a b x n r
+  verum-words k q = by_kind 1 k q (λ v l m p s. plain_lane 18446744073709551615 l true (every-on.all l m))
 
   pub signal-words : n.kind ≡ 2 → (W : ℕ) → Everywhere (on e n.a) W → r ≡ plain_words W → Lanes e a b x n r
   signal-words k W h q = by_kind 2 k q (λ v l m p s. plain_lane W l (on e n.a) (h.all l m))
@@ -78,20 +72,16 @@ module _ (e a b x : ℕ) (n : Node) {r : Words} where
   implies-words k W h q = by_kind 7 k q
       (λ v l m p s. plain_lane (bit_or W b) l (not (on v n.a) || on v n.b) (on_or W b l ∙ ap₂ (λ (c d : Bool). c || d) (h.flip l m ∙ ap not p) s))
 
-  pub iff-words : n.kind ≡ 8 → (W : ℕ) → Flipped (bit_or a b) W → r ≡ plain_words (bit_or (bit_and a b) W) → Lanes e a b x n r
+  pub iff-words : n.kind ≡ 8 → (W : ℕ) → Flipped (bit_xor a b) W → r ≡ plain_words W → Lanes e a b x n r
   iff-words k W h q = by_kind 8 k q
-      (λ v l m p s. plain_lane (bit_or (bit_and a b) W) l (beq (on v n.a) (on v n.b))
-      (on_or (bit_and a b) W l ∙ ap₂ (λ (c d : Bool). c || d) (on_and a b l) (h.flip l m ∙ ap not (on_or a b l))
-      ∙ iff-bits (on a l) (on b l) ∙ ap₂ beq p s))
+      (λ v l m p s. plain_lane W l (beq (on v n.a) (on v n.b)) (h.flip l m ∙ ap not (on_xor a b l) ∙ twice-not (beq (on a l) (on b l)) ∙ ap₂ beq p s))
 
-  pub xor-words : n.kind ≡ 9 → (W : ℕ) → Flipped (bit_and a b) W → r ≡ plain_words (bit_and (bit_or a b) W) → Lanes e a b x n r
-  xor-words k W h q = by_kind 9 k q
-      (λ v l m p s. plain_lane (bit_and (bit_or a b) W) l (not (beq (on v n.a) (on v n.b)))
-      (on_and (bit_or a b) W l ∙ ap₂ (λ (c d : Bool). c && d) (on_or a b l) (h.flip l m ∙ ap not (on_and a b l))
-      ∙ xor-bits (on a l) (on b l) ∙ ap not (ap₂ beq p s)))
+  pub xor-words : n.kind ≡ 9 → r ≡ plain_words (bit_xor a b) → Lanes e a b x n r
+  xor-words k q = by_kind 9 k q
+      (λ v l m p s. plain_lane (bit_xor a b) l (not (beq (on v n.a) (on v n.b))) (on_xor a b l ∙ ap not (ap₂ beq p s)))
 
-  pub next-words : n.kind ≡ 10 → (W : ℕ) → Everywhere true W → r ≡ promise_words x a W → Lanes e a b x n r
-  next-words k W h q = by_kind 10 k q (λ v l m p s. promise-lane x a W l (on x l) (on v n.a) true refl p (h.all l m))
+  pub next-words : n.kind ≡ 10 → r ≡ promise_words x a 18446744073709551615 → Lanes e a b x n r
+  next-words k q = by_kind 10 k q (λ v l m p s. promise-lane x a 18446744073709551615 l (on x l) (on v n.a) true refl p (every-on.all l m))
 
   pub until-words : n.kind ≡ 11 → (W : ℕ) → Flipped (bit_or b (bit_and a x)) W → r ≡ promise_words (bit_or b (bit_and a x)) (bit_or b (bit_and a x)) (bit_or W b) → Lanes e a b x n r
   until-words k W h q = by_kind 11 k q (λ v l m p s. promise-lane (bit_or b (bit_and a x)) (bit_or b (bit_and a x)) (bit_or W b) l _ _ _

@@ -1,45 +1,55 @@
 -- Bits of words: a bit for each of 64 labels.
 use mathlib.Core.Path.{◌≡◌, refl, sym, ap, ◌∙◌}
 use mathlib.Core.Bool.{Bool, true, false, not, beq, false≢true}
-use Prim.Native.Nat.{ℕ, zero, suc, ◌+◌, ◌/◌, ◌%◌, ◌^◌, ◌≤◌, ◌<◌}
-use native.Mathlib.Nat.{pow-suc}
+use Prim.Native.Nat.{ℕ, zero, suc, ◌+◌, ◌-◌, ◌%◌, ◌^◌, ◌≤◌, ◌<◌}
+use Rattle.std.specs.Int.{w64, bit_not, bit_at}
+use Rattle.std.proofs.Common.{bit_xor}
+use Rattle.std.proofs.lemmas.Nat.Bits.{bit_at-lt, bit_at_not, bit_at_xor, bit_at_ones}
 use native.Mathlib.Decide.{ℕ_discrete}
 use native.Mathlib.Omega.{arith}
 use lib.Dec.{eqb}
+use Rattle.std.proofs.Common.{nat_lt}
+use Rattle.std.proofs.lemmas.Bool.{le-ltb}
 use Rattle.ltl.specs.Sets.{on, every_below}
-use Rattle.ltl.proofs.Sets.{on-first, on-suc, on-zero, on_out}
-use Rattle.node_words.specs.Words.{label_of, Flipped, Everywhere, LabelBits}
+use Rattle.ltl.proofs.Sets.{on-zero, on_out}
+use Rattle.node_words.specs.Words.{label_of, Everywhere, LabelBits}
 
 -- a word has no bit past 63
-pub on-past : (A i : ℕ) → A < 2 ^ 64 → 64 ≤ i → false ≡ on A i
-on-past A i h l = sym (on_out A 64 i h l)
+pub on-past : (A i : ℕ) → A < 2 ^ 64 → 64 ≤ i → nat_lt i 64 ≡ on A i
+on-past A i h l = le-ltb i 64 l ∙ sym (on_out A 64 i h l)
 
 -- ---- all bits turned round
 
-other-digit : (x y : ℕ) → x + y ≡ 1 → eqb x 1 ≡ not (eqb y 1)
-other-digit zero zero h = absurd (omega arith)
-other-digit zero (suc zero) h = refl
-other-digit (suc zero) zero h = refl
-other-digit zero (suc (suc y)) h = absurd (omega arith)
-other-digit (suc zero) (suc y) h = absurd (omega arith)
-other-digit (suc (suc x)) y h = absurd (omega arith)
+-- r has the bits that a has not
+pub record Flipped (a r : ℕ) : Type 0 where
+  pub flip : (l : ℕ) → l < 64 → on r l ≡ not (on a l)
 
--- A and B add up to all ones below k
-turned : (k A B l : ℕ) → A + B + 1 ≡ 2 ^ k → l < k → on A l ≡ not (on B l)
-turned zero A B l h m = absurd (omega arith)
-turned (suc k) A B zero h m = on-first A ∙ other-digit (A % 2) (B % 2) (omega (arith, pow-suc 2 k)) ∙ ap not (sym (on-first B))
-turned (suc k) A B (suc l) h m = on-suc A l ∙ turned k (A / 2) (B / 2) l (omega (arith, pow-suc 2 k)) (omega arith) ∙ ap not (sym (on-suc B l))
+other-digit : (x : ℕ) → x < 2 → eqb (1 - x) 1 ≡ not (eqb x 1)
+other-digit zero h = refl
+other-digit (suc zero) h = refl
+other-digit (suc (suc x)) h = absurd (omega arith)
 
-pub flipped : (a r : ℕ) → r + a + 1 ≡ 2 ^ 64 → Flipped a r
-flipped a r h = record { flip = λ l m. turned 64 r a l h m }
+pub flipped : (a : ℕ) → a < 2 ^ 64 → Flipped a (bit_not w64 a)
+flipped a h = record { flip = λ l m. ap (λ (x : ℕ). eqb x 1) (bit_at_not w64 a l h m) ∙ other-digit (bit_at a l) (bit_at-lt a l) }
+
+-- ---- the bits that two words have not in common
+
+odd-digit : (x y : ℕ) → x < 2 → y < 2 → eqb ((x + y) % 2) 1 ≡ not (beq (eqb x 1) (eqb y 1))
+odd-digit zero zero p q = refl
+odd-digit zero (suc zero) p q = refl
+odd-digit (suc zero) zero p q = refl
+odd-digit (suc zero) (suc zero) p q = refl
+odd-digit zero (suc (suc y)) p q = absurd (omega arith)
+odd-digit (suc zero) (suc (suc y)) p q = absurd (omega arith)
+odd-digit (suc (suc x)) y p q = absurd (omega arith)
+
+pub on_xor : (a b l : ℕ) → on (bit_xor a b) l ≡ not (beq (on a l) (on b l))
+on_xor a b l = ap (λ (x : ℕ). eqb x 1) (bit_at_xor a b l) ∙ odd-digit (bit_at a l) (bit_at b l) (bit_at-lt a l) (bit_at-lt b l)
 
 -- ---- the same bit everywhere
 
 pub every-on : Everywhere true 18446744073709551615
-every-on = record { all = λ l m. turned 64 18446744073709551615 0 l refl m ∙ ap not (on-zero l) }
-
-pub every-off : Everywhere false 0
-every-off = record { all = λ l m. on-zero l }
+every-on = record { all = λ l m. ap (λ (x : ℕ). eqb x 1) (bit_at_ones 64 l m) }
 
 pub every-is : {b : Bool} {r : ℕ} → Everywhere b r → (c : Bool) → b ≡ c → Everywhere c r
 every-is h c q = record { all = λ l m. h.all l m ∙ q }

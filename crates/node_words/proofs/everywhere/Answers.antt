@@ -1,10 +1,7 @@
 -- `node_words::everywhere` meets its contract. All ones, or none.
-use Rattle.node_words.proofs.Lanewise.{every-is, every-on, every-off}
+use Rattle.node_words.proofs.Lanewise.{every-is, every-on}
 use mathlib.Core.Path.{sym}
 use Rattle.node_words.proofs.everywhere.Goals as goal
 
 pub returns-then-bit : goal.returns-then-bit
 returns-then-bit c = every-is every-on c.args.bit (sym c.if-bit.true)
-
-pub returns : goal.returns
-returns c = every-is every-off c.args.bit (sym c.if-bit.false)

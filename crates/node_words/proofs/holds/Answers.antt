@@ -3,5 +3,5 @@ use native.Mathlib.Omega.{arith}
 use Rattle.node_words.proofs.Lanewise.{on-past}
 use Rattle.node_words.proofs.holds.Goals as goal
 
-pub returns : goal.returns
-returns c = on-past c.args.set c.args.i (omega arith) (omega arith)
+pub returns-else-i-lt64 : goal.returns-else-i-lt64
+returns-else-i-lt64 c = on-past c.args.set c.args.i (omega arith) (omega arith)
