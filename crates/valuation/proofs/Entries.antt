@@ -21,15 +21,9 @@ entries-more {n = n} {f} {d} {row} {v} h q l = record { entry = λ i k. go i k (
 pub entries-to : {A : Type 0} {n : ℕ} {f : ℕ → A} {d : A} {row : List A} → Entries n f d row → (m : ℕ) → n ≡ m → Entries m f d row
 entries-to {f = f} {d} {row} h m e = subst (λ (k : ℕ). Entries k f d row) e h
 
-pub table_none : {n : ℕ} {f : ℕ → ℕ → ℕ} {rows : List (List ℕ)} → Table 0 n f rows
-table_none = record { entry = λ e y h l. absurd (omega arith) }
-
 pub table_more : {w n : ℕ} {f : ℕ → ℕ → ℕ} {rows : List (List ℕ)} {row : List ℕ} → Table w n f rows → Entries n (f w) 0 row → w < length rows → Table (w + 1) n f (set rows w row)
 table_more {w} {n} {f} {rows} {row} h q l = record { entry = λ e y k j. go e y k j (ℕ_discrete e w) }
   where
     go : (e y : ℕ) → e < w + 1 → y < n → Dec (e ≡ w) → get_or (get_or (set rows w row) e []) y 0 ≡ f e y
     go e y k j (yes p) = rw (p, get_or-set_same rows w row [] l) (q.entry y j)
     go e y k j (no p) = rw (get_or-set_other rows w e row [] p) (h.entry e y (omega arith) j)
-
-pub table_to : {w n : ℕ} {f : ℕ → ℕ → ℕ} {rows : List (List ℕ)} → Table w n f rows → (m : ℕ) → w ≡ m → Table m n f rows
-table_to {n = n} {f} {rows} h m e = subst (λ (k : ℕ). Table k n f rows) e h

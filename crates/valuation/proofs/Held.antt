@@ -1,22 +1,30 @@
 -- Columns that hold the valuations of 64 labels: one node more.
-use mathlib.Core.Path.{◌≡◌, refl, sym, ap, ◌∙◌, subst}
-use mathlib.Core.Bool.{Bool, true, false, false≢true}
+use mathlib.Core.Path.{◌≡◌, refl, sym, ap, ap₂, ◌∙◌, subst}
+use mathlib.Core.Bool.{Bool, true, false, false≢true, ◌||◌}
 use mathlib.Core.List.{List, [], ◌∷◌}
-use Prim.Native.Nat.{ℕ, zero, suc, ◌+◌, ◌^◌, ◌<◌}
+use Prim.Native.Nat.{ℕ, zero, suc, ◌+◌, ◌*◌, ◌%◌, ◌^◌, ◌<◌}
 use native.Mathlib.Numerals.{add-one}
 use native.Mathlib.Decide.{ℕ_discrete}
 use native.Mathlib.Omega.{arith}
-use lib.ListN.{length, get_or, set}
+use lib.ListN.{length, get_or, set, length-set}
+use lib.Pow.{pow_pos}
+use lib.Bits.{bit_or}
+use mir.Val.{bool_byte}
+use native.Mathlib.Nat.{le_refl, pow-suc}
+use Rattle.std.proofs.lemmas.Nat.{one_shl, or_lt}
 use lib.Seq.{get_or-set_same, get_or-set_other}
 use Rattle.meaning.specs.declared.Node.{Node}
 use Rattle.ltl.specs.Sets.{on, put}
 use Rattle.ltl.specs.Nodes.{Split, plain, temporal, split}
 use Rattle.ltl.specs.Valuation as ltl
 use Rattle.ltl.specs.Valuation.{plain_value, temporal_value, label_bit, fair_bit, value, none}
-use Rattle.ltl.proofs.Sets.{on-zero, put-lt, put-here, put_other}
+use Rattle.ltl.proofs.Sets.{on-zero, on_or, on_out, put-lt, put-here, put_other}
+use Rattle.std.specs.Prelude.{Option, None, Some}
 use Rattle.node_words.specs.declared.Words.{Words}
+use Rattle.node_words.specs.declared.Promise.{Promise}
+use Rattle.valuation.specs.declared.Columns.{Columns}
 use Rattle.node_words.specs.Bits.{Bits, bits_of}
-use Rattle.node_words.specs.Words.{label_of, lane_of, Lanes, LabelBits}
+use Rattle.node_words.specs.Words.{label_of, lane, Lanes, LabelBits}
 use Rattle.valuation.specs.Columns.{Planes, State, Held, Advanced, Byte}
 
 -- ---- planes
@@ -49,17 +57,17 @@ planes-none z h = record { plane = λ l j m. ap (λ (A : ℕ). on A l) (zero-at 
 
 -- ---- valuations
 
-pub held_none : (values label fairs : List ℕ) → zeros values ≡ true → zeros label ≡ true → zeros fairs ≡ true → Held 0 0 (λ l. none) values label fairs
-held_none values label fairs p q r = record {
-  state = λ l. record { count = refl; temporals = refl; values = omega arith; label = omega arith; fairs = omega arith };
-  of_values = planes-none values p;
-  of_label = planes-none label q;
-  of_fairs = planes-none fairs r;
+pub held_none : (c : Columns) → c.temporals ≡ 0 → zeros c.values ≡ true → zeros c.label ≡ true → zeros c.fairs ≡ true → Held 0 (λ l. none) c
+held_none c t p q r = record {
+  state = λ l. record { count = refl; temporals = sym t; values = omega arith; label = pow_pos c.temporals; fairs = pow_pos c.temporals };
+  of_values = planes-none c.values p;
+  of_label = planes-none c.label q;
+  of_fairs = planes-none c.fairs r;
 }
 
-pub held_same : {i m : ℕ} {s t : ℕ → ltl.Valued} {values label fairs : List ℕ} → ((l : ℕ) → s l ≡ t l) → Held i m s values label fairs → Held i m t values label fairs
-held_same {i} {m} q h = record {
-  state = λ l. subst (State i m) (q l) (h.state l);
+pub held_same : {i : ℕ} {s t : ℕ → ltl.Valued} {c : Columns} → ((l : ℕ) → s l ≡ t l) → Held i s c → Held i t c
+held_same {i} {c = c} q h = record {
+  state = λ l. subst (State i c.temporals) (q l) (h.state l);
   of_values = planes-same (λ l. ap (λ (v : ltl.Valued). v.values) (q l)) h.of_values;
   of_label = planes-same (λ l. ap (λ (v : ltl.Valued). v.label) (q l)) h.of_label;
   of_fairs = planes-same (λ l. ap (λ (v : ltl.Valued). v.fairs) (q l)) h.of_fairs;
@@ -68,38 +76,38 @@ held_same {i} {m} q h = record {
 put-size : (c k : ℕ) (b : Bool) (A : ℕ) → c ≡ k → A < 2 ^ k → put c b A < 2 ^ (k + 1)
 put-size c k b A q h = rw (q, add-one) (put-lt k b A h)
 
-module _ (e : ℕ) (high : Bool) (i m x : ℕ) (w : Words) (bits : LabelBits high m x) (s : ℕ → ltl.Valued) (values label fairs : List ℕ) (h : Held i m s values label fairs) where
+module _ (e : ℕ) (high : Bool) (i x v : ℕ) (c : Columns) (bits : LabelBits high c.temporals x) (s : ℕ → ltl.Valued) (h : Held i s c) where
   -- the bit of the next label, as the valuation reads it
   next_bit : (l : ℕ) → l < 64 → on x l ≡ on (label_of high l) (s l).temporals
   next_bit l k = bits.bit l k ∙ ap (on (label_of high l)) (sym (h.state l).temporals)
 
-  -- w has the bits of the node n at each label
-  abbrev Said : Split → Type 0
-  Said n = (l : ℕ) → l < 64 → lane_of w l ≡ bits_of (s l).values e (on x l) n
+  -- the value v and the promise are the bits of the node n at each label
+  abbrev Said : Option Promise → Split → Type 0
+  Said o n = (l : ℕ) → l < 64 → lane v o l ≡ bits_of (s l).values e (on x l) n
 
-  held-temporal : (n : Split) → Said n → w.temporal ≡ true → i < length values → m < length label → m < length fairs
-      → Held (i + 1) (m + 1) (λ l. value e (label_of high l) (s l) n) (set values i w.value) (set label m w.label) (set fairs m w.fair)
-  held-temporal (plain p) said t a b c = absurd (false≢true (sym (ap (λ (z : Bits). z.temporal) (said 0 (omega arith))) ∙ t))
-  held-temporal (temporal n) said t a b c = record {
+  held-temporal : (n : Split) (p : Promise) → Said (Some p) n → i < length c.values → c.temporals < length c.label → c.temporals < length c.fairs
+      → Held (i + 1) (λ l. value e (label_of high l) (s l) n)
+      (record { values = set c.values i v; label = set c.label c.temporals p.label; fairs = set c.fairs c.temporals p.fair; temporals = c.temporals + 1 })
+  held-temporal (plain q) p said a b d = absurd (false≢true (sym (ap (λ (z : Bits). z.temporal) (said 0 (omega arith)))))
+  held-temporal (temporal n) p said a b d = record {
     state = λ l. record {
       count = omega (arith, (h.state l).count);
       temporals = omega (arith, (h.state l).temporals);
       values = put-size (s l).count i (temporal_value (s l).values (on (label_of high l) (s l).temporals) n) (s l).values (h.state l).count (h.state l).values;
-      label = put-size (s l).temporals m (label_bit (s l).values (on (label_of high l) (s l).temporals) n) (s l).label (h.state l).temporals (h.state l).label;
-      fairs = put-size (s l).temporals m (fair_bit (s l).values (on (label_of high l) (s l).temporals) n) (s l).fairs (h.state l).temporals (h.state l).fairs;
+      label = put-size (s l).temporals c.temporals (label_bit (s l).values (on (label_of high l) (s l).temporals) n) (s l).label (h.state l).temporals (h.state l).label;
+      fairs = put-size (s l).temporals c.temporals (fair_bit (s l).values (on (label_of high l) (s l).temporals) n) (s l).fairs (h.state l).temporals (h.state l).fairs;
     };
-    of_values = planes-put i w.value (λ l. (s l).count) (λ l. (h.state l).count) (λ l. temporal_value (s l).values (on (label_of high l) (s l).temporals) n) values a (λ l. (h.state l).values)
+    of_values = planes-put i v (λ l. (s l).count) (λ l. (h.state l).count) (λ l. temporal_value (s l).values (on (label_of high l) (s l).temporals) n) c.values a (λ l. (h.state l).values)
         (λ l k. ap (λ (z : Bits). z.value) (said l k) ∙ ap (λ (y : Bool). temporal_value (s l).values y n) (next_bit l k)) h.of_values;
-    of_label = planes-put m w.label (λ l. (s l).temporals) (λ l. (h.state l).temporals) (λ l. label_bit (s l).values (on (label_of high l) (s l).temporals) n) label b (λ l. (h.state l).label)
+    of_label = planes-put c.temporals p.label (λ l. (s l).temporals) (λ l. (h.state l).temporals) (λ l. label_bit (s l).values (on (label_of high l) (s l).temporals) n) c.label b (λ l. (h.state l).label)
         (λ l k. ap (λ (z : Bits). z.label) (said l k) ∙ ap (λ (y : Bool). label_bit (s l).values y n) (next_bit l k)) h.of_label;
-    of_fairs = planes-put m w.fair (λ l. (s l).temporals) (λ l. (h.state l).temporals) (λ l. fair_bit (s l).values (on (label_of high l) (s l).temporals) n) fairs c (λ l. (h.state l).fairs)
+    of_fairs = planes-put c.temporals p.fair (λ l. (s l).temporals) (λ l. (h.state l).temporals) (λ l. fair_bit (s l).values (on (label_of high l) (s l).temporals) n) c.fairs d (λ l. (h.state l).fairs)
         (λ l k. ap (λ (z : Bits). z.fair) (said l k) ∙ ap (λ (y : Bool). fair_bit (s l).values y n) (next_bit l k)) h.of_fairs;
   }
 
-  held_plain : (n : Split) → Said n → w.temporal ≡ false → i < length values
-      → Held (i + 1) m (λ l. value e (label_of high l) (s l) n) (set values i w.value) label fairs
-  held_plain (temporal n) said t a = absurd (false≢true (sym t ∙ ap (λ (z : Bits). z.temporal) (said 0 (omega arith))))
-  held_plain (plain p) said t a = record {
+  held_plain : (n : Split) → Said None n → i < length c.values → Held (i + 1) (λ l. value e (label_of high l) (s l) n) (record c { values = set c.values i v })
+  held_plain (temporal n) said a = absurd (false≢true (ap (λ (z : Bits). z.temporal) (said 0 (omega arith))))
+  held_plain (plain p) said a = record {
     state = λ l. record {
       count = omega (arith, (h.state l).count);
       temporals = (h.state l).temporals;
@@ -107,35 +115,45 @@ module _ (e : ℕ) (high : Bool) (i m x : ℕ) (w : Words) (bits : LabelBits hig
       label = (h.state l).label;
       fairs = (h.state l).fairs;
     };
-    of_values = planes-put i w.value (λ l. (s l).count) (λ l. (h.state l).count) (λ l. plain_value (s l).values e p) values a (λ l. (h.state l).values)
+    of_values = planes-put i v (λ l. (s l).count) (λ l. (h.state l).count) (λ l. plain_value (s l).values e p) c.values a (λ l. (h.state l).values)
         (λ l k. ap (λ (z : Bits). z.value) (said l k)) h.of_values;
     of_label = h.of_label;
     of_fairs = h.of_fairs;
   }
 
-module _ (e : ℕ) (high : Bool) (i m : ℕ) (n : Node) (values label fairs : List ℕ) (a b x : ℕ) (w : Words) (p : a ≡ get_or values n.a 0) (q : b ≡ get_or values n.b 0)
-    (bits : LabelBits high m x) (lanes : Lanes e a b x n w) where
-  said : (s : ℕ → ltl.Valued) → Held i m s values label fairs → (l : ℕ) → l < 64 → lane_of w l ≡ bits_of (s l).values e (on x l) (split n)
-  said s h l k = lanes.lane (s l).values l k (ap (λ (A : ℕ). on A l) p ∙ h.of_values.plane l n.a k) (ap (λ (A : ℕ). on A l) q ∙ h.of_values.plane l n.b k)
+module _ {e : ℕ} {high : Bool} {i : ℕ} {n : Node} {c : Columns} {a b x : ℕ} {w : Words} (p : a ≡ get_or c.values n.a 0) (q : b ≡ get_or c.values n.b 0)
+    (bits : LabelBits high c.temporals x) (lanes : Lanes e a b x n w) where
+  said : (o : Option Promise) → w.promise ≡ o → (s : ℕ → ltl.Valued) → Held i s c → (l : ℕ) → l < 64 → lane w.value o l ≡ bits_of (s l).values e (on x l) (split n)
+  said o t s h l k =
+      ap (λ (o : Option Promise). lane w.value o l) (sym t)
+      ∙ lanes.lane (s l).values l k (ap (λ (A : ℕ). on A l) p ∙ h.of_values.plane l n.a k) (ap (λ (A : ℕ). on A l) q ∙ h.of_values.plane l n.b k)
 
-  pub advanced-temporal : w.temporal ≡ true → i < length values → m < length label → m < length fairs
-      → Advanced e high i m n (m + 1) values label fairs (set values i w.value) (set label m w.label) (set fairs m w.fair)
-  advanced-temporal t k l o = record { next = λ s h. held-temporal e high i m x w bits s values label fairs h (split n) (said s h) t k l o }
+  -- a promise is stored at k and j, which are the place of the next temporal node
+  pub advanced-temporal : {r : Promise} → w.promise ≡ Some r → {k j : ℕ} → k ≡ c.temporals → j ≡ c.temporals → i < length c.values → c.temporals < length c.label → c.temporals < length c.fairs
+      → Advanced e high i n c (record { values = set c.values i w.value; label = set c.label k r.label; fairs = set c.fairs j r.fair; temporals = c.temporals + 1 })
+  advanced-temporal {r} t f g k l o =
+      rw (f, g) (record { long = length-set c.label c.temporals r.label; next = λ s h. held-temporal e high i x w.value c bits s h (split n) r (said (Some r) t s h) k l o })
 
-  pub advanced-plain : w.temporal ≡ false → i < length values → Advanced e high i m n m values label fairs (set values i w.value) label fairs
-  advanced-plain t k = record { next = λ s h. held_plain e high i m x w bits s values label fairs h (split n) (said s h) t k }
+  pub advanced-plain : w.promise ≡ None → i < length c.values → Advanced e high i n c (record c { values = set c.values i w.value })
+  advanced-plain t k = record { long = refl; next = λ s h. held_plain e high i x w.value c bits s h (split n) (said None t s h) k }
 
 -- ---- bytes
 
-pub byte-none : {columns : List ℕ} {l : ℕ} → Byte 0 columns l 0
-byte-none = record { size = omega arith; bits = λ j h. absurd (omega arith) }
+-- a digit at place n of a byte
+digit-at : (n : ℕ) (b : Bool) → n < 8 → (bool_byte b * 2 ^ n) % 256 ≡ put n b 0
+digit-at n true h = one_shl n 8 h ∙ omega arith
+digit-at n false h = omega arith
 
-pub byte_more : {n : ℕ} {columns : List ℕ} {l r : ℕ} → Byte n columns l r → (t : ℕ) → t ≡ put n (on (get_or columns n 0) l) r → Byte (n + 1) columns l t
-byte_more {n} {columns} {l} {r} h t q = record { size = rw q (put-size n n (on (get_or columns n 0) l) r refl h.size); bits = λ j k. rw q (go j k (ℕ_discrete j n)) }
+pub byte_more : {n : ℕ} {columns : List ℕ} {l r : ℕ} → Byte n columns l r → n < 8 → (b : Bool) → b ≡ on (get_or columns n 0) l → (x : ℕ) → x ≡ bool_byte b
+    → Byte (n + 1) columns l (bit_or r ((x * 2 ^ n) % 256))
+byte_more {n} {columns} {l} {r} h few b q x e =
+    subst (λ (t : ℕ). Byte (n + 1) columns l (bit_or r t)) (sym (ap (λ (y : ℕ). (y * 2 ^ n) % 256) e ∙ digit-at n b few))
+    (record { size = or_lt (n + 1) r (put n b 0) (rw add-one (omega (arith, h.size, pow-suc 2 n))) (put-size n n b 0 refl (pow_pos n)); bits = λ j k. on_or r (put n b 0) j ∙ go j k (ℕ_discrete j n) })
   where
-    go : (j : ℕ) → j < n + 1 → Dec (j ≡ n) → on (put n (on (get_or columns n 0) l) r) j ≡ on (get_or columns j 0) l
-    go j k (yes e) = rw e (put-here n (on (get_or columns n 0) l) r h.size)
-    go j k (no e) = put_other n (on (get_or columns n 0) l) r j h.size e ∙ h.bits j (omega arith)
+    or-false : (a : Bool) → (a || false) ≡ a
+    or-false true = refl
+    or-false false = refl
 
-pub byte-to : {n : ℕ} {columns : List ℕ} {l r : ℕ} → Byte n columns l r → (m : ℕ) → n ≡ m → Byte m columns l r
-byte-to {columns = columns} {l} {r} h m e = subst (λ (k : ℕ). Byte k columns l r) e h
+    go : (j : ℕ) → j < n + 1 → Dec (j ≡ n) → (on r j || on (put n b 0) j) ≡ on (get_or columns j 0) l
+    go j k (yes d) = rw d (ap₂ (λ (s t : Bool). s || t) (on_out r n n h.size (le_refl n)) (put-here n b 0 (pow_pos n)) ∙ q)
+    go j k (no d) = ap (λ (t : Bool). on r j || t) (put_other n b 0 j (pow_pos n) d ∙ on-zero j) ∙ or-false (on r j) ∙ h.bits j (omega arith)
