@@ -12,8 +12,7 @@ ghost use Rattle.ltl.specs.Arrays.{TablesIn};
 use events::{mask_has, power, width};
 use meaning::Node;
 use realizability::realizable_labels;
-use valuation::{temporal_count, value_tables};
-use wire::wide;
+use valuation::Rule;
 
 // Marks the profiles that an event gives before the labels that some continuation has.
 fn mark_event(
@@ -23,16 +22,12 @@ fn mark_event(
     labels: usize,
     e: usize,
 )
-    requires labels_bound { (labels ≤ 128) × (e < 16) }
-    requires profiles_len { (length {A = List ℕ} profiles.now ≡ 16) × (length real.now ≡ 128) × (length whole.old ≡ 256) }
+    requires { (labels ≤ 128) × (e < 16) }
     ensures { Marked labels (hits profiles.now real.now e) whole.old whole.new }
 {
-    let mut y: usize = 0;
-    while y < labels {
-        let p = wide(profiles[e][y]);
-        let has = real[y];
-        whole[p] = has | whole[p];
-        y += 1;
+    for y in 0..labels {
+        let p = usize::from(profiles[e][y]);
+        whole[p] = real[y] | whole[p];
     }
 }
 
@@ -45,21 +40,19 @@ fn mark_all(
     mask: u16,
     labels: usize,
 )
-    requires labels_bound { (labels ≤ 128) × (events ≤ 16) }
-    requires profiles_len { (length {A = List ℕ} profiles.now ≡ 16) × (length real.now ≡ 128) × (length whole.old ≡ 256) }
+    requires { (labels ≤ 128) × (events ≤ 16) }
     ensures { AllMarked (masked events mask) labels profiles.now real.now whole.new }
 {
     *whole = [false; 256];
-    let mut e: usize = 0;
-    while e < events {
+    for e in 0..events {
         if mask_has(mask, e) {
             mark_event(whole, profiles, real, labels, e);
         }
-        e += 1;
     }
 }
 
-// The tables of a rule's residual system: the profile by event and next label, and which profiles the continuations have.
+// The tables of a rule's residual system: the profile by event and next label, and which profiles the continuations
+// have.
 // Returns the number m of temporal nodes; there are 2^m labels.
 pub fn tables(
     signals: u8,
@@ -75,12 +68,14 @@ pub fn tables(
     ensures value { result ≡ temporals (splits (take count nodes)) }
     ensures tables_in { TablesIn (2 ^ signals) (2 ^ result) (tables_of (masked (2 ^ signals) mask) (splits (take count nodes))) profiles.new whole.new }
 {
-    let k = wide(count);
-    let m = temporal_count(k, nodes);
+    let rule = Rule {
+        nodes: &nodes[..usize::from(count)],
+    };
+    let m = rule.temporal_count();
     let events = width(signals);
     let labels = power(m);
     let mut fairs = [[0u8; 128]; 16];
-    value_tables(events, labels, k, nodes, profiles, &mut fairs);
+    rule.tables(events, labels, profiles, &mut fairs);
     let real = realizable_labels(profiles, &fairs, m, events, mask, labels);
     mark_all(whole, profiles, &real, events, mask, labels);
     m

@@ -1,10 +1,6 @@
 -- `labelling::mark_event` meets its contract. The loop's invariant: the profiles that the labels passed hit are marked, besides those marked before.
-use Prim.Native.Nat.{◌-◌, ◌≤◌}
 use Rattle.labelling.specs.Marks.{hits, Marked}
 use Rattle.labelling.proofs.mark_event.Given as goal
 
 abbrev pub invariant-loop-y : goal.invariant-loop-y
-invariant-loop-y l = (l.y ≤ l.labels) × Marked l.y (hits l.profiles l.real l.e) l.initial.whole l.whole
-
-abbrev pub decreases-loop-y : goal.decreases-loop-y
-decreases-loop-y l = l.labels - l.y
+invariant-loop-y l = Marked l.y (hits l.profiles l.real l.e) l.initial.whole l.whole
