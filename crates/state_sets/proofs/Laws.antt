@@ -1,6 +1,7 @@
 -- Loops over the events and the members of a set.
 --     spread_none, -more, -out, -to     the successors of one state, event by event
 --     moved_none, -more, -out, -to      those of the members of a set, state by state
+--     member-shows, other-shows         whether a state shows a byte, where it is a member and where it is none
 use mathlib.Core.Path.{◌≡◌, refl, sym, ap, subst, ◌∙◌}
 use mathlib.Core.Logic.{◌⊎◌, inl, inr}
 use mathlib.Core.List.{List}
@@ -10,12 +11,12 @@ use native.Mathlib.Omega.{arith}
 use native.Mathlib.Decide.{ℕ_discrete, dec_lt}
 use lib.ListN.{length, get_or, set, replicate, length-set, get_or-replicate, get_or-eq_default}
 use lib.Seq.{get_or-set_same, get_or-set_other}
-use lib.Dec.{ltb, leb}
+use lib.Dec.{ltb, leb, eqb}
 use borrow.Author.Tests.{ltb-true}
 use Rattle.sequences.proofs.Tests.{never}
-use Rattle.meaning.specs.TableFiles.{successor, verdict_byte}
+use Rattle.meaning.specs.TableFiles.{row_at, successor, verdict_byte}
 use Rattle.meaning.specs.Runs.{in_table}
-use Rattle.state_sets.specs.Sets.{Has, Among, Spread, Moved}
+use Rattle.state_sets.specs.Sets.{Has, Among, Spread, Moved, shows_byte}
 
 -- one event more is the one at n
 among-more : (n : ℕ) (es : List ℕ) (e : ℕ) → Among (n + 1) es e → Among n es e ⊎ (get_or es n 0 ≡ e)
@@ -165,3 +166,14 @@ module _ (t : List ℕ) (P S : ℕ) (es : List ℕ) where
 
     pub moved_to : (m M : ℕ) (to : List Bool) → Moved t P S n es m from to true → m ≡ M → Moved t P S n es M from to true
     moved_to m M to h e = subst (λ (k : ℕ). Moved t P S n es k from to true) e h
+
+-- ---- what the members show
+
+module _ (t : List ℕ) (P : ℕ) (set : List Bool) (v s : ℕ) {i : ℕ} (is : i ≡ s) where
+  pub member-shows : (b : Bool) {r x n : ℕ} → get_or set i false ≡ true → r ≡ row_at P s → x ≡ get_or t (r + 4) 0 → n ≡ v → eqb x n ≡ b → shows_byte t P set v s ≡ b
+  member-shows b {x = y} a r x n e =
+      rw (sym (ap (λ (k : ℕ). get_or set k false) is) ∙ a)
+      (ap (λ (z : ℕ). eqb z v) (sym (x ∙ ap (λ (k : ℕ). get_or t (k + 4) 0) r)) ∙ ap (λ (m : ℕ). eqb y m) (sym n) ∙ e)
+
+  pub other-shows : get_or set i false ≡ false → shows_byte t P set v s ≡ true
+  other-shows a = rw (sym (ap (λ (k : ℕ). get_or set k false) is) ∙ a)

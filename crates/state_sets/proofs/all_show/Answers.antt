@@ -1,32 +1,27 @@
 -- `state_sets::all_show` meets its contract.
-use mathlib.Core.Path.{◌≡◌, sym, ap, ◌∙◌}
-use mathlib.Core.Bool.{true, false, cond}
-use Prim.Native.Nat.{ℕ}
-use native.Mathlib.Omega.{arith}
-use lib.Dec.{eqb}
-use lib.ListN.{get_or}
-use Rattle.meaning.specs.TableFiles.{verdict_byte}
-use Rattle.sequences.proofs.Loops.{passed_none, passed-more, passed-all, all-not}
+use mathlib.Core.Path.{sym}
+use mathlib.Core.Bool.{true, false}
+use borrow.Author.Tests.{eq-eqb, ne_eqb}
+use Rattle.meaning.specs.TableFiles.{verdict_number}
+use Rattle.sequences.proofs.Loops.{passed-more, all-not}
 use Rattle.state_sets.specs.Sets.{shows_byte}
+use Rattle.state_sets.proofs.Laws.{member-shows, other-shows}
 use Rattle.state_sets.proofs.all_show.Goals as goal
+use Rattle.state_sets.proofs.all_show.Goals.{else-members-from-via-then-members-from+else-byte_at-shown, else-members-from-via-else-members-from}
 
-pub loop-state-init : goal.loop-state-init
-loop-state-init c = (omega arith, passed_none)
-
-pub bounds-members-wide16 : goal.bounds-members-wide16
-bounds-members-wide16 c = omega (arith, c.wide16.ensures.0)
+pub returns-then-byte_at-shown : goal.returns-then-byte_at-shown
+returns-then-byte_at-shown c = let t = c.args.t.now in
+    let set = c.args.members.now in
+    let v = verdict_number c.args.verdict in
+    sym (all-not c.args.states (shows_byte t c.args.signals set v) c.loop-state.state c.loop-state-test.true
+    (member-shows t c.args.signals set v c.loop-state.state c.from.ensures false c.if-members-from.true c.row_at.ensures.0 c.byte_at.ensures c.from-shown.ensures (ne_eqb _ _ c.if-byte_at-shown.true)))
 
 pub loop-state-preserved : goal.loop-state-preserved
-loop-state-preserved c = let here : shows_byte c.args.t.now c.args.signals c.args.members.now c.args.verdict c.loop-state.state ≡ true =
-    ap (λ (n : ℕ). cond (get_or c.args.members.now n false) (eqb (verdict_byte c.args.t.now c.args.signals c.loop-state.state) c.args.verdict) true) (sym c.wide16.ensures.0)
-    ∙ sym c.shows_byte.ensures ∙ c.if-shows_byte.true in
-    (omega arith, passed-more c.loop-state.invariant.1 here)
-
-pub returns-else-shows_byte : goal.returns-else-shows_byte
-returns-else-shows_byte c = let here : shows_byte c.args.t.now c.args.signals c.args.members.now c.args.verdict c.loop-state.state ≡ false =
-    ap (λ (n : ℕ). cond (get_or c.args.members.now n false) (eqb (verdict_byte c.args.t.now c.args.signals c.loop-state.state) c.args.verdict) true) (sym c.wide16.ensures.0)
-    ∙ sym c.shows_byte.ensures ∙ c.if-shows_byte.false in
-    sym (all-not c.args.states (shows_byte c.args.t.now c.args.signals c.args.members.now c.args.verdict) c.loop-state.state (omega arith) here)
-
-pub returns : goal.returns
-returns c = sym (passed-all c.loop-state.invariant.1 c.args.states (omega arith))
+loop-state-preserved c = let t = c.args.t.now in
+    let set = c.args.members.now in
+    let v = verdict_number c.args.verdict in
+    passed-more c.loop-state.invariant (elim c.else-members-from.branch [
+      | else-members-from-via-then-members-from+else-byte_at-shown w ↦
+          member-shows t c.args.signals set v c.loop-state.state c.from.ensures true w.if-members-from.true w.row_at.ensures.0 w.byte_at.ensures c.from-shown.ensures (eq-eqb _ _ w.if-byte_at-shown.false)
+      | else-members-from-via-else-members-from w ↦ other-shows t c.args.signals set v c.loop-state.state c.from.ensures w.if-members-from.false
+    ])

@@ -1,11 +1,8 @@
 -- `state_sets::all_show` meets its contract.
-use Prim.Native.Nat.{◌-◌, ◌≤◌}
 use Rattle.sequences.proofs.Loops.{Passed}
+use Rattle.meaning.specs.TableFiles.{verdict_number}
 use Rattle.state_sets.specs.Sets.{shows_byte}
 use Rattle.state_sets.proofs.all_show.Given as goal
 
 abbrev pub invariant-loop-state : goal.invariant-loop-state
-invariant-loop-state l = (l.state ≤ l.states) × Passed l.state (shows_byte l.t l.signals l.members l.verdict)
-
-abbrev pub decreases-loop-state : goal.decreases-loop-state
-decreases-loop-state l = l.states - l.state
+invariant-loop-state l = Passed l.state (shows_byte l.t l.signals l.members (verdict_number l.fn.verdict))

@@ -1,36 +1,34 @@
 -- `state_sets::spread` meets its contract. The loop's invariant: the successors for the events passed are added, and each is in the table.
 use mathlib.Core.Path.{◌≡◌, sym, ap, ◌∙◌}
 use mathlib.Core.Bool.{true, false}
-use Prim.Native.Nat.{ℕ}
+use Prim.Native.Nat.{◌<◌}
 use native.Mathlib.Omega.{arith}
-use borrow.Author.Rules.{rules}
 use lib.ListN.{get_or}
+use lib.Seq.{get_or-take}
+use Rattle.std.proofs.lemmas.List.{length-take}
 use Rattle.meaning.specs.TableFiles.{successor}
 use Rattle.meaning.specs.Runs.{in_table}
-use Rattle.state_sets.proofs.Laws.{spread_none, spread-more, spread-out, spread-to, in-below}
+use Rattle.state_sets.proofs.Laws.{spread-more, spread-out, in-below}
 use Rattle.state_sets.proofs.spread.Goals as goal
 
-pub loop-k-init : goal.loop-k-init
-loop-k-init c = (omega arith, spread_none _ _ _ _ _ _ (search rules))
+pub returns-then-not-in_table : goal.returns-then-not-in_table
+returns-then-not-in_table c = let t = c.args.t.now in
+    let P = c.args.signals in
+    let n = c.args.choices.now.count in
+    let es = c.args.choices.now.events in
+    let k = c.loop-event.event-index in
+    let below : k < n = omega (arith, length-take n es) in
+    let at : c.successor_at-next.result ≡ successor t P c.args.state (get_or es k 0) = c.successor_at-next.ensures ∙ ap (successor t P c.args.state) (get_or-take n es k 0 below) in
+    let out : in_table t P c.args.states (successor t P c.args.state (get_or es k 0)) ≡ false = ap (in_table t P c.args.states) (sym at) ∙ sym c.in_table.ensures ∙ c.if-not-in_table.true in
+    spread-out t P c.args.states es c.args.state c.args.to.now k n c.loop-event.to c.loop-event.invariant below out
 
-pub bounds-to-wide16 : goal.bounds-to-wide16
-bounds-to-wide16 c = let in-it : in_table c.args.t.now c.args.signals c.args.states c.wide16.result ≡ true =
-    ap (λ (n : ℕ). in_table c.args.t.now c.args.signals c.args.states n) c.wide16.ensures.0 ∙ sym c.in_table.ensures ∙ c.if-in_table.true in
-    omega (arith, in-below c.args.t.now c.args.signals c.args.states c.wide16.result in-it)
-
-pub loop-k-preserved : goal.loop-k-preserved
-loop-k-preserved c = let at : c.wide16.result ≡ successor c.args.t.now c.args.signals c.args.state (get_or c.args.events.now c.loop-k.k 0) = c.wide16.ensures.0 ∙ c.successor_at-next.ensures in
-    let in-it : in_table c.args.t.now c.args.signals c.args.states c.wide16.result ≡ true =
-    ap (λ (n : ℕ). in_table c.args.t.now c.args.signals c.args.states n) c.wide16.ensures.0 ∙ sym c.in_table.ensures ∙ c.if-in_table.true in (
-      omega arith,
-      spread-more c.args.t.now c.args.signals c.args.states c.args.events.now c.args.state c.args.to.now c.loop-k.k c.loop-k.to c.wide16.result c.loop-k.invariant.1 at in-it
-          (omega (arith, in-below c.args.t.now c.args.signals c.args.states c.wide16.result in-it)),
-    )
-
-pub returns-else-in_table : goal.returns-else-in_table
-returns-else-in_table c = let out : in_table c.args.t.now c.args.signals c.args.states (successor c.args.t.now c.args.signals c.args.state (get_or c.args.events.now c.loop-k.k 0)) ≡ false =
-    ap (λ (n : ℕ). in_table c.args.t.now c.args.signals c.args.states n) (sym c.successor_at-next.ensures) ∙ sym c.in_table.ensures ∙ c.if-in_table.false in
-    spread-out c.args.t.now c.args.signals c.args.states c.args.events.now c.args.state c.args.to.now c.loop-k.k c.args.count c.loop-k.to c.loop-k.invariant.1 (omega arith) out
-
-pub returns : goal.returns
-returns c = spread-to c.args.t.now c.args.signals c.args.states c.args.events.now c.args.state c.args.to.now c.loop-k.k c.args.count c.loop-k.to c.loop-k.invariant.1 (omega arith)
+pub loop-event-preserved : goal.loop-event-preserved
+loop-event-preserved c = let t = c.args.t.now in
+    let P = c.args.signals in
+    let n = c.args.choices.now.count in
+    let es = c.args.choices.now.events in
+    let k = c.loop-event.event-index in
+    let below : k < n = omega (arith, length-take n es) in
+    let at : c.from.result ≡ successor t P c.args.state (get_or es k 0) = c.from.ensures ∙ c.successor_at-next.ensures ∙ ap (successor t P c.args.state) (get_or-take n es k 0 below) in
+    let in-it : in_table t P c.args.states c.from.result ≡ true = ap (in_table t P c.args.states) c.from.ensures ∙ sym c.in_table.ensures ∙ c.if-not-in_table.false in
+    spread-more t P c.args.states es c.args.state c.args.to.now k c.loop-event.to c.from.result c.loop-event.invariant at in-it (omega (arith, in-below t P c.args.states c.from.result in-it))
