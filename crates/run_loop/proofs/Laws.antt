@@ -4,6 +4,7 @@ use mathlib.Core.List.{List, [], ◌∷◌}
 use mathlib.Core.Bool.{Bool, true, false, cond, ◌&&◌}
 use Prim.Native.Nat.{ℕ, suc, ◌+◌, ◌≤◌, ◌<◌}
 use native.Mathlib.Numerals.{add-one}
+use native.Mathlib.Omega.{arith}
 use lib.ListN.{length, get_or, drop, drop_of_length-le}
 use lib.Seq.{drop-cons}
 use Rattle.meaning.specs.Monitors.{Monitor, follow}
@@ -13,14 +14,18 @@ use Rattle.meaning.specs.declared.Verdict.{Verdict}
 use Rattle.meaning.specs.declared.Refusal.TheVariants.{WrongTable}
 use Rattle.run_parts.specs.Parts.{decides_at}
 use Rattle.run_loop.specs.Ends.{noted_of, end_in}
-use Rattle.std.proofs.Common.{Result, Ok, Option, Some, None}
+use Rattle.std.proofs.Common.{Result, Ok, Err, Option, Some, None}
 use Rattle.meaning.specs.declared.Arrival.{Arrival}
 use Rattle.meaning.specs.declared.Refusal.{Refusal}
 
 module _ (t : List ℕ) (P S : ℕ) where
+  -- the answer at s, with the count
+  abbrev arrived : ℕ → Verdict → Option ℕ → Result (Arrival ℕ) Refusal
+  arrived s v d = Ok (record { state = s; verdict = v; decided = d })
+
   -- a run by one loop: at s after n events, with the count so far
   unfoldable pub going : Option ℕ → ℕ → ℕ → List ℕ → Result (Arrival ℕ) Refusal
-  going d n s [] = cond (in_table t P S s) (Ok s (verdict_of (verdict_byte t P s)) (noted_of d (decides_at t P s) n)) (Err WrongTable)
+  going d n s [] = cond (in_table t P S s) (arrived s (verdict_of (verdict_byte t P s)) (noted_of d (decides_at t P s) n)) (Err WrongTable)
   going d n s (e ∷ es) =
       let later = going (noted_of d (decides_at t P s) n) (suc n) (successor t P s e) es in
       cond (in_table t P S s) later (Err WrongTable)
@@ -43,11 +48,11 @@ module _ (t : List ℕ) (P S : ℕ) where
   m = monitor_in t P S
 
   abbrev reached : Option ℕ → ℕ → ℕ → List ℕ → Result (Arrival ℕ) Refusal
-  reached d n s es = Ok (follow m s es) (m.verdict (follow m s es)) (earlier d (decided_from m n s es))
+  reached d n s es = arrived (follow m s es) (m.verdict (follow m s es)) (earlier d (decided_from m n s es))
 
   going-is : (d : Option ℕ) (n s : ℕ) (es : List ℕ) → going d n s es ≡ cond (on_table t P S s es) (reached d n s es) (Err WrongTable)
   unfolding going on_table decided_from
-  going-is d n s [] = ap (λ (k : Option ℕ). cond (in_table t P S s) (Ok s (m.verdict s) k) (Err WrongTable)) (noted-earlier d (decides_at t P s) n)
+  going-is d n s [] = ap (λ (k : Option ℕ). cond (in_table t P S s) (arrived s (m.verdict s) k) (Err WrongTable)) (noted-earlier d (decides_at t P s) n)
   going-is d n s (e ∷ es) = go (in_table t P S s) (going-is (noted_of d (decides_at t P s) n) (suc n) (successor t P s e) es)
     where
       r : ℕ
@@ -59,7 +64,7 @@ module _ (t : List ℕ) (P S : ℕ) where
       go : (b : Bool) → going k (suc n) r es ≡ cond (on_table t P S r es) (reached k (suc n) r es) (Err WrongTable)
           → cond b (going k (suc n) r es) (Err WrongTable) ≡ cond (b && on_table t P S r es) (reached d n s (e ∷ es)) (Err WrongTable)
       go true h =
-          h ∙ ap (λ (x : Option ℕ). cond (on_table t P S r es) (Ok (follow m r es) (m.verdict (follow m r es)) x) (Err WrongTable))
+          h ∙ ap (λ (x : Option ℕ). cond (on_table t P S r es) (arrived (follow m r es) (m.verdict (follow m r es)) x) (Err WrongTable))
           (earlier-noted d (decides_at t P s) n (decided_from m (suc n) r es))
       go false h = refl
 
@@ -81,7 +86,7 @@ module _ (t : List ℕ) (P S : ℕ) where
         at [] = rw h
         at (e ∷ l) = rw h
 
-    pub going_end : (d k : Option ℕ) (v : Verdict) (s i : ℕ) → length es ≤ i → in_table t P S s ≡ true → v ≡ verdict_of (verdict_byte t P s)
-        → k ≡ noted_of d (decides_at t P s) i → going d i s (drop i es) ≡ Ok s v k
+    pub going_end : (d k : Option ℕ) (v : Verdict) (s i : ℕ) → i ≡ length es → in_table t P S s ≡ true → v ≡ verdict_of (verdict_byte t P s)
+        → k ≡ noted_of d (decides_at t P s) (length es) → going d i s (drop i es) ≡ arrived s v k
     unfolding going
-    going_end d k v s i l h p q = rw (drop_of_length-le es l, h, p, q)
+    going_end d k v s i l h p q = let past : length es ≤ i = omega arith in rw (drop_of_length-le es past, h, p, q, l)
