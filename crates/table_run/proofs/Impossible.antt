@@ -39,7 +39,7 @@ unfolding is_table
 tables = refl
 
 -- 12 covers the whole list, also past a decided state
-pub one-runs : run_of one 0 (0 ∷ 0 ∷ []) ≡ Ok 1 Violated (Some 1)
+pub one-runs : run_of one 0 (0 ∷ 0 ∷ []) ≡ Ok (record { state = 1; verdict = Violated; decided = Some 1 })
 unfolding is_table decided_from
 one-runs = refl
 
