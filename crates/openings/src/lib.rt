@@ -1,11 +1,12 @@
-// Runs and steps of an opening: over its number, and bytes and counts in hand, whatever they are. A state of another opening is refused.
+// Runs and steps of an opening: over its number, and bytes and counts in hand, whatever they are. A state of another
+// opening is refused.
 #![tactic(auto)]
 
 ghost use Rattle.std.specs.Prelude.{◌≡◌, [], ◌∷◌};
 ghost use Rattle.meaning.specs.Openings.{state_of, carried, run_from_in};
-ghost use Rattle.openings.specs.Steps.{foreign_in, state_after, stepped_in};
+ghost use Rattle.openings.specs.Steps.{number_in, stepped_in};
 
-use meaning::{Arrived, Ran, Refusal, State};
+use meaning::{Arrival, Refusal, State};
 use table_layout::counts_fit;
 use table_run::{run_in, step_in};
 
@@ -17,34 +18,32 @@ pub fn start_of(opening: u16) -> State
 }
 
 // What a run answers, with the opening's number carried along.
-fn carry(opening: u16, ran: Ran) -> Arrived
+fn carry(opening: u16, ran: Result<Arrival<u16>, Refusal>) -> Result<Arrival<State>, Refusal>
     ensures { result ≡ carried opening ran }
 {
-    match ran {
-        Ran::Ended {
-            state,
-            verdict,
-            decided,
-        } => Arrived::At {
-            state: State {
-                opening,
-                number: state,
-            },
-            verdict,
-            decided,
+    let arrival = ran?;
+    Ok(Arrival {
+        state: State {
+            opening,
+            number: arrival.state,
         },
-        Ran::Refused(why) => Arrived::Refused(why),
-    }
+        verdict: arrival.verdict,
+        decided: arrival.decided,
+    })
 }
 
-// A state of another opening: 14 for counts that no table of so many bytes has, and otherwise 24.
-fn refuse_foreign(t: &[u8], signals: u8, states: u16) -> Arrived
-    ensures { result ≡ foreign_in t.now signals states }
+// The number in the table of a state of this opening. One of another is refused: by 14 for counts that no table of so many
+// bytes has, and otherwise by 24.
+fn number_of(t: &[u8], signals: u8, states: u16, opening: u16, state: State) -> Result<u16, Refusal>
+    ensures { result ≡ number_in opening t.now signals states state }
 {
-    if counts_fit(t, signals, states) {
-        return Arrived::Refused(Refusal::WrongOpening(0));
+    if state.opening == opening {
+        Ok(state.number)
+    } else if counts_fit(t, signals, states) {
+        Err(Refusal::WrongOpening(0))
+    } else {
+        Err(Refusal::WrongTable)
     }
-    Arrived::Refused(Refusal::WrongTable)
 }
 
 // A run over a list of events: 14, 24, 13 or 12 before it starts, and 14 where its way leaves the table.
@@ -55,14 +54,11 @@ pub fn run_from(
     opening: u16,
     state: State,
     events: &[u8],
-) -> Arrived
+) -> Result<Arrival<State>, Refusal>
     ensures { result ≡ run_from_in opening t.now signals states state events.now }
 {
-    let of = state.opening;
-    if of == opening {
-        return carry(opening, run_in(t, signals, states, state.number, events));
-    }
-    refuse_foreign(t, signals, states)
+    let start = number_of(t, signals, states, opening, state)?;
+    carry(opening, run_in(t, signals, states, start, events))
 }
 
 // A run over one event, with no list.
@@ -73,28 +69,11 @@ pub fn step_from(
     opening: u16,
     state: State,
     event: u8,
-) -> Arrived
+) -> Result<Arrival<State>, Refusal>
     ensures { result ≡ run_from_in opening t.now signals states state (event ∷ []) }
 {
-    let from = state.opening;
-    if from == opening {
-        return carry(opening, step_in(t, signals, states, state.number, event));
-    }
-    refuse_foreign(t, signals, states)
-}
-
-// The state after an answer: where it arrived, or the state before it where it was refused.
-fn state_after(arrived: Arrived, state: State) -> State
-    ensures { result ≡ state_after arrived state }
-{
-    match arrived {
-        Arrived::At {
-            state: end,
-            verdict: _,
-            decided: _,
-        } => end,
-        Arrived::Refused(_) => state,
-    }
+    let from = number_of(t, signals, states, opening, state)?;
+    carry(opening, step_in(t, signals, states, from, event))
 }
 
 // Steps through a list of events, one by one; a refused step leaves the state as it is.
@@ -109,12 +88,10 @@ pub fn step_all_from(
     ensures { result ≡ stepped_in opening t.now signals states state events.now }
 {
     let mut s = state;
-    let mut i: usize = 0;
-    while i < events.len() {
-        let e = wire::byte_at(events, i);
-        let next = state_after(step_from(t, signals, states, opening, s, e), s);
-        s = next;
-        i += 1;
+    for event in events {
+        if let Ok(arrival) = step_from(t, signals, states, opening, s, *event) {
+            s = arrival.state;
+        }
     }
     s
 }

@@ -1,18 +1,14 @@
 -- `openings::step_all_from` meets its contract.
-use native.Mathlib.Omega.{arith}
-use mathlib.Core.Path.{refl, ◌∙◌}
-use borrow.Author.Rules.{rules}
+use Rattle.std.proofs.Common.{◌∙◌, arith}
 use Rattle.openings.proofs.Laws.{step-on, step_end}
 use Rattle.openings.proofs.step_all_from.Goals as goal
+use Rattle.openings.proofs.step_all_from.Goals.{in-Ok, in_default}
 
-pub loop-i-init : goal.loop-i-init
-loop-i-init c = (search rules, refl)
-
-pub loop-i-preserved : goal.loop-i-preserved
-loop-i-preserved c = let on =
-    step-on c.args.opening c.args.t.now c.args.signals c.args.states c.loop-i.s c.args.events.now c.loop-i.i (omega arith)
-    c.byte_at-e.result c.byte_at-e.ensures _ c.step_from.ensures _ c.state_after-next.ensures in
-    (search rules, on ∙ c.loop-i.invariant.1)
+pub loop-event-preserved : goal.loop-event-preserved
+loop-event-preserved c = elim c.match-step_from.branch [
+  | in-Ok w ↦ step-on _ _ _ _ _ c.args.events.now c.loop-event.event-index c.loop-event-test.true w.in-Ok.ensures w.s-is ∙ c.loop-event.invariant
+  | in_default w ↦ step-on _ _ _ _ _ c.args.events.now c.loop-event.event-index c.loop-event-test.true w.in_default.ensures w.s-is ∙ c.loop-event.invariant
+]
 
 pub returns : goal.returns
-returns c = step_end c.args.opening c.args.t.now c.args.signals c.args.states c.loop-i.s c.args.events.now c.loop-i.i (omega arith) ∙ c.loop-i.invariant.1
+returns c = step_end c.args.opening c.args.t.now c.args.signals c.args.states c.loop-event.s c.args.events.now c.loop-event.event-index (omega arith) ∙ c.loop-event.invariant
