@@ -32,7 +32,7 @@ use Rattle.table_run.proofs.Answers.{on-end}
 use Rattle.state_sets.specs.Sets.{Has, Among, shows_byte, all_show}
 use Rattle.completions.specs.Passing.{Cleared, Fault, Steps, Reached, concluded}
 use Rattle.completions.proofs.Members.{Last, completion-snoc, completion-unsnoc, all-complete, complete-all, not-all}
-use Rattle.std.proofs.Common.{Result}
+use Rattle.std.proofs.Common.{Result, Ok, Err}
 
 -- ---- checks
 

@@ -1,7 +1,7 @@
 -- What judging recordings answers with the counts of checked bytes, with counts that fit no table, and of bytes that are none.
-use mathlib.Core.Path.{◌≡◌, refl}
+use mathlib.Core.Path.{◌≡◌}
 use mathlib.Core.List.{List, [], ◌∷◌, map}
-use mathlib.Core.Bool.{Bool, true, false, cond}
+use mathlib.Core.Bool.{true, false}
 use Prim.Native.Nat.{ℕ, zero, suc, ◌<◌}
 use native.Mathlib.Omega.{arith}
 use lib.ListN.{length, get_or}
@@ -10,10 +10,11 @@ use Rattle.meaning.specs.Traces.{Alphabet, is_event, Word}
 use Rattle.meaning.specs.TableFiles.{is_table, alphabet_in, signals_in, states_in, checked_of}
 use Rattle.meaning.specs.Runs.{counts_fit, on_table}
 use Rattle.meaning.specs.Recordings.{joined_list, completions, judged_in, judged_of}
+use Rattle.meaning.specs.declared.Counts.{Counts}
 use Rattle.meaning.specs.declared.Refusal.{Refusal}
 use Rattle.meaning.specs.declared.Refusal.TheVariants.{WrongTable}
 use Rattle.table_layout.proofs.Form.{event-test, table-counts, table-header, states-some}
-use Rattle.table_run.proofs.Answers.{found, on-way}
+use Rattle.table_run.proofs.Answers.{found, no-table, on-way}
 use Rattle.completions.proofs.Members.{complete-all, completion-word}
 use Rattle.std.proofs.Common.{Ok, Err}
 
@@ -31,9 +32,9 @@ module _ (t a b : List ℕ) where
       (λ w c. on-way t h 0 w (states-some t (table-header t h))
       (word-events (alphabet_in t (signals_in t)) w (completion-word (alphabet_in t (signals_in t)) (signals_in t) (joined_list a b) w c)))
 
-  pub judged-table : (Q R : ℕ) → checked_of t ≡ Ok Q R → judged_in t Q R a b ≡ judged_of t a b
+  pub judged-table : (k : Counts) → checked_of t ≡ Ok k → judged_in t k.signals k.states a b ≡ judged_of t a b
   unfolding judged_in judged_of
-  judged-table Q R e = let f = found t Q R e in rw (f.signals, f.states, f.table, table-counts t f.table, stays f.table)
+  judged-table k e = let f = found t k e in rw (f.signals, f.states, f.table, table-counts t f.table, stays f.table)
 
   -- counts that fit no table
   pub judged-none : (Q R : ℕ) → counts_fit t Q R ≡ false → judged_in t Q R a b ≡ Err WrongTable
@@ -42,8 +43,4 @@ module _ (t a b : List ℕ) where
 
   pub judged-refused : (x : Refusal) → checked_of t ≡ Err x → judged_of t a b ≡ Err WrongTable
   unfolding judged_of
-  judged-refused x e = go (is_table t) refl e
-    where
-      go : (c : Bool) → is_table t ≡ c → cond c (Ok (signals_in t) (states_in t)) (Err WrongTable) ≡ Err x → judged_of t a b ≡ Err WrongTable
-      go true p q = let z : ◌≡◌ {A = ℕ} 0 1 = cc in absurd (omega arith)
-      go false p q = rw p
+  judged-refused x e = rw (no-table t x e)

@@ -3,6 +3,7 @@
 --     joined-refused, joined-heard     of a joined event: none agrees, or the set moves by those that do
 --     fault-form, fault-both, hears    of both events: 12, 23, and what the joined one says
 --     pass-fault, pass-end             of the pass: the first refusal, and the end
+use Rattle.std.proofs.Common.{Result, Ok, Err}
 use mathlib.Core.Path.{◌≡◌, refl, sym, ap, ap₂, subst, ◌∙◌}
 use mathlib.Core.Logic.{inl, inr}
 use mathlib.Core.List.{List, [], ◌∷◌}
@@ -34,7 +35,6 @@ use Rattle.completions.specs.Passing.{Cleared, Fault, Steps, Reached, concluded,
 use Rattle.completions.proofs.Members.{In, in-choices, choices-in}
 use Rattle.completions.proofs.Reaching.{cleared-none, cleared_more, fault-at, cleared-all, reached-start, reached-more, concluded-right}
 use Rattle.recordings.specs.Hearings.{HearsJoined, Hears}
-use Rattle.recordings.specs.declared.Hearing.{Hearing}
 
 -- ---- choices
 
@@ -106,10 +106,10 @@ module _ (Σ : Alphabet) (P : ℕ) (a b : List ℕ) (i : ℕ) where
   clear : fit ≡ true → contradict P (seen_at a i) (seen_at b i) ≡ false → 1 ≤ length (choices Σ P (joined_at a b i)) → Cleared (event_checks Σ P a b i)
   clear h k l = record { is = λ z. rw (h, k, ne_eqb (length (choices Σ P (joined_at a b i))) 0 (λ q. omega (arith, q, l))) }
 
-pub hears : (t : List ℕ) (P S : ℕ) (a b : List ℕ) (i : ℕ) (old new : List Bool) (r : Hearing) → fit (alphabet_in t P) P a b i ≡ true → contradict P (seen_at a i) (seen_at b i) ≡ false
+pub hears : (t : List ℕ) (P S : ℕ) (a b : List ℕ) (i : ℕ) (old new : List Bool) (r : Result Bool Refusal) → fit (alphabet_in t P) P a b i ≡ true → contradict P (seen_at a i) (seen_at b i) ≡ false
     → HearsJoined t P S (joined_at a b i) i old new r → Hears t P S a b i old new r
-hears t P S a b i old new (Hearing.Heard ok) h k (l, s) = (clear (alphabet_in t P) P a b i h k l, s)
-hears t P S a b i old new (Hearing.Refused x) h k (l, e) = subst (λ (y : Refusal). Fault (event_checks (alphabet_in t P) P a b i) y) (sym e) (fault-none (alphabet_in t P) P a b i h k l)
+hears t P S a b i old new (Ok ok) h k (l, s) = (clear (alphabet_in t P) P a b i h k l, s)
+hears t P S a b i old new (Err x) h k (l, e) = subst (λ (y : Refusal). Fault (event_checks (alphabet_in t P) P a b i) y) (sym e) (fault-none (alphabet_in t P) P a b i h k l)
 
 -- what was read and tested, said of the recordings
 pub fit_is : (P : ℕ) (a b : List ℕ) (i : ℕ) (r q : Seen) (x y : Bool) → r ≡ seen_at a i → q ≡ seen_at b i → x ≡ seen_fits P r → y ≡ seen_fits P q

@@ -6,22 +6,16 @@ ghost use Rattle.table_layout.specs.Masks.{MaskIn};
 ghost use Rattle.meaning.specs.Runs.{counts_fit};
 ghost use Rattle.meaning.specs.Recordings.{lengths_fit, judged_in};
 ghost use Rattle.completions.specs.Passing.{concluded, events_judged};
-ghost use Rattle.recordings.specs.Hearings.{HearsJoined, Hears, handed_on};
+ghost use Rattle.recordings.specs.Hearings.{HearsJoined, Hears};
 
-use meaning::{Refusal, Seen, Shown, Verdict};
+use meaning::{Refusal, Seen, Verdict};
 use recorded_events::{choices_of, contradicts, joined, seen_at, seen_fits};
 use run_parts::in_table;
 use state_sets::{advance, all_show, start};
 use table_layout::{counts_fit, possible_mask};
 
-// What hearing one event of both recordings finds: whether every state that it leads to is in the table, or the refusal.
-#[derive(Clone, Copy)]
-pub enum Hearing {
-    Heard(bool),
-    Refused(Refusal),
-}
-
-// Moves the set of states by every possible event that agrees with a joined one; 12 where there is none.
+// Moves the set of states by every possible event that agrees with a joined one, and answers whether each state that it
+// leads to is in the table; 12 where there is no such event.
 fn hear_joined(
     t: &[u8],
     signals: u8,
@@ -30,22 +24,21 @@ fn hear_joined(
     seen: Seen,
     i: usize,
     members: &mut [bool; 256],
-) -> Hearing
-    requires signals_bound { (signals ≤ 4) × (states ≤ 256) × (length members.old ≡ 256) × MaskIn t.now signals mask }
+) -> Result<bool, Refusal>
+    requires signals_bound { (signals ≤ 4) × (states ≤ 256) × MaskIn t.now signals mask }
     requires known_bound { seen.known < 2 ^ signals }
     ensures { HearsJoined t.now signals states seen i members.old members.new result }
 {
     let choices = choices_of(signals, mask, seen);
-    let count = choices.count;
-    let events = choices.events;
-    if count < 1 {
-        return Hearing::Refused(Refusal::WrongEvent(i));
+    if choices.count < 1 {
+        return Err(Refusal::WrongEvent(i));
     }
     let from = *members;
-    Hearing::Heard(advance(t, signals, states, &from, &events, count, members))
+    Ok(advance(t, signals, states, &from, &choices, members))
 }
 
-// Hears the events with an index: 12 where one of the two does not fit, 23 where they contradict each other, 12 where nothing possible agrees with both.
+// Hears the events with an index, and answers as one joined event does: 12 where one of the two does not fit, 23 where they
+// contradict each other, 12 where nothing possible agrees with both.
 fn hear(
     t: &[u8],
     signals: u8,
@@ -55,8 +48,8 @@ fn hear(
     b: &[u8],
     i: usize,
     members: &mut [bool; 256],
-) -> Hearing
-    requires signals_bound { (signals ≤ 4) × (states ≤ 256) × (length members.old ≡ 256) × MaskIn t.now signals mask }
+) -> Result<bool, Refusal>
+    requires signals_bound { (signals ≤ 4) × (states ≤ 256) × MaskIn t.now signals mask }
     requires i_in_bounds { (2 * i + 2 ≤ length a.now) × (2 * i + 2 ≤ length b.now) }
     ensures { Hears t.now signals states a.now b.now i members.old members.new result }
 {
@@ -64,60 +57,50 @@ fn hear(
     let q = seen_at(b, i);
     if seen_fits(signals, r) & seen_fits(signals, q) {
         if contradicts(signals, r, q) {
-            return Hearing::Refused(Refusal::Contradiction(i));
+            Err(Refusal::Contradiction(i))
+        } else {
+            hear_joined(t, signals, states, mask, joined(r, q), i, members)
         }
-        return hear_joined(t, signals, states, mask, joined(r, q), i, members);
-    }
-    Hearing::Refused(Refusal::WrongEvent(i))
-}
-
-// The refusal of an event, handed on.
-fn handed_on(heard: Hearing) -> Shown
-    ensures { result ≡ handed_on heard }
-{
-    match heard {
-        Hearing::Heard(_) => Shown::Refused(Refusal::WrongTable),
-        Hearing::Refused(why) => Shown::Refused(why),
+    } else {
+        Err(Refusal::WrongEvent(i))
     }
 }
 
 // The verdict that all members of the set show, and undecided where they differ; 14 where a way has left the table.
-fn conclude(t: &[u8], signals: u8, states: u16, members: &[bool; 256], inside: bool) -> Shown
-    requires { (signals ≤ 4) × (states ≤ 256) × (length members.now ≡ 256) }
+fn conclude(
+    t: &[u8],
+    signals: u8,
+    states: u16,
+    members: &[bool; 256],
+    inside: bool,
+) -> Result<Verdict, Refusal>
+    requires { (signals ≤ 4) × (states ≤ 256) }
     ensures { result ≡ concluded t.now signals states members.now inside }
 {
-    if inside {
-        if all_show(t, signals, states, members, 1) {
-            return Shown::Verdict(Verdict::Satisfied);
-        }
-        if all_show(t, signals, states, members, 2) {
-            return Shown::Verdict(Verdict::Violated);
-        }
-        if all_show(t, signals, states, members, 3) {
-            return Shown::Verdict(Verdict::Moot);
-        }
-        return Shown::Verdict(Verdict::Undecided);
+    if !inside {
+        Err(Refusal::WrongTable)
+    } else if all_show(t, signals, states, members, Verdict::Satisfied) {
+        Ok(Verdict::Satisfied)
+    } else if all_show(t, signals, states, members, Verdict::Violated) {
+        Ok(Verdict::Violated)
+    } else if all_show(t, signals, states, members, Verdict::Moot) {
+        Ok(Verdict::Moot)
+    } else {
+        Ok(Verdict::Undecided)
     }
-    Shown::Refused(Refusal::WrongTable)
 }
 
 // The pass over the events, of two recordings of one even length.
-fn judge_events(t: &[u8], signals: u8, states: u16, a: &[u8], b: &[u8]) -> Shown
+fn judge_events(t: &[u8], signals: u8, states: u16, a: &[u8], b: &[u8]) -> Result<Verdict, Refusal>
     requires { (counts_fit t.now signals states ≡ true) × (lengths_fit a.now b.now ≡ true) }
     ensures { result ≡ events_judged t.now signals states a.now b.now }
 {
     let mask = possible_mask(t, signals);
-    let count = a.len() / 2;
     let mut inside = in_table(t, signals, states, 0);
     let mut members = start();
-    let mut i: usize = 0;
-    while i < count {
-        let heard = hear(t, signals, states, mask, a, b, i, &mut members);
-        let Hearing::Heard(stays) = heard else {
-            return handed_on(heard);
-        };
-        inside = inside & stays;
-        i += 1;
+    for i in 0..a.len() / 2 {
+        let stays = hear(t, signals, states, mask, a, b, i, &mut members)?;
+        inside &= stays;
     }
     conclude(t, signals, states, &members, inside)
 }
@@ -129,15 +112,16 @@ fn lengths_fit(a: &[u8], b: &[u8]) -> bool
     (a.len() == b.len()) & (a.len() % 2 == 0)
 }
 
-// Judges two recordings over bytes and counts: 14 for counts and length; 22; event by event 12, 23 and 12; and 14 where the way of a completion leaves the table.
-pub fn judge_in(t: &[u8], signals: u8, states: u16, a: &[u8], b: &[u8]) -> Shown
+// Judges two recordings over bytes and counts: 14 for counts and length; 22; event by event 12, 23 and 12; and 14 where the
+// way of a completion leaves the table.
+pub fn judge_in(t: &[u8], signals: u8, states: u16, a: &[u8], b: &[u8]) -> Result<Verdict, Refusal>
     ensures { result ≡ judged_in t.now signals states a.now b.now }
 {
-    if counts_fit(t, signals, states) {
-        if lengths_fit(a, b) {
-            return judge_events(t, signals, states, a, b);
-        }
-        return Shown::Refused(Refusal::WrongRecordings);
+    if !counts_fit(t, signals, states) {
+        return Err(Refusal::WrongTable);
     }
-    Shown::Refused(Refusal::WrongTable)
+    if !lengths_fit(a, b) {
+        return Err(Refusal::WrongRecordings);
+    }
+    judge_events(t, signals, states, a, b)
 }
