@@ -33,7 +33,7 @@ pub byte-of : (t : Bool) → bool_byte t ≡ cond t 1 0
 byte-of true = refl
 byte-of false = refl
 
-one-at_most : (t : Bool) → cond t 1 0 ≤ 1
+pub one-at_most : (t : Bool) → cond t 1 0 ≤ 1
 one-at_most true = omega arith
 one-at_most false = omega arith
 

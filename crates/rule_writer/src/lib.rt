@@ -1,147 +1,101 @@
 // Writes a rule's nodes as a rule file.
 #![tactic(auto)]
 
-ghost use Rattle.std.specs.Prelude.{◌≡◌, cond, [], ◌∷◌, ◌+◌, ◌≤◌, length, take};
-ghost use Rattle.meaning.specs.RuleFiles.{body_length, temporal, temporals};
+ghost use Rattle.std.specs.Prelude.{◌≡◌, ◌+◌, ◌≤◌, length};
+ghost use Rattle.meaning.specs.RuleFiles.{body_length, temporals};
 ghost use Rattle.meaning.specs.RuleTexts.{node_bytes, nodes_bytes, rule_bytes, any_out_of_range, rule_answer, output_of};
 ghost use Rattle.rule_bytes.specs.WellFormed.{KindsFit};
 ghost use Rattle.text_pieces.specs.Put.{Put};
-ghost use Rattle.rule_writer.specs.Writing.{unmasked, Wrote};
+ghost use Rattle.rule_writer.specs.Writing.{unmasked};
 
-use meaning::{Node, Refusal, Written};
+use meaning::{Node, Refusal};
 use rule_nodes::{out_of_range, shape_of};
 use text_pieces::put_bytes;
-use wire::wide;
 
 // ---- what the nodes are checked for
 
 // Whether a signal, a mask or a count of some node is out of range.
-fn any_out_of_range(signals: u8, count: usize, nodes: [Node; 64]) -> bool
-    requires { (signals ≤ 4) × (count ≤ 64) }
-    ensures { result ≡ any_out_of_range signals (take count nodes) }
+fn any_out_of_range(signals: u8, nodes: &[Node]) -> bool
+    requires { signals ≤ 4 }
+    ensures { result ≡ any_out_of_range signals nodes.now }
 {
-    let mut found = false;
-    let mut i: usize = 0;
-    while i < count {
-        let node = nodes[i];
-        found = found | out_of_range(node, signals);
-        i += 1;
-    }
-    found
+    nodes.iter().any(|node| out_of_range(*node, signals))
 }
 
-// 1 for a temporal kind.
-fn counted(kind: u8) -> usize
-    requires { kind ≤ 13 }
-    ensures { (result ≡ cond (temporal kind) 1 0) × (result ≤ 1) }
+fn temporal_count(nodes: &[Node]) -> usize
+    requires { KindsFit nodes.now }
+    ensures { result ≡ temporals nodes.now }
 {
-    let shape = shape_of(kind);
-    if shape.temporal {
-        return 1;
+    let mut count = 0;
+    for node in nodes {
+        count += usize::from(shape_of(node.kind).temporal);
     }
-    0
-}
-
-fn temporal_count(count: usize, nodes: [Node; 64]) -> usize
-    requires { (count ≤ 64) × KindsFit (take count nodes) }
-    ensures { result ≡ temporals (take count nodes) }
-{
-    let mut m: usize = 0;
-    let mut i: usize = 0;
-    while i < count {
-        let node = nodes[i];
-        m += counted(node.kind);
-        i += 1;
-    }
-    m
+    count
 }
 
 fn record_length(kind: u8) -> usize
     requires { kind ≤ 13 }
     ensures { (result ≡ 4 + body_length kind) × (result ≤ 6) }
 {
-    let shape = shape_of(kind);
-    4 + wide(shape.body)
+    4 + usize::from(shape_of(kind).body)
 }
 
-// The length of the file, which has as many nodes as `count` says.
-fn file_length(count: usize, nodes: [Node; 64]) -> usize
-    requires { (count ≤ 64) × KindsFit (take count nodes) }
-    ensures value { result ≡ 6 + length (nodes_bytes (take count nodes)) }
-    ensures nodes_len { length (take count nodes) ≡ count }
+// The length of the nodes' file.
+fn file_length(nodes: &[Node]) -> usize
+    requires { (length nodes.now ≤ 64) × KindsFit nodes.now }
+    ensures { result ≡ 6 + length (nodes_bytes nodes.now) }
 {
-    let mut n: usize = 6;
-    let mut i: usize = 0;
-    while i < count {
-        let node = nodes[i];
+    let mut n = 6;
+    for node in nodes {
         n += record_length(node.kind);
-        i += 1;
     }
     n
 }
 
 // ---- the bytes
 
-fn put_first(out: &mut [u8], signals: u8, count: u8) -> usize
-    requires { 6 ≤ length out.old }
-    ensures { Put out.old 0 (4 ∷ 0 ∷ 0 ∷ 1 ∷ signals ∷ count ∷ []) out.new result }
-{
-    put_bytes(out, 0, &[4, 0, 0, 1, signals, count])
-}
-
 // A node's record at a place; says the place after it.
 fn put_node(out: &mut [u8], at: usize, node: Node) -> usize
     requires { (node.kind ≤ 13) × (at + length (node_bytes node) ≤ length out.old) }
     ensures { Put out.old at (node_bytes node) out.new result }
 {
-    let n = record_length(node.kind);
-    let bytes = [(n - 2) as u8, 0, node.kind, 0, node.a, node.b];
-    put_bytes(out, at, &bytes[..n])
+    let body = shape_of(node.kind).body;
+    let bytes = [2 + body, 0, node.kind, 0, node.a, node.b];
+    put_bytes(out, at, &bytes[..4 + usize::from(body)])
 }
 
-// The records of the first `count` nodes from a place on; says the place after them.
-fn put_nodes(out: &mut [u8], start: usize, count: usize, nodes: [Node; 64]) -> usize
-    requires count_bound { (count ≤ 64) × KindsFit (take count nodes) }
-    requires nodes_in_bounds { start + length (nodes_bytes (take count nodes)) ≤ length out.old }
-    ensures { Put out.old start (nodes_bytes (take count nodes)) out.new result }
+// The nodes' records from a place on; says the place after them.
+fn put_nodes(out: &mut [u8], start: usize, nodes: &[Node]) -> usize
+    requires kinds { KindsFit nodes.now }
+    requires nodes_in_bounds { start + length (nodes_bytes nodes.now) ≤ length out.old }
+    ensures { Put out.old start (nodes_bytes nodes.now) out.new result }
 {
     let mut at = start;
-    let mut i: usize = 0;
-    while i < count {
-        let node = nodes[i];
-        let next = put_node(out, at, node);
-        at = next;
-        i += 1;
+    for node in nodes {
+        at = put_node(out, at, *node);
     }
     at
 }
 
-// The checks in their order, and the file.
-fn write_rule(signals: u8, count: usize, nodes: [Node; 64], rule: &mut [u8]) -> Written
-    requires { (signals ≤ 4) × (count ≤ 64) × KindsFit (take count nodes) }
-    ensures { Wrote (unmasked signals count nodes) rule.old result rule.new }
-{
-    if any_out_of_range(signals, count, nodes) {
-        return Written::Refused(Refusal::OutOfRange(0));
-    }
-    if 7 < temporal_count(count, nodes) {
-        return Written::Refused(Refusal::EighthTemporal(0));
-    }
-    let n = file_length(count, nodes);
-    if rule.len() < n {
-        return Written::Refused(Refusal::ShortOutput);
-    }
-    let first = put_first(rule, signals, count as u8);
-    put_nodes(rule, first, count, nodes);
-    Written::Rule(n)
-}
-
-// The file of the first `count` nodes at the front of `rule` and its length; or 7, 8 or 10, and every byte of `rule` as it was. Bytes past the
+// The file of the nodes at the front of `rule` and its length; or 7, 8 or 10, in this order, and every byte of `rule` as it was. Bytes past the
 // file are kept.
-pub fn write_nodes(signals: u8, count: u8, nodes: [Node; 64], rule: &mut [u8]) -> Written
-    requires { (signals ≤ 4) × (count ≤ 64) × KindsFit (take count nodes) }
-    ensures answer { result ≡ rule_answer (length rule.old) (unmasked signals count nodes) }
-    ensures output { rule.new ≡ output_of (rule_answer (length rule.old) (unmasked signals count nodes)) (rule_bytes (unmasked signals count nodes)) rule.old }
+#[tactic(auto, unfolding(meaning::specs::RuleTexts::rule_answer, meaning::specs::RuleTexts::rule_bytes))]
+pub fn write_nodes(signals: u8, nodes: &[Node], rule: &mut [u8]) -> Result<usize, Refusal>
+    requires { (signals ≤ 4) × (length nodes.now ≤ 64) × KindsFit nodes.now }
+    ensures answer { result ≡ rule_answer (length rule.old) (unmasked signals nodes.now) }
+    ensures output { rule.new ≡ output_of (rule_answer (length rule.old) (unmasked signals nodes.now)) (rule_bytes (unmasked signals nodes.now)) rule.old }
 {
-    write_rule(signals, wide(count), nodes, rule)
+    if any_out_of_range(signals, nodes) {
+        return Err(Refusal::OutOfRange(0));
+    }
+    if 7 < temporal_count(nodes) {
+        return Err(Refusal::EighthTemporal(0));
+    }
+    let n = file_length(nodes);
+    if rule.len() < n {
+        return Err(Refusal::ShortOutput);
+    }
+    let first = put_bytes(rule, 0, &[4, 0, 0, 1, signals, nodes.len() as u8]);
+    put_nodes(rule, first, nodes);
+    Ok(n)
 }

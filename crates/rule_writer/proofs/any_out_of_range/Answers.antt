@@ -1,19 +1,12 @@
--- `rule_writer::any_out_of_range` meets its contract.
-use native.Mathlib.Omega.{arith}
-use mathlib.Core.Path.{◌≡◌, refl, ap, ◌∙◌}
-use Prim.Native.Nat.{ℕ}
-use lib.ListN.{take}
-use Rattle.meaning.specs.RuleTexts.{any_out_of_range}
-use Rattle.rule_writer.proofs.Laws.{range-more}
+-- `rule_writer::any_out_of_range` meets its contract: what std says of `any` is the spec's recursion.
+use Rattle.std.proofs.Common.{◌∙◌, not, rules}
+use Rattle.std.proofs.lemmas.Iterator.{YieldsList-from_slice}
+use Rattle.std.proofs.lemmas.Iterator.Search.{any_from_yields_List}
+use Rattle.meaning.specs.RuleFiles.{ranges_fit}
+use Rattle.rule_writer.proofs.Laws.{range-any}
 use Rattle.rule_writer.proofs.any_out_of_range.Goals as goal
 
-pub loop-i-init : goal.loop-i-init
-unfolding any_out_of_range
-loop-i-init c = (omega arith, refl)
-
-pub loop-i-preserved : goal.loop-i-preserved
-loop-i-preserved c = (omega arith, range-more c.args.nodes c.loop-i.i (omega arith) c.args.signals _ _ c.loop-i.invariant.1 c.out_of_range-found.ensures)
-
 pub returns : goal.returns
-returns c = let z : c.loop-i.i ≡ c.args.count = omega arith in
-    c.loop-i.invariant.1 ∙ ap (λ (n : ℕ). any_out_of_range c.args.signals (take n c.args.nodes)) z
+returns c =
+    any_from_yields_List (λ n. not (ranges_fit c.args.signals n)) _ _ _ c.any.ensures.ran (YieldsList-from_slice c.args.nodes.now cc) (λ x b q k. search rules)
+    ∙ range-any c.args.signals c.args.nodes.now

@@ -1,12 +1,8 @@
--- `rule_writer::put_nodes` meets its contract.
-use Prim.Native.Nat.{◌-◌, ◌≤◌}
-use lib.ListN.{take}
+-- `rule_writer::put_nodes`: the records of the nodes so far are put.
+use Rattle.std.proofs.Common.{take}
 use Rattle.meaning.specs.RuleTexts.{nodes_bytes}
 use Rattle.text_pieces.specs.Put.{Put}
 use Rattle.rule_writer.proofs.put_nodes.Given as goal
 
-abbrev pub invariant-loop-i : goal.invariant-loop-i
-invariant-loop-i l = (l.i ≤ l.count) × Put l.initial.out l.start (nodes_bytes (take l.i l.nodes)) l.out l.at
-
-abbrev pub decreases-loop-i : goal.decreases-loop-i
-decreases-loop-i l = l.count - l.i
+abbrev pub invariant-loop-node : goal.invariant-loop-node
+invariant-loop-node l = Put l.initial.out l.start (nodes_bytes (take l.node-index l.nodes)) l.out l.at

@@ -1,12 +1,7 @@
--- `rule_writer::temporal_count` meets its contract.
-use mathlib.Core.Path.{◌≡◌}
-use Prim.Native.Nat.{◌-◌, ◌≤◌}
-use lib.ListN.{take}
+-- `rule_writer::temporal_count`: so many of the nodes so far are temporal.
+use Rattle.std.proofs.Common.{◌≡◌, ◌≤◌, take}
 use Rattle.meaning.specs.RuleFiles.{temporals}
 use Rattle.rule_writer.proofs.temporal_count.Given as goal
 
-abbrev pub invariant-loop-i : goal.invariant-loop-i
-invariant-loop-i l = (l.i ≤ l.count) × (l.m ≤ l.i) × (l.m ≡ temporals (take l.i l.nodes))
-
-abbrev pub decreases-loop-i : goal.decreases-loop-i
-decreases-loop-i l = l.count - l.i
+abbrev pub invariant-loop-node : goal.invariant-loop-node
+invariant-loop-node l = (l.count ≤ l.node-index) × (l.count ≡ temporals (take l.node-index l.nodes))

@@ -1,16 +1,20 @@
--- `rule_writer::write_nodes` meets its contract.
-use native.Mathlib.Omega.{arith}
-use mathlib.Core.Path.{sym, subst}
-use Prim.Native.Nat.{ℕ}
-use lib.ListN.{take}
-use Rattle.rule_bytes.specs.WellFormed.{KindsFit}
-use Rattle.rule_writer.specs.Writing.{unmasked, Wrote}
+-- `rule_writer::write_nodes` meets its contract, where no check refuses.
+use Rattle.std.proofs.Common.{arith, refl, ap, sym, ◌∙◌, Ok, length}
+use Rattle.rule_bytes.proofs.Lengths.{file-length}
+use Rattle.rule_writer.specs.Writing.{unmasked}
+use Rattle.text_pieces.proofs.Laws.{put_front}
+use Rattle.rule_writer.proofs.Laws.{file-put, answered}
 use Rattle.rule_writer.proofs.write_nodes.Goals as goal
 
-pub write_rule-requires : goal.write_rule-requires
-write_rule-requires c = (c.requires.0, omega (arith, c.wide.ensures.0, c.requires.1), subst (λ (n : ℕ). KindsFit (take n c.args.nodes)) (sym c.wide.ensures.0) c.requires.2)
+pub returns-clause-answer : goal.returns-clause-answer
+returns-clause-answer c =
+    let r = unmasked c.args.signals c.args.nodes.now in
+    ap Ok (omega (arith, file-length r))
+    ∙ sym (answered r (length c.args.rule.now) (sym c.any_out_of_range.ensures ∙ c.if-any_out_of_range.false) (omega arith) (omega arith))
 
-pub returns : goal.returns
-returns c = let h =
-    subst (λ (n : ℕ). Wrote (unmasked c.args.signals n c.args.nodes) c.args.rule.now c.write_rule.result c.write_rule.new.rule)
-    c.wide.ensures.0 c.write_rule.ensures in record { answer = h.answer; output = h.output }
+pub returns-clause-output : goal.returns-clause-output
+returns-clause-output c =
+    let r = unmasked c.args.signals c.args.nodes.now in
+    let q = answered r (length c.args.rule.now) (sym c.any_out_of_range.ensures ∙ c.if-any_out_of_range.false) (omega arith) (omega arith) in
+    let put = file-put c.args.signals _ c.args.nodes.now refl c.put_bytes-first.ensures c.put_nodes.ensures in
+    rw q (put_front put (omega (arith, put.next, file-length r)))
