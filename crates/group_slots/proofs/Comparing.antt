@@ -2,7 +2,7 @@
 use mathlib.Core.Path.{◌≡◌, sym, ap, ◌∙◌}
 use mathlib.Core.Bool.{Bool, true, false, cond}
 use mathlib.Core.List.{List}
-use Prim.Native.Nat.{ℕ, ◌+◌}
+use Prim.Native.Nat.{ℕ, ◌<◌}
 use native.Mathlib.Omega.{arith}
 use lib.ListN.{get_or}
 use borrow.Author.Tests.{ne_eqb}
@@ -19,10 +19,10 @@ module _ (Σ : Alphabet) (rows : List (List ℕ)) (group : List ℕ) where
   step_is j i b h e = e ∙ sym (ap (λ (b : Bool). cond b (all_events Σ (λ e. together group (entry rows j e) (entry rows i e))) false) h)
 
   -- no state before the name of a group is in it
-  pub missed-before : (i j : ℕ) → Least (i + 1) group → j ≡ get_or group i 0 → Missed j (λ k. same_step Σ rows group k i)
-  missed-before i j h e = record {
+  pub missed-before : (n i j : ℕ) → Least n group → i < n → j ≡ get_or group i 0 → Missed j (λ k. same_step Σ rows group k i)
+  missed-before n i j h i_in e = record {
     none = λ k l. step-not k i (ne_eqb (get_or group k 0) (get_or group i 0) (λ q.
-        let a = h.least i (omega arith) in
+        let a = h.least i i_in in
         let b = h.least k (omega arith) in
         omega arith));
   }

@@ -26,9 +26,6 @@ pub mixed-more : (n : ℕ) (f : ℕ → ℕ) (s t x : ℕ) → t ≡ mixed n f s
 unfolding mixed
 mixed-more n f s t x e h = rw add-one (ap₂ (λ (t x : ℕ). (t * 5 + x) % 1024) e h)
 
-pub mixed-end : (n e : ℕ) (f : ℕ → ℕ) (s t : ℕ) → t ≡ mixed e f s → e ≡ n → t ≡ mixed n f s
-mixed-end n e f s t h q = subst (λ (k : ℕ). t ≡ mixed k f s) q h
-
 mixed-same : (n : ℕ) (f g : ℕ → ℕ) (s : ℕ) → ((e : ℕ) → e < n → f e ≡ g e) → mixed n f s ≡ mixed n g s
 unfolding mixed
 mixed-same zero f g s h = refl

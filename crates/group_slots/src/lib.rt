@@ -1,105 +1,108 @@
-// The least state that a round leaves with a state: states compared by their groups and their successors' groups, and found by slots, a hash table.
+// The least state that a round leaves with a state: states compared by their groups and their successors' groups, and
+// found by slots, a hash table.
 #![tactic(auto)]
 
-ghost use Rattle.std.specs.Prelude.{◌≡◌, ◌+◌, ◌≤◌, ◌<◌};
+ghost use Rattle.std.specs.Prelude.{◌≡◌, ◌≤◌, ◌<◌};
 ghost use Rattle.sequences.specs.Tabulate.{least_below};
-ghost use Rattle.moore.specs.Grouping.{entry, together, same_step};
-ghost use Rattle.group_slots.specs.Groups.{unmasked, Least};
+ghost use Rattle.moore.specs.Grouping.{entry, leads, together, same_step};
+ghost use Rattle.group_slots.specs.Groups.{unmasked, RowsBelow, Least};
 ghost use Rattle.group_slots.specs.Slots.{slot_of, LeftBelow, InSlot};
 
-use wire::wide;
-
-// The successor of a state at an event.
-pub fn successor(rows: &[[u8; 16]; 256], state: usize, event: usize) -> usize
-    requires { (state < 256) × (event < 16) }
-    ensures { (result ≡ entry rows.now state event) × (result < 256) }
-{
-    wide(rows[state][event])
+// The successors of a machine's states at its events, each of which can happen.
+#[derive(Clone, Copy)]
+pub struct Successors<'a> {
+    pub rows: &'a [[u8; 16]; 256],
+    pub states: usize,
+    pub events: usize,
+    pub ghost few_states: { states ≤ 256 },
+    pub ghost few_events: { events ≤ 16 },
+    pub ghost inside: { RowsBelow states (unmasked events) states rows.now },
 }
 
-// Whether two states are in one group.
-pub fn joined(group: &[u8; 256], i: usize, j: usize) -> bool
-    requires { (i < 256) × (j < 256) }
-    ensures { result ≡ together group.now i j }
-{
-    group[i] == group[j]
-}
-
-// Whether two states are in one group, and so are their successors at each event.
-fn same_step(rows: &[[u8; 16]; 256], group: &[u8; 256], events: usize, j: usize, i: usize) -> bool
-    requires { (events ≤ 16) × (j < 256) × (i < 256) }
-    ensures { result ≡ same_step (unmasked events) rows.now group.now j i }
-{
-    if !joined(group, j, i) {
-        return false;
+impl Successors<'_> {
+    // The successor of a state at an event.
+    pub fn at(&self, state: u8, event: usize) -> u8
+        requires { event < 16 }
+        ensures { result ≡ entry self.now.rows.now state event }
+    {
+        self.rows[usize::from(state)][event]
     }
-    let mut e: usize = 0;
-    while e < events {
-        let a = successor(rows, j, e);
-        let b = successor(rows, i, e);
-        if !joined(group, a, b) {
-            return false;
+}
+
+// The states of a machine in groups: for each the least of its group.
+#[derive(Clone, Copy)]
+pub struct Grouped<'a> {
+    pub successors: Successors<'a>,
+    pub group: &'a [u8; 256],
+    pub ghost least: { Least successors.states group.now },
+}
+
+impl Grouped<'_> {
+    // Whether a state is the least of its group.
+    pub fn leads(&self, i: u8) -> bool
+        ensures { result ≡ leads self.now.group.now i }
+    {
+        self.group[usize::from(i)] == i
+    }
+
+    // Whether two states are in one group.
+    pub fn joined(&self, i: u8, j: u8) -> bool
+        ensures { result ≡ together self.now.group.now i j }
+    {
+        self.group[usize::from(i)] == self.group[usize::from(j)]
+    }
+
+    // Whether two states are in one group, and so are their successors at each event.
+    fn same_step(&self, j: u8, i: u8) -> bool
+        ensures { let s = self.now.successors in
+            result ≡ same_step (unmasked s.events) s.rows.now self.now.group.now j i }
+    {
+        let s = &self.successors;
+        self.joined(j, i) && (0..s.events).all(|e| self.joined(s.at(j, e), s.at(i, e)))
+    }
+
+    // The least state that a round leaves with a state. The search starts at the least of its group so far, before
+    // which none is in it: over all rounds it passes each state once at most, and compares once more a round.
+    fn least_same(&self, i: u8) -> u8
+        requires { i < self.now.successors.states }
+        ensures { let s = self.now.successors in
+            result ≡ least_below i (λ j. same_step (unmasked s.events) s.rows.now self.now.group.now j i) }
+    {
+        (self.group[usize::from(i)]..i)
+            .find(|j| self.same_step(*j, i))
+            .unwrap_or(i)
+    }
+
+    // The slot of a state in a round, by its group and those of its successors: states that a round leaves together
+    // have the same slot.
+    pub fn slot_of(&self, i: u8) -> usize
+        ensures { let s = self.now.successors in
+            (result ≡ slot_of s.events s.rows.now self.now.group.now i) × (result < 1024) }
+    {
+        let mut slot = usize::from(self.group[usize::from(i)]);
+        for e in 0..self.successors.events {
+            let to = self.successors.at(i, e);
+            slot = (slot * 5 + usize::from(self.group[usize::from(to)])) % 1024;
         }
-        e += 1;
+        slot
     }
-    true
-}
 
-// The least state that a round leaves with a state. The search starts at the least of its group so far, before which none is in it: over all
-// rounds it passes each state once at most, and compares once more a round.
-fn least_same(rows: &[[u8; 16]; 256], group: &[u8; 256], events: usize, i: usize) -> u8
-    requires events_bound { (events ≤ 16) × (i < 256) }
-    requires least { Least (i + 1) group.now }
-    ensures { result ≡ least_below i (λ j. same_step (unmasked events) rows.now group.now j i) }
-{
-    let mut j: usize = wide(group[i]);
-    while j < i {
-        if same_step(rows, group, events, j, i) {
-            return j as u8;
+    // The same as `least_same`. `next` has it for the states before i; j is the last of these that has the slot of i,
+    // or 0: then none has it, unless state 0 does.
+    pub fn least_by_slot(&self, next: &[u8; 256], j: u8, i: u8) -> u8
+        requires inside { i < self.now.successors.states }
+        requires left_below { let s = self.now.successors in
+            LeftBelow i s.events s.rows.now self.now.group.now next.now
+            × InSlot i s.events s.rows.now self.now.group.now j }
+        ensures { let s = self.now.successors in
+            result ≡ least_below i (λ j. same_step (unmasked s.events) s.rows.now self.now.group.now j i) }
+    {
+        if i == 0 {
+            return 0;
         }
-        j += 1;
+        if self.same_step(j, i) {
+            return next[usize::from(j)];
+        }
+        if j == 0 { i } else { self.least_same(i) }
     }
-    i as u8
-}
-
-// The slot of a state in a round, by its group and those of its successors: states that a round leaves together have the same slot.
-pub fn slot_of(rows: &[[u8; 16]; 256], group: &[u8; 256], events: usize, i: usize) -> usize
-    requires { (events ≤ 16) × (i < 256) }
-    ensures { (result ≡ slot_of events rows.now group.now i) × (result < 1024) }
-{
-    let mut slot = wide(group[i]) % 1024;
-    let mut e: usize = 0;
-    while e < events {
-        let to = successor(rows, i, e);
-        slot = (slot * 5 + wide(group[to])) % 1024;
-        e += 1;
-    }
-    slot
-}
-
-// The same as `least_same`. `next` has it for the states before i; j is the last of these that has the slot of i, or 0: then none has it, unless
-// state 0 does.
-pub fn least_by_slot(
-    rows: &[[u8; 16]; 256],
-    group: &[u8; 256],
-    events: usize,
-    next: &[u8; 256],
-    j: usize,
-    i: usize,
-) -> u8
-    requires events_bound { (events ≤ 16) × (i < 256) }
-    requires least { Least (i + 1) group.now }
-    requires left_below { LeftBelow i events rows.now group.now next.now × InSlot i events rows.now group.now j }
-    ensures { result ≡ least_below i (λ j. same_step (unmasked events) rows.now group.now j i) }
-{
-    if i == 0 {
-        return 0;
-    }
-    if same_step(rows, group, events, j, i) {
-        return next[j];
-    }
-    if j == 0 {
-        return i as u8;
-    }
-    least_same(rows, group, events, i)
 }

@@ -2,8 +2,10 @@
 use mathlib.Core.Path.{◌≡◌, refl, sym, ap, ◌∙◌, subst}
 use mathlib.Core.Bool.{Bool, true, false, not, cond}
 use mathlib.Core.List.{List, ◌++◌}
-use Prim.Native.Nat.{ℕ, suc, ◌+◌, ◌≤◌, ◌<◌}
+use Prim.Native.Nat.{ℕ, suc, ◌+◌, ◌<◌}
 use native.Mathlib.Numerals.{add-one}
+use Rattle.std.proofs.Common.{add-zero}
+use mir.Val.{bool_byte}
 use native.Mathlib.Decide.{dec_lt}
 use native.Mathlib.Omega.{arith}
 use lib.ListN.{length, get_or, set, drop, replicate}
@@ -16,16 +18,17 @@ use Rattle.meaning.specs.Monitors.{keep}
 use Rattle.moore.specs.Counting.{count_below}
 use Rattle.moore.specs.Grouping.{leads}
 use Rattle.moore.specs.Quotient.{leaders, leader, size, closed}
-use Rattle.moore.proofs.Counting.{count-le, count-lt, standing}
+use Rattle.moore.proofs.Counting.{count-lt, standing}
 use Rattle.grouping.specs.Machines.{Leaders, verdict_at}
 use Rattle.grouping.specs.Reduction.{padded}
 
 -- ---- numbers
-pub count-step : (p : ℕ → Bool) (i q r : ℕ) → q ≡ count_below i p → r ≡ cond (p i) (q + 1) q → r ≡ count_below (i + 1) p
-count-step p i q r e h = rw (add-one i) (h ∙ ap (λ (x : ℕ). cond (p i) x q) (add-one q) ∙ ap (λ (x : ℕ). cond (p i) (suc x) x) e)
-
-pub count-step-le : (p : ℕ → Bool) (i q r : ℕ) → q ≡ count_below i p → r ≡ cond (p i) (q + 1) q → r ≤ i + 1
-count-step-le p i q r e h = subst (λ (x : ℕ). x ≤ i + 1) (sym (count-step p i q r e h)) (count-le (i + 1) p)
+pub count-step : (p : ℕ → Bool) (i q x : ℕ) (b : Bool) → q ≡ count_below i p → b ≡ p i → x ≡ bool_byte b → q + x ≡ count_below (i + 1) p
+count-step p i q x b e h k = rw (add-one i) (ap (λ (y : ℕ). q + y) k ∙ go b ∙ ap (λ (b : Bool). cond b (suc q) q) h ∙ ap (λ (y : ℕ). cond (p i) (suc y) y) e)
+  where
+    go : (b : Bool) → q + bool_byte b ≡ cond b (suc q) q
+    go true = add-one q
+    go false = add-zero q
 
 -- those of the first i that pass stand each at its count: the invariant of a loop that lists what passes
 pub record Listed (i : ℕ) (p : ℕ → Bool) (s : List ℕ) : Type 0 where

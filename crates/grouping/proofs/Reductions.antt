@@ -5,6 +5,7 @@ use mathlib.Core.List.{List, ◌++◌, map}
 use Prim.Native.Nat.{ℕ, ◌^◌, ◌≤◌, ◌<◌}
 use native.Mathlib.Omega.{arith}
 use lib.ListN.{get_or, take, drop}
+use lib.Seq.{get_or-take}
 use Rattle.sequences.proofs.Pointwise.{tabulate-same}
 use Rattle.sequences.specs.Tabulate.{tabulate}
 use Rattle.sequences.proofs.Loops.{get_d-tab}
@@ -17,6 +18,7 @@ use Rattle.moore.proofs.Quotient.{leader-in, number_in, number-start}
 use Rattle.group_slots.specs.Groups.{unmasked, RowsBelow, Least}
 use Rattle.refinement.specs.Rows.{Cleared}
 use Rattle.refinement.proofs.Laws.{taken_at}
+use Rattle.refinement.proofs.Clearing.{grouping-cleared}
 use Rattle.refinement.proofs.Front.{front_at}
 use Rattle.grouping.specs.Machines.{Leaders, verdict_at, row_at}
 use Rattle.grouping.specs.Reduction.{padded, Reduction}
@@ -24,7 +26,7 @@ use Rattle.grouping.proofs.Front.{map-tabulate, size-front, leader-front, number
 use Rattle.grouping.proofs.Clearing.{verdict-cleared, row-cleared}
 
 -- the counts as the code has them
-pub machine-at : (P mask : ℕ) {n : ℕ} {rows : List (List ℕ)} {classes : List ℕ} (w m : ℕ) → w ≡ 2 ^ P → m ≡ n → Machine (masked (2 ^ P) mask) n rows classes → Machine (masked w mask) m rows classes
+machine-at : (P mask : ℕ) {n : ℕ} {rows : List (List ℕ)} {classes : List ℕ} (w m : ℕ) → w ≡ 2 ^ P → m ≡ n → Machine (masked (2 ^ P) mask) n rows classes → Machine (masked w mask) m rows classes
 machine-at P mask {n} {rows} {classes} w m p q M = subst (λ (k : ℕ). Machine (masked w mask) k rows classes) (sym q) (subst (λ (k : ℕ). Machine (masked k mask) n rows classes) (sym p) M)
 
 pub rows_in : {Σ : Alphabet} {n : ℕ} {rows : List (List ℕ)} {classes : List ℕ} → Machine Σ n rows classes → RowsBelow n Σ n rows
@@ -43,7 +45,7 @@ module _ {Σ : Alphabet} {n : ℕ} {rows : List (List ℕ)} {classes : List ℕ}
   unfolding front
   S = subst (λ (g : List ℕ). Stable Σ n rows g) (sym is) (grouping-stable M)
 
-  pub group-least : Least n group
+  group-least : Least n group
   unfolding front
   group-least = record { least = λ i l. subst (λ (x : ℕ). x ≤ i) (front_at n group i l) (G.least i l) }
 
@@ -62,7 +64,7 @@ module _ {Σ : Alphabet} {n : ℕ} {rows : List (List ℕ)} {classes : List ℕ}
     leaders-some : 0 < r
     leaders-some = subst (λ (k : ℕ). 0 < k) (sym count-is) (subst (λ (q : ℕ). q < size n front) (number-start M G S) (number_in M G S 0 M.some))
 
-    pub leaders-fewer : r ≤ n
+    leaders-fewer : r ≤ n
     unfolding size
     leaders-fewer = subst (λ (k : ℕ). k ≤ n) (sym L.count) (count-le n (leads group))
 
@@ -107,7 +109,7 @@ module _ {Σ : Alphabet} {n : ℕ} {rows : List (List ℕ)} {classes : List ℕ}
           go q e l m true p = number_at (entry rows (get_or least q 0) e) (M.inside (get_or least q 0) e (least-in q l) (m, rw p tt)) ∙ ap (λ (s : ℕ). get_or (tabulate n (number front)) (entry rows s e) 0) (least-is q l)
           go q e l m false p = refl
 
-      pub reduction : (Σ' : Alphabet) (m : ℕ) (bytes bytes' : List ℕ) (to to' : List (List ℕ)) → Σ ≡ Σ' → n ≡ m
+      reduction : (Σ' : Alphabet) (m : ℕ) (bytes bytes' : List ℕ) (to to' : List (List ℕ)) → Σ ≡ Σ' → n ≡ m
           → bytes' ≡ tabulate r (λ q. verdict_at Σ rows' classes group (get_or least q 0)) ++ drop r bytes
           → to' ≡ tabulate r (λ q. row_at (unmasked Σ.width) rows' numbers (get_or least q 0)) ++ drop r to → Reduction Σ' m rows classes bytes to r bytes' to'
       unfolding front
@@ -120,3 +122,28 @@ module _ {Σ : Alphabet} {n : ℕ} {rows : List (List ℕ)} {classes : List ℕ}
             verdicts_are = b ∙ ap (λ (l : List ℕ). l ++ drop r bytes) (verdicts_are C ∙ ap (verdicts Σ n rows classes) is);
             rows_are = t ∙ ap (λ (l : List (List ℕ)). l ++ drop r to) (rows_are ∙ ap (λ (g : List ℕ). map padded (quotient_rows Σ n rows g)) is);
           }))
+
+-- ---- as the code has it: so many events and states as numbers, the rows in which the events that cannot happen lead to state 0, and their groups
+-- the least states of the groups are those from the front of an array
+leaders-taken : {n : ℕ} {group : List ℕ} (r : ℕ) (least : List ℕ) → Leaders n group r least → Leaders n group r (take r least)
+leaders-taken r least L = record { count = L.count; at = λ q l. get_or-take r least q 0 l ∙ L.at q l }
+
+module _ (P mask : ℕ) {n : ℕ} {rows rows' : List (List ℕ)} {classes : List ℕ} {w m : ℕ} (p : w ≡ 2 ^ P) (q : m ≡ n)
+    (M : Machine (masked (2 ^ P) mask) n rows classes) (C : Cleared (masked w mask) w m rows rows') (group : List ℕ)
+    (is : take m group ≡ grouping (unmasked w) m rows' classes) where
+  machine_of : Machine (masked w mask) m rows classes
+  machine_of = machine-at P mask w m p q M
+
+  groups_of : take m group ≡ grouping (masked w mask) m rows classes
+  groups_of = is ∙ grouping-cleared C classes
+
+  pub least-of : Least m group
+  least-of = group-least machine_of group groups_of
+
+  module _ {r : ℕ} {least : List ℕ} (L : Leaders m group r least) where
+    pub reduced : (numbers bytes bytes' : List ℕ) (to to' : List (List ℕ)) → take m numbers ≡ tabulate m (number group)
+        → bytes' ≡ tabulate r (λ i. verdict_at (masked w mask) rows' classes group (get_or (take r least) i 0)) ++ drop r bytes
+        → to' ≡ tabulate r (λ i. row_at (unmasked w) rows' numbers (get_or (take r least) i 0)) ++ drop r to
+        → Reduction (masked (2 ^ P) mask) n rows classes bytes to r bytes' to'
+    reduced numbers bytes bytes' to to' N b t =
+        reduction machine_of group groups_of (leaders-taken r least L) C numbers N (masked (2 ^ P) mask) n bytes bytes' to to' (ap (λ (k : ℕ). masked k mask) p) q b t

@@ -1,8 +1,13 @@
 -- Laws of the loops of a round: where each begins, after a turn, and at its end.
-use mathlib.Core.Path.{◌≡◌, sym, ap, ◌∙◌, subst}
-use mathlib.Core.Bool.{Bool}
-use mathlib.Core.List.{List, ◌++◌}
-use Prim.Native.Nat.{ℕ, ◌≤◌, ◌<◌}
+use mathlib.Core.Path.{◌≡◌, refl, sym, ap, ◌∙◌, subst}
+use mathlib.Core.Bool.{Bool, true, false, cond, ◌&&◌}
+use mathlib.Core.List.{List, [], ◌∷◌, ◌++◌}
+use Prim.Native.Nat.{ℕ, zero, suc, ◌≤◌, ◌<◌}
+use native.Mathlib.Nat.{le_of_suc-le-suc}
+use lib.Dec.{eqb}
+use lib.ListN.{length}
+use Rattle.std.proofs.Common.{nat_eq}
+use Rattle.std.specs.Cmp.Lexicographic.{pointwise}
 use native.Mathlib.Omega.{arith}
 use lib.ListN.{get_or, take, drop}
 use lib.Seq.{take_at, get_or-take, get_or-append-add, get_or-drop}
@@ -10,7 +15,7 @@ use Rattle.sequences.specs.Tabulate.{tabulate, least_below}
 use Rattle.sequences.proofs.Loops.{Filled, filled-to, length-tab, get_d-tab}
 use Rattle.sequences.proofs.Pigeonhole.{least-below}
 use Rattle.meaning.specs.Traces.{Alphabet}
-use Rattle.moore.specs.Grouping.{together, same_step, first_groups, next_groups}
+use Rattle.moore.specs.Grouping.{together, same_step, first_groups, next_groups, same_below}
 use Rattle.group_slots.specs.Groups.{Least}
 
 -- ---- a list that a loop filled
@@ -29,6 +34,21 @@ module _ {A : Type 0} where
       ∙ get_or-append-add (tabulate n f) (drop n d) 0 z
       ∙ get_or-drop n d 0 z
       ∙ ap (λ (k : ℕ). get_or d k z) (omega arith)
+
+-- two lists whose first n elements are compared
+and_cond : (b r : Bool) → (b && r) ≡ cond b r false
+and_cond true r = refl
+and_cond false r = refl
+
+pointwise_same : (n : ℕ) (a b : List ℕ) → n ≤ length a → n ≤ length b → pointwise nat_eq (take n a) (take n b) ≡ same_below n a b
+pointwise_same zero a b l m = refl
+pointwise_same (suc n) [] b l m = absurd (omega arith)
+pointwise_same (suc n) (x ∷ a) [] l m = absurd (omega arith)
+pointwise_same (suc n) (x ∷ a) (y ∷ b) l m =
+    and_cond (eqb x y) (pointwise nat_eq (take n a) (take n b)) ∙ ap (λ (r : Bool). cond (eqb x y) r false) (pointwise_same n a b (le_of_suc-le-suc l) (le_of_suc-le-suc m))
+
+pub same-taken : (n : ℕ) (a b : List ℕ) (r : Bool) → n ≤ length a → n ≤ length b → r ≡ pointwise nat_eq (take n a) (take n b) → r ≡ same_below n a b
+same-taken n a b r l m h = h ∙ pointwise_same n a b l m
 
 -- ---- the names of groups
 least-le : (n : ℕ) (p : ℕ → Bool) → least_below n p ≤ n

@@ -1,21 +1,32 @@
 -- `grouping::list_leaders` meets its contract.
-use native.Mathlib.Omega.{arith}
-use borrow.Author.Rules.{rules}
-use mathlib.Core.Path.{refl}
-use lib.ListN.{length-set}
+use Rattle.std.proofs.Common.{◌+◌, arith}
 use Rattle.moore.specs.Grouping.{leads}
-use Rattle.grouping.proofs.Laws.{count-step, count-step-le, listed-none, listed_more, listed-end}
+use Rattle.moore.proofs.Counting.{count-le}
+use Rattle.grouping.proofs.Laws.{count-step, listed_more, listed-end}
 use Rattle.grouping.proofs.list_leaders.Goals as goal
 
-pub loop-i-init : goal.loop-i-init
-loop-i-init c = (omega arith, omega arith, search rules, refl, listed-none)
+pub bounds-least-count : goal.bounds-least-count
+bounds-least-count c = let few = count-le c.loop-i.i (leads c.args.grouped.now.group.now) in omega (arith, c.loop-i.invariant.counted)
+
+pub overflow_add-count : goal.overflow_add-count
+overflow_add-count c =
+    let lead = leads c.args.grouped.now.group.now in
+    let few = count-le (c.loop-i.i + 1) lead in
+    let counted = count-step lead c.loop-i.i c.loop-i.count c.from-count.result c.leads.result c.loop-i.invariant.counted c.leads.ensures c.from-count.ensures in
+    omega arith
 
 pub loop-i-preserved : goal.loop-i-preserved
-loop-i-preserved c = let p = leads c.args.group.now in
-    let bound = count-step-le p c.loop-i.i c.loop-i.count c.counted-count.result c.loop-i.invariant.3 c.counted-count.ensures in
-    let counted = count-step p c.loop-i.i c.loop-i.count c.counted-count.result c.loop-i.invariant.3 c.counted-count.ensures in
-    let listed = listed_more c.loop-i.i c.loop-i.count p c.loop-i.least c.loop-i.invariant.4 c.loop-i.invariant.3 (omega (arith, c.loop-i.invariant.2)) in
-    (omega arith, bound, simp length-set c.loop-i.invariant.2, counted, listed)
+loop-i-preserved c =
+    let lead = leads c.args.grouped.now.group.now in
+    let few = count-le c.loop-i.i lead in record {
+      counted = count-step lead c.loop-i.i c.loop-i.count c.from-count.result c.leads.result c.loop-i.invariant.counted c.leads.ensures c.from-count.ensures;
+      listed = listed_more c.loop-i.i c.loop-i.count lead c.loop-i.least c.loop-i.invariant.listed c.loop-i.invariant.counted (omega (arith, c.loop-i.invariant.counted));
+    }
 
-pub returns : goal.returns
-returns c = listed-end c.args.states c.loop-i.i c.loop-i.count c.args.group.now c.loop-i.least c.loop-i.invariant.4 (omega arith) c.loop-i.invariant.3
+pub returns-clause-listed : goal.returns-clause-listed
+returns-clause-listed c =
+    let g = c.args.grouped.now in
+    listed-end g.successors.states c.loop-i.i c.loop-i.count g.group.now c.loop-i.least c.loop-i.invariant.listed (omega arith) c.loop-i.invariant.counted
+
+pub returns-clause-few : goal.returns-clause-few
+returns-clause-few c = let few = count-le c.loop-i.i (leads c.args.grouped.now.group.now) in omega (arith, c.loop-i.invariant.counted)

@@ -1,44 +1,24 @@
 -- `grouping::reduce` meets its contract.
-use native.Mathlib.Omega.{arith}
-use mathlib.Core.Path.{ap, ◌∙◌}
-use Prim.Native.Nat.{ℕ, ◌^◌}
-use Rattle.meaning.specs.Traces.{masked}
-use Rattle.refinement.proofs.Clearing.{cleared-below, grouping-cleared}
-use Rattle.grouping.proofs.Reductions.{machine-at, rows_in, group-least, leaders-fewer, reduction}
+use Rattle.std.proofs.Common.{ℕ, arith}
+use Rattle.std.proofs.lemmas.List.{length-take}
+use Rattle.sequences.proofs.Loops.{filled_more, filled-to}
+use Rattle.grouping.proofs.Reductions.{least-of, reduced}
 use Rattle.grouping.proofs.reduce.Goals as goal
 
-pub groups-group-requires : goal.groups-group-requires
-groups-group-requires c = record { events_bound = (omega arith, omega arith); rows_below = cleared-below c.clear_impossible.ensures (rows_in (machine-at c.args.signals c.args.mask c.width-events.result c.wide16-n.result c.width-events.ensures.0 c.wide16-n.ensures.0 c.requires.machine)) }
+pub invariant_of-grouped : goal.invariant_of-grouped
+invariant_of-grouped c = record {
+  least = least-of c.args.signals c.args.mask c.width-events.ensures.0 c.from-states.ensures c.requires.machine c.clear_impossible.ensures c.groups-group.result c.groups-group.ensures;
+}
 
-pub numbers-number-requires : goal.numbers-number-requires
-numbers-number-requires c = record { states_bound = (omega (arith, c.wide16-n.ensures.0)); least = group-least (machine-at c.args.signals c.args.mask c.width-events.result c.wide16-n.result c.width-events.ensures.0 c.wide16-n.ensures.0 c.requires.machine) c.groups-group.result (c.groups-group.ensures ∙ grouping-cleared c.clear_impossible.ensures c.args.classes.now) }
-
-pub put_verdicts-requires : goal.put_verdicts-requires
-put_verdicts-requires c =
-    (c.width-events.ensures.1, (omega (arith, c.wide16-n.ensures.0, leaders-fewer (machine-at c.args.signals c.args.mask c.width-events.result c.wide16-n.result c.width-events.ensures.0 c.wide16-n.ensures.0 c.requires.machine) c.groups-group.result (c.groups-group.ensures ∙ grouping-cleared c.clear_impossible.ensures c.args.classes.now) c.list_leaders-count.ensures)), c.requires.verdicts_len.0)
-
-pub put_rows-requires : goal.put_rows-requires
-put_rows-requires c = (c.width-events.ensures.1, (omega (arith, c.wide16-n.ensures.0, leaders-fewer (machine-at c.args.signals c.args.mask c.width-events.result c.wide16-n.result c.width-events.ensures.0 c.wide16-n.ensures.0 c.requires.machine) c.groups-group.result (c.groups-group.ensures ∙ grouping-cleared c.clear_impossible.ensures c.args.classes.now) c.list_leaders-count.ensures)), c.requires.verdicts_len.1)
-
-pub overflow_cast-result : goal.overflow_cast-result
-overflow_cast-result c = omega (arith, c.wide16-n.ensures.0, leaders-fewer (machine-at c.args.signals c.args.mask c.width-events.result c.wide16-n.result c.width-events.ensures.0 c.wide16-n.ensures.0 c.requires.machine) c.groups-group.result (c.groups-group.ensures ∙ grouping-cleared c.clear_impossible.ensures c.args.classes.now) c.list_leaders-count.ensures)
+pub loop-q-preserved : goal.loop-q-preserved
+loop-q-preserved c = record {
+  judged = filled_more c.loop-q.invariant.judged c.verdict_of.ensures (omega (arith, length-take {A = ℕ}));
+  led = filled_more c.loop-q.invariant.led c.row_of.ensures (omega (arith, length-take {A = ℕ}));
+}
 
 pub returns : goal.returns
-returns c = reduction
-    (machine-at c.args.signals c.args.mask c.width-events.result c.wide16-n.result c.width-events.ensures.0 c.wide16-n.ensures.0 c.requires.machine)
-    c.groups-group.result
-    (c.groups-group.ensures ∙ grouping-cleared c.clear_impossible.ensures c.args.classes.now)
-    c.list_leaders-count.ensures
-    c.clear_impossible.ensures
-    c.numbers-number.result
-    c.numbers-number.ensures
-    (masked (2 ^ c.args.signals) c.args.mask)
-    c.args.states
-    c.args.verdicts.now
-    c.put_verdicts.new.verdicts
-    c.args.to.now
-    c.put_rows.new.to
-    (ap (λ (k : ℕ). masked k c.args.mask) c.width-events.ensures.0)
-    c.wide16-n.ensures.0
-    c.put_verdicts.ensures
-    c.put_rows.ensures
+returns c =
+    let count = c.list_leaders-count in
+    reduced c.args.signals c.args.mask c.width-events.ensures.0 c.from-states.ensures c.requires.machine c.clear_impossible.ensures c.groups-group.result c.groups-group.ensures count.ensures.listed
+    c.numbers-numbers.result c.args.verdicts.now c.loop-q.verdicts c.args.to.now c.loop-q.to c.numbers-numbers.ensures
+    (filled-to count.result c.loop-q.invariant.judged (omega (arith, length-take {A = ℕ}))) (filled-to count.result c.loop-q.invariant.led (omega (arith, length-take {A = ℕ})))

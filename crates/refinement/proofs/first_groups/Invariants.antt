@@ -1,12 +1,8 @@
--- `grouping::first_groups` meets its contract.
-use Prim.Native.Nat.{◌-◌, ◌≤◌}
+-- `refinement::first_groups` meets its contract.
 use Rattle.sequences.specs.Tabulate.{least_below}
 use Rattle.sequences.proofs.Loops.{Filled}
 use Rattle.moore.specs.Grouping.{together}
 use Rattle.refinement.proofs.first_groups.Given as goal
 
 abbrev pub invariant-loop-i : goal.invariant-loop-i
-invariant-loop-i l = (l.i ≤ l.states) × Filled l.i (λ k. least_below k (λ j. together l.classes j k)) l.initial.group l.group
-
-abbrev pub decreases-loop-i : goal.decreases-loop-i
-decreases-loop-i l = l.states - l.i
+invariant-loop-i l = Filled l.i (λ k. least_below k (λ j. together l.classes j k)) l.initial.group l.group

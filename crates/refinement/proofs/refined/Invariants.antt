@@ -1,13 +1,13 @@
--- `grouping::refined` meets its contract.
-use mathlib.Core.Path.{◌≡◌}
-use Prim.Native.Nat.{◌≤◌}
-use lib.ListN.{take}
+-- `refinement::refined` meets its contract.
+use Rattle.std.proofs.Common.{◌≡◌, ◌-◌, take}
 use Rattle.moore.specs.Grouping.{rounds}
 use Rattle.group_slots.specs.Groups.{unmasked, Least}
 use Rattle.refinement.proofs.refined.Given as goal
 
-abbrev pub invariant-loop-left : goal.invariant-loop-left
-invariant-loop-left l = (l.left ≤ l.states) × Least l.states l.group × (rounds l.left (unmasked l.events) l.states l.rows (take l.states l.group) ≡ rounds l.states (unmasked l.events) l.states l.rows (take l.states l.initial.group))
-
-abbrev pub decreases-loop-left : goal.decreases-loop-left
-decreases-loop-left l = l.left
+abbrev pub invariant-loop-done : goal.invariant-loop-done
+invariant-loop-done l =
+    let s = l.successors in
+    let of = rounds (s.states - l.done) (unmasked s.events) s.states s.rows.now (take s.states l.group) in record {
+      least : Least s.states l.group;
+      same : of ≡ rounds s.states (unmasked s.events) s.states s.rows.now (take s.states l.initial.group);
+    }

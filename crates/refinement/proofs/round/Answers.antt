@@ -1,29 +1,26 @@
--- `grouping::round` meets its contract.
-use native.Mathlib.Omega.{arith}
-use borrow.Author.Rules.{rules}
-use Prim.Native.Nat.{◌<◌}
+-- `refinement::round` meets its contract.
+use Rattle.std.proofs.Common.{refl, arith}
 use Rattle.sequences.proofs.Loops.{filled_none, filled_more}
 use Rattle.moore.specs.Grouping.{next_groups}
-use Rattle.refinement.proofs.Laws.{filled-take}
 use Rattle.group_slots.proofs.Slots.{left_below, in-slot, slotted-none, slotted-more}
+use Rattle.refinement.proofs.Laws.{filled-take}
 use Rattle.refinement.proofs.round.Goals as goal
 
 pub loop-i-init : goal.loop-i-init
-loop-i-init c = (omega arith, filled_none, slotted-none _ _ _ c.no_slots-slots.result c.no_slots-slots.ensures)
+loop-i-init c = record { filled = filled_none; slotted = slotted-none _ _ _ _ refl }
 
-pub bounds-slots-slot : goal.bounds-slots-slot
-bounds-slots-slot c = omega (arith, c.loop-i.invariant.2.long, c.slot_of-slot.ensures.1)
-
-pub least_by_slot-least-requires : goal.least_by_slot-least-requires
-least_by_slot-least-requires c = let slotted = in-slot _ _ _ c.loop-i.i c.slot_of-slot.result c.wide-j.result c.loop-i.slots c.loop-i.invariant.2 c.slot_of-slot.ensures.0 c.slot_of-slot.ensures.1 c.wide-j.ensures.0 in record { events_bound = (omega arith, omega arith); least = record { least = λ k l. c.requires.least.least k (omega arith) }; left_below = (left_below _ _ _ c.loop-i.i c.loop-i.invariant.1, slotted) }
-
-pub bounds-slots-slot-in-loop-i : goal.bounds-slots-slot-in-loop-i
-bounds-slots-slot-in-loop-i c = omega (arith, c.loop-i.invariant.2.long, c.slot_of-slot.ensures.1)
+pub least_by_slot-least-requires-clause-left_below : goal.least_by_slot-least-requires-clause-left_below
+least_by_slot-least-requires-clause-left_below c =
+    let slot = c.slot_of-slot in
+    (left_below _ _ _ c.loop-i.i c.loop-i.invariant.filled, in-slot _ _ _ c.loop-i.i slot.result _ c.loop-i.slots c.loop-i.invariant.slotted slot.ensures.0 slot.ensures.1 refl)
 
 pub loop-i-preserved : goal.loop-i-preserved
-loop-i-preserved c = let filled = filled_more c.loop-i.invariant.1 c.least_by_slot-least.ensures (let l : c.loop-i.i < 256 = omega arith in search rules) in
-    (omega arith, filled, slotted-more _ _ _ c.loop-i.i c.slot_of-slot.result c.loop-i.slots c.loop-i.invariant.2 c.slot_of-slot.ensures.0 c.slot_of-slot.ensures.1)
+loop-i-preserved c =
+    let slot = c.slot_of-slot in record {
+      filled = filled_more c.loop-i.invariant.filled c.least_by_slot-least.ensures (omega arith);
+      slotted = slotted-more _ _ _ c.loop-i.i slot.result c.loop-i.slots c.loop-i.invariant.slotted slot.ensures.0 slot.ensures.1;
+    }
 
 pub returns : goal.returns
 unfolding next_groups
-returns c = filled-take c.args.states c.loop-i.invariant.1 (omega arith)
+returns c = filled-take c.args.grouped.now.successors.states c.loop-i.invariant.filled (omega arith)

@@ -1,0 +1,16 @@
+-- `grouping::reduce` meets its contract.
+use Rattle.std.proofs.Common.{get_or}
+use Rattle.sequences.proofs.Loops.{Filled}
+use Rattle.meaning.specs.Traces.{masked}
+use Rattle.group_slots.specs.Groups.{unmasked}
+use Rattle.grouping.specs.Machines.{verdict_at, row_at}
+use Rattle.grouping.proofs.reduce.Given as goal
+
+abbrev pub invariant-loop-q : goal.invariant-loop-q
+invariant-loop-q l =
+    let j = l.judged in
+    let s = l.successors in
+    let group = j.grouped.now.group.now in record {
+      judged : Filled l.q (λ k. verdict_at (masked s.events j.mask) s.rows.now j.classes.now group (get_or l.s-items k 0)) l.initial.verdicts l.verdicts;
+      led : Filled l.q (λ k. row_at (unmasked s.events) s.rows.now l.numbers (get_or l.s-items k 0)) l.initial.to l.to;
+    }
