@@ -114,6 +114,14 @@ module _ (t : List ℕ) where
       go true q = let z : ◌≡◌ {A = ℕ} 0 1 = cc in absurd (omega arith)
       go false q = refl
 
+  -- and were refused by 14
+  pub refused-by : (x : Refusal) → checked_of t ≡ Err x → x ≡ WrongTable
+  refused-by x e = go (is_table t) e
+    where
+      go : (b : Bool) → cond b (Ok counts) (Err WrongTable) ≡ Err x → x ≡ WrongTable
+      go true q = let z : ◌≡◌ {A = ℕ} 0 1 = cc in absurd (omega arith)
+      go false q = cc
+
   module _ (s : ℕ) where
     module _ (es : List ℕ) where
       pub run-refused : (x : Refusal) → checked_of t ≡ Err x → Err WrongTable ≡ run_of t s es
