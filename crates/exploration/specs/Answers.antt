@@ -1,13 +1,20 @@
 -- What the answers of the walk's functions say of the model.
-use Rattle.std.specs.Prelude.{◌≡◌, cond, List, [], ℕ, ◌^◌, ◌≤◌, ◌<◌, length, get_or, eqb}
+use Rattle.std.specs.Prelude.{◌≡◌, cond, Option, Some, None, List, [], ℕ, ◌^◌, ◌<◌, length, get_or, eqb}
 use Rattle.meaning.specs.Traces.{Alphabet, masked}
 use Rattle.ltl.specs.Keys.{Tables, start_key, step_key, empty_key, full_key}
 use Rattle.walk.specs.Explore.{Explored, within, beyond, visit, expand, explore}
-use Rattle.key_slots.specs.Arrays.{keys_in, KeysFit}
-use Rattle.key_slots.specs.Answers.{Beyond, Within, EnteredAs}
-use Rattle.key_slots.specs.declared.Entered.{Entered}
+use Rattle.profile_sets.specs.Arrays.{tables_by}
+use Rattle.profile_sets.specs.declared.Steps.{Steps}
+use Rattle.key_slots.specs.Answers.{Beyond, EnteredAs}
 use Rattle.exploration.specs.Rows.{row_in}
-use Rattle.exploration.specs.declared.Grown.{Grown}
+use Rattle.exploration.specs.declared.States.{States}
+
+-- the tables and the events that keys are stepped by
+abbrev pub stepped : Steps → Tables
+stepped s = tables_by s.labels s.profiles.now s.full
+
+abbrev pub happening : Steps → Alphabet
+happening s = masked s.events s.mask
 
 -- the walk over the keys of the tables, with the events that can happen and at most 256 keys
 abbrev pub visit_key : Tables → Alphabet → ℕ → ℕ → List ℕ → Explored ℕ ℕ
@@ -30,25 +37,28 @@ class_by full k = cond (eqb k 0) 2 (cond (eqb k full) 1 0)
 -- ---- the answers of the functions below `explore`
 
 -- the entry for the event e in the row of the key k, however many events there are
-abbrev pub Visits : Tables → ℕ → ℕ → ℕ → List ℕ → List (List ℕ) → List ℕ → Entered → Type 0
-Visits t mask k e ks keys slots r = (width : ℕ) → EnteredAs (visit_key t (masked width mask) k e ks) keys slots r
+abbrev pub Visits : Tables → ℕ → ℕ → ℕ → List ℕ → List ℕ → Option ℕ → Type 0
+Visits t mask k e ks keys r = (width : ℕ) → EnteredAs (visit_key t (masked width mask) k e ks) keys r
 
-abbrev pub GrownAs : Explored ℕ (List ℕ) → ℕ → List (List ℕ) → List ℕ → List ℕ → Grown → Type 0
-GrownAs m width keys slots row (Grown.To count) = Within m count keys slots (row_in width row)
-GrownAs m width keys slots row Grown.Full = Beyond m
+abbrev pub GrownAs : Explored ℕ (List ℕ) → ℕ → List ℕ → Option (List ℕ) → Type 0
+GrownAs m width keys (Some row) = m ≡ within keys (row_in width row)
+GrownAs m width keys None = Beyond m
 
--- the walk closed with `count` states, whose rows the array has
-pub record Ended (m : Explored ℕ (List (List ℕ))) (width count : ℕ) (keys rows : List (List ℕ)) : Type 0 where
+-- the walk closed with these keys as states, whose rows the array has
+pub record Ended (m : Explored ℕ (List (List ℕ))) (width : ℕ) (keys : List ℕ) (rows : List (List ℕ)) : Type 0 where
   pub states : List (List ℕ)
-  pub is : m ≡ within (keys_in count keys) states
-  pub fit : KeysFit count keys
+  pub is : m ≡ within keys states
   pub long : length rows ≡ 256
-  pub successors : (s e : ℕ) → s < count → e < width → get_or (get_or rows s []) e 0 ≡ get_or (get_or states s []) e 0
+  pub successors : (s e : ℕ) → s < length keys → e < width → get_or (get_or rows s []) e 0 ≡ get_or (get_or states s []) e 0
 
--- the walk met n keys, or with n = 257 more than 256
-pub record WalkedAs (m : Explored ℕ (List (List ℕ))) (width : ℕ) (keys : List (List ℕ)) (n : ℕ) (rows : List (List ℕ)) : Type 0 where
-  pub closed : n ≤ 256 → Ended m width n keys rows
-  pub over : 256 < n → (n ≡ 257) × Beyond m
+abbrev pub WalkedAs : Explored ℕ (List (List ℕ)) → ℕ → List ℕ → Option (List (List ℕ)) → Type 0
+WalkedAs m width keys (Some rows) = Ended m width keys rows
+WalkedAs m width keys None = Beyond m
+
+-- the classes of the keys, by the key of all continuations
+pub record Classed (full : ℕ) (keys classes : List ℕ) : Type 0 where
+  pub long : length classes ≡ 256
+  pub class : (s : ℕ) → s < length keys → get_or classes s 0 ≡ class_by full (get_or keys s 0)
 
 -- ---- the answer of `explore`
 
@@ -61,10 +71,12 @@ pub record ClosedAs (P : ℕ) (t : Tables) (keys : List ℕ) (states : List (Lis
   pub classes_long : length classes ≡ 256
 
 -- by cases of the model's walk
-abbrev pub ExploredAs : ℕ → Tables → Explored ℕ (List (List ℕ)) → ℕ → List (List ℕ) → List ℕ → Type 0
-ExploredAs P t (within keys states) n rows classes = ClosedAs P t keys states n rows classes
-ExploredAs P t (beyond keys k) n rows classes = n ≡ 257
+abbrev pub ExploredAs : ℕ → Tables → Explored ℕ (List (List ℕ)) → Option States → Type 0
+ExploredAs P t (within keys states) (Some s) = ClosedAs P t keys states s.count s.rows s.classes
+ExploredAs P t (within keys states) None = ⊥
+ExploredAs P t (beyond keys k) (Some s) = ⊥
+ExploredAs P t (beyond keys k) None = Unit {0}
 
 -- the walk over the keys of the tables, at P signals, with the events of the mask
-abbrev pub Explores : ℕ → ℕ → Tables → ℕ → List (List ℕ) → List ℕ → Type 0
-Explores P mask t n rows classes = ExploredAs P t (explore_keys t (masked (2 ^ P) mask)) n rows classes
+abbrev pub Explores : ℕ → ℕ → Tables → Option States → Type 0
+Explores P mask t r = ExploredAs P t (explore_keys t (masked (2 ^ P) mask)) r

@@ -1,95 +1,107 @@
-// The keys met, and their slots: a hash table with the numbers of the keys, chained. A key is a set of at most 256 profiles, in four words.
+// The keys met, and their slots: a hash table with the numbers of the keys, chained.
 #![tactic(auto)]
 
-ghost use Rattle.std.specs.Prelude.{◌≡◌, ◌<◌, replicate};
-ghost use Rattle.sequences.specs.Tabulate.{least_below};
-ghost use Rattle.profile_sets.specs.Arrays.{key_of, WordsFit};
-ghost use Rattle.key_slots.specs.Arrays.{keys_in, KeysFit, met_at, slot_of, Slotted};
-ghost use Rattle.key_slots.specs.Answers.{Enters};
+ghost use Rattle.std.specs.Prelude.{◌≡◌, ◌+◌, ◌<◌, ◌≤◌, [], ◌∷◌, length, get_or};
+ghost use Rattle.key_slots.specs.Arrays.{slot_of};
+ghost use Rattle.key_slots.specs.Answers.{Enters, Finds};
 
-use profile_sets::same_key;
-use wire::wide;
+use profile_sets::Key;
+use std::marker::Model;
 
-// The number of a key, and how many keys there are now; or there is no room for it.
-#[derive(Clone, Copy)]
-pub enum Entered {
-    At(usize, usize),
-    Full,
+/// The keys met, at most 256, each once and one at least. A slot has the number of the last key in it, and link i that
+/// of the last one before key i in the slot of key i. 0 ends each chain: it is the number of the first key, which is in
+/// no slot and is tested after all others.
+#[derive(Drop)]
+pub struct KeyTable {
+    keys: [Key; 256],
+    slots: [u8; 768],
+    links: [u8; 256],
+    count: usize,
 }
 
-// The slot of a key. A slot has the number of the last key in it, and place 768 + i that of the last one before key i in the slot of key i. 0 ends
-// each chain: it is the number of the first key, which is in no slot and is tested after all others.
-fn slot_of(key: [u64; 4]) -> usize
-    requires { WordsFit key }
-    ensures { (result ≡ slot_of key) × (result < 768) }
+// Clauses see the list of the keys.
+impl Model for KeyTable {
+    ghost use Rattle.std.specs.Prelude.{List, ℕ, take};
+    ghost use Rattle.key_slots.specs.Arrays.{KeysFit, Slotted};
+
+    ghost Value = { List ℕ };
+
+    ghost view = { λ t. take t.count t.keys };
+
+    ghost invariant = { λ t. KeysFit t.count t.keys × Slotted t.count t.keys t.slots t.links };
+}
+
+// The slot of a key.
+fn slot_of(key: &Key) -> usize
+    ensures { (result ≡ slot_of key.now) × (result < 768) }
 {
-    let low = key[0] / 2 + key[1] / 16;
-    let high = key[2] / 256 + key[3] / 4096;
+    let [a, b, c, d] = key.words();
+    let low = a / 2 + b / 16;
+    let high = c / 256 + d / 4096;
     ((low + high) % 761) as usize
 }
 
-// The slots where there is the first key only.
-pub fn first_slots() -> [u8; 1024]
-    ensures { result ≡ replicate 1024 0 }
-{
-    [0; 1024]
-}
-
-// Whether key number i is the same.
-fn same_at(keys: &[[u64; 4]; 256], count: usize, i: usize, key: [u64; 4]) -> bool
-    requires { KeysFit count keys.now × WordsFit key × (i < count) }
-    ensures { result ≡ met_at keys.now (key_of key) i }
-{
-    let met = keys[i];
-    same_key(met, key)
-}
-
-// The number of the key that is the same, or how many keys there are: by the keys of its slot, from the last one down, and the first key.
-fn find(
-    keys: &[[u64; 4]; 256],
-    slots: &[u8; 1024],
-    slot: usize,
-    count: usize,
-    key: [u64; 4],
-) -> usize
-    requires keys_fit { KeysFit count keys.now × WordsFit key × Slotted count keys.now slots.now }
-    requires slot_value { (slot ≡ slot_of key) × (slot < 768) }
-    ensures { result ≡ least_below count (met_at keys.now (key_of key)) }
-{
-    let mut i = wide(slots[slot]);
-    while 0 < i {
-        if same_at(keys, count, i, key) {
-            return i;
+impl KeyTable {
+    /// The table with the first key only.
+    pub fn new(first: Key) -> KeyTable
+        ensures { result ≡ first ∷ [] }
+    {
+        KeyTable {
+            keys: [first; 256],
+            slots: [0; 768],
+            links: [0; 256],
+            count: 1,
         }
-        i = wide(slots[768 + i]);
     }
-    if same_at(keys, count, 0, key) {
-        return 0;
-    }
-    count
-}
 
-// The number of a key, which is added at the end if it is new.
-pub fn enter(
-    keys: &mut [[u64; 4]; 256],
-    slots: &mut [u8; 1024],
-    count: usize,
-    key: [u64; 4],
-) -> Entered
-    requires { KeysFit count keys.old × WordsFit key × Slotted count keys.old slots.old }
-    ensures { Enters (keys_in count keys.old) (key_of key) keys.new slots.new result }
-{
-    let slot = slot_of(key);
-    let i = find(keys, slots, slot, count, key);
-    if i < count {
-        return Entered::At(i, count);
+    /// How many keys there are.
+    pub fn len(&self) -> usize
+        ensures is { result ≡ length self.now }
+        ensures few { result ≤ 256 }
+    {
+        self.count
     }
-    if count < 256 {
-        keys[count] = key;
-        let last = slots[slot];
-        slots[768 + count] = last;
-        slots[slot] = count as u8;
-        return Entered::At(count, count + 1);
+
+    /// Key number i.
+    pub fn key(&self, i: usize) -> Key
+        requires { i < length self.now }
+        ensures { result ≡ get_or self.now i 0 }
+    {
+        let keys = &self.keys;
+        keys[i]
     }
-    Entered::Full
+
+    // The number of the key that is the same: by the keys of its slot, from the last one down, and the first key.
+    fn find(&self, slot: usize, key: &Key) -> Option<usize>
+        requires { (slot ≡ slot_of key.now) × (slot < 768) }
+        ensures { Finds self.now key.now result }
+    {
+        let mut i = usize::from(self.slots[slot]);
+        while 0 < i {
+            if self.keys[i] == *key {
+                return Some(i);
+            }
+            i = usize::from(self.links[i]);
+        }
+        if self.keys[0] == *key { Some(0) } else { None }
+    }
+
+    /// The number of a key, which is added at the end if it is new; or none if there is no room for it.
+    pub fn enter(&mut self, key: Key) -> Option<usize>
+        ensures { Enters self.old key self.new result }
+    {
+        let slot = slot_of(&key);
+        if let Some(i) = self.find(slot, &key) {
+            return Some(i);
+        }
+        let new = self.count;
+        if new == 256 {
+            return None;
+        }
+        self.keys[new] = key;
+        self.links[new] = self.slots[slot];
+        self.slots[slot] = new as u8;
+        self.count += 1;
+        Some(new)
+    }
 }

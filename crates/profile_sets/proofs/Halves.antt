@@ -13,22 +13,24 @@ use Rattle.ltl.specs.Sets.{on, set_below}
 use Rattle.ltl.specs.Residuals.{preimage}
 use Rattle.ltl.specs.Keys.{look, step_key}
 use Rattle.ltl.proofs.Sets.{on_out, on-set, same-members, set-lt, set_same, on_and}
-use Rattle.profile_sets.specs.Arrays.{set_in, tables_by, Steppable, key_of, WordsFit, hits_from, Cut}
+use Rattle.profile_sets.specs.Arrays.{set_in, tables_by, Steppable, key_of, hits_from, Cut}
 use Rattle.profile_sets.proofs.Tables.{on-set-in, labels-few, profile-small}
-use Rattle.profile_sets.proofs.Words.{key-member, each-of-four, set-lowest, Begun, begun_all}
+use Rattle.profile_sets.specs.Words.{key-member, each-of-four}
+use Rattle.profile_sets.proofs.Words.{set-lowest, Begun, begun_all}
 
 -- ---- the numbers in both of two sets
+
+key-lt : (words : List ℕ) → key_of words < 2 ^ 256
+unfolding key_of
+key-lt words = set-lt 256 (λ q. on (get_or words (q / 64) 0) (q % 64))
 
 module _ (a b : ℕ) (full : List ℕ) where
   abbrev cut_words : List ℕ
   cut_words = bit_and (get_or full 0 0) a ∷ bit_and (get_or full 1 0) b ∷ bit_and (get_or full 2 0) a ∷ bit_and (get_or full 3 0) b ∷ []
 
-  pub cut-is : a < 2 ^ 64 → b < 2 ^ 64 → WordsFit cut_words × Cut a b full cut_words
-  cut-is k l = (record { small = each-of-four (λ j. get_or cut_words j 0 < 2 ^ 64) (below 0 a k) (below 1 b l) (below 2 a k) (below 3 b l) }, record { at = at })
+  pub cut-is : Cut a b (key_of full) (key_of cut_words)
+  cut-is = record { low = key-lt cut_words; at = at }
     where
-      below : (j x : ℕ) → x < 2 ^ 64 → bit_and (get_or full j 0) x < 2 ^ 64
-      below j x m = omega (arith, and_le_r (get_or full j 0) x)
-
       each : (j : ℕ) → j < 4 → get_or cut_words j 0 ≡ bit_and (get_or full j 0) (get_or (a ∷ b ∷ a ∷ b ∷ []) j 0)
       each = each-of-four (λ j. get_or cut_words j 0 ≡ bit_and (get_or full j 0) (get_or (a ∷ b ∷ a ∷ b ∷ []) j 0)) refl refl refl refl
 
@@ -43,38 +45,34 @@ module _ (a b : ℕ) (full : List ℕ) where
 pub record Halved (n : ℕ) (f : ℕ → Bool) (a b : ℕ) : Type 0 where
   pub at : (p : ℕ) → p < n + n → on (key_of (a ∷ b ∷ a ∷ b ∷ [])) p ≡ f (p % n)
 
-key-lt : (words : List ℕ) → key_of words < 2 ^ 256
-unfolding key_of
-key-lt words = set-lt 256 (λ q. on (get_or words (q / 64) 0) (q % 64))
-
-module _ {w n : ℕ} {profiles : List (List ℕ)} (full : List ℕ) (h : Steppable w n profiles (key_of full)) (held : List Bool) (e : ℕ) where
+module _ {w m n : ℕ} {profiles : List (List ℕ)} {W : ℕ} (h : Steppable w m n profiles W) (held : List Bool) (e : ℕ) where
   abbrev leading : ℕ → Bool
-  leading = preimage n (look profiles) (key_of full) (set_in held) e
+  leading = preimage n (look profiles) W (set_in held) e
 
-  pub step_cut : e < w → {a b : ℕ} {words : List ℕ} → Halved n (λ y. get_or held (look profiles e y) false) a b → Cut a b full words
-      → key_of words ≡ step_key (tables_by n profiles (key_of full)) (set_in held) e
-  step_cut d {a} {b} {words} k c = same-members (key_of words) (set_below (n + n) leading) (λ p. go p (dec_lt p (n + n)) (dec_lt p 256))
+  pub step_cut : e < w → {a b : ℕ} {next : ℕ} → Halved n (λ y. get_or held (look profiles e y) false) a b → Cut a b W next
+      → next ≡ step_key (tables_by n profiles W) (set_in held) e
+  step_cut d {a} {b} {next} k c = same-members next (set_below (n + n) leading) (λ p. go p (dec_lt p (n + n)) (dec_lt p 256))
     where
       both : (x y : Bool) → (x && y) ≡ elim x [ true ↦ y | false ↦ false ]
       both true y = refl
       both false y = refl
 
-      in-full : (p : ℕ) → p < 256 → on (key_of words) p ≡ elim (on (key_of full) p) [ true ↦ on (key_of (a ∷ b ∷ a ∷ b ∷ [])) p | false ↦ false ]
-      in-full p l = c.at p l ∙ both (on (key_of full) p) (on (key_of (a ∷ b ∷ a ∷ b ∷ [])) p)
+      in-full : (p : ℕ) → p < 256 → on next p ≡ elim (on W p) [ true ↦ on (key_of (a ∷ b ∷ a ∷ b ∷ [])) p | false ↦ false ]
+      in-full p l = c.at p l ∙ both (on W p) (on (key_of (a ∷ b ∷ a ∷ b ∷ [])) p)
 
       out : (p : ℕ) → n + n ≤ p → on (set_below (n + n) leading) p ≡ false
       out p l = on_out (set_below (n + n) leading) (n + n) p (set-lt (n + n) leading) l
 
-      go : (p : ℕ) → Dec (p < n + n) → Dec (p < 256) → on (key_of words) p ≡ on (set_below (n + n) leading) p
+      go : (p : ℕ) → Dec (p < n + n) → Dec (p < 256) → on next p ≡ on (set_below (n + n) leading) p
       go p (yes l) m =
           let q : ℕ = look profiles e (p % n) in
           let s : q < n + n = profile-small h e p d in
-          in-full p (omega (arith, labels-few h.labels))
-          ∙ ap (λ (x : Bool). elim (on (key_of full) p) [ true ↦ x | false ↦ false ]) (k.at p l ∙ sym (on-set-in held q (omega (arith, labels-few h.labels))))
+          in-full p (omega (arith, labels-few h))
+          ∙ ap (λ (x : Bool). elim (on W p) [ true ↦ x | false ↦ false ]) (k.at p l ∙ sym (on-set-in held q (omega (arith, labels-few h))))
           ∙ sym (on-set (n + n) leading p l)
       go p (no l) (yes m) =
           in-full p m ∙ ap (λ (x : Bool). elim x [ true ↦ on (key_of (a ∷ b ∷ a ∷ b ∷ [])) p | false ↦ false ]) (h.past p (omega arith)) ∙ sym (out p (omega arith))
-      go p (no l) (no m) = on_out (key_of words) 256 p (key-lt words) (omega arith) ∙ sym (out p (omega arith))
+      go p (no l) (no m) = on_out next 256 p c.low (omega arith) ∙ sym (out p (omega arith))
 
 -- ---- the three ways
 

@@ -6,7 +6,7 @@ use Prim.Native.Nat.{ℕ, ◌+◌, ◌%◌, ◌^◌, ◌≤◌, ◌<◌}
 use native.Mathlib.Nat.{mod-lt}
 use native.Mathlib.Decide.{ℕ_discrete, dec_lt}
 use native.Mathlib.Omega.{arith}
-use lib.ListN.{length, get_or, set, length-set}
+use lib.ListN.{length, get_or, set, length-set, replicate, length-replicate, get_or-replicate, get_or-eq_default}
 use lib.Seq.{get_or-set_same, get_or-set_other}
 use lib.Dec.{leb}
 use lib.Pow.{pow_pos, pow_mono}
@@ -16,7 +16,7 @@ use Rattle.ltl.specs.Residuals.{preimage, rule_true, start_from, step_from}
 use Rattle.ltl.specs.Keys.{Tables, look, start_key, step_key}
 use Rattle.ltl.proofs.Sets.{on_out, on-set, same-members, set-lt, set_same}
 use Rattle.ltl.specs.Arrays.{TablesIn}
-use Rattle.profile_sets.specs.Arrays.{set_in, Marked, tables_by, tables_in, Tabled, Labels, Steppable}
+use Rattle.profile_sets.specs.Arrays.{set_in, Marked, tables_by, tables_in, Tabled, Steppable}
 use Rattle.profile_sets.proofs.Words.{set_past}
 
 -- ---- a set that an array holds, profile by profile
@@ -47,8 +47,18 @@ on-set-in whole p l = on-set 256 (λ p. get_or whole p false) p l
 
 -- ---- before any event
 
-pub starts-below : (n : ℕ) (whole : List Bool) (p : ℕ) → p < n → false ≡ rule_true n (set_in whole) p
-starts-below n whole p l = sym (ap (λ (b : Bool). elim b [ true ↦ on (set_in whole) p | false ↦ false ]) (lt-leb n p l))
+pub marked-starts : (n : ℕ) (whole : List Bool) → Marked n (rule_true n (set_in whole)) (replicate 256 false)
+marked-starts n whole = record {
+  long = length-replicate 256 false;
+  at = λ p l. get_or-none p ∙ sym (ap (λ (b : Bool). elim b [ true ↦ on (set_in whole) p | false ↦ false ]) (lt-leb n p l));
+}
+  where
+    get_or-none : (p : ℕ) → get_or (replicate 256 false) p false ≡ false
+    get_or-none p = go (dec_lt p 256)
+      where
+        go : Dec (p < 256) → get_or (replicate 256 false) p false ≡ false
+        go (yes l) = get_or-replicate 256 p false false l
+        go (no l) = get_or-eq_default (replicate 256 false) false {n = p} (omega (arith, length-replicate 256 false))
 
 pub starts_from : (n : ℕ) (whole : List Bool) (p : ℕ) → p < 256 → n ≤ p → get_or whole p false ≡ rule_true n (set_in whole) p
 starts_from n whole p m l = sym (ap (λ (b : Bool). elim b [ true ↦ on (set_in whole) p | false ↦ false ]) (le-leb n p l) ∙ on-set-in whole p m)
@@ -63,29 +73,22 @@ module _ {w n : ℕ} {profiles : List (List ℕ)} {whole : List Bool} (h : Table
 
 -- ---- after one event more
 
-pub labels-some : {n : ℕ} → Labels n → 1 ≤ n
-labels-some h = subst (λ (x : ℕ). 1 ≤ x) (sym h.is) (pow_pos h.nodes)
+module _ {w m n : ℕ} {profiles : List (List ℕ)} {W : ℕ} (h : Steppable w m n profiles W) where
+  pub labels-few : n ≤ 128
+  labels-few = subst (λ (x : ℕ). x ≤ 128) (sym h.labels) (pow_mono {i = m} {j = 7} h.few)
 
-pub labels-few : {n : ℕ} → Labels n → n ≤ 128
-labels-few h = subst (λ (x : ℕ). x ≤ 128) (sym h.is) (pow_mono {i = h.nodes} {j = 7} h.few)
-
--- the labels that fill two words
-pub labels-two : {n : ℕ} → Labels n → 32 < n → ¬ (n ≡ 64) → n ≡ 128
-labels-two {n} h l m = go (dec_lt h.nodes 6) (ℕ_discrete h.nodes 6)
-  where
-    go : Dec (h.nodes < 6) → Dec (h.nodes ≡ 6) → n ≡ 128
-    go (yes a) b = let s : 2 ^ h.nodes ≤ 2 ^ 5 = pow_mono {i = h.nodes} {j = 5} (omega arith) in absurd (omega (arith, h.is))
-    go (no a) (yes b) = absurd (m (h.is ∙ ap (λ (k : ℕ). 2 ^ k) b))
-    go (no a) (no b) = let e : h.nodes ≡ 7 = omega (arith, h.few) in h.is ∙ ap (λ (k : ℕ). 2 ^ k) e
-
-module _ {w n : ℕ} {profiles : List (List ℕ)} {W : ℕ} (h : Steppable w n profiles W) where
-  -- for fewer events
-  pub fewer-events : (v : ℕ) → v ≤ w → Steppable v n profiles W
-  fewer-events v l = record { labels = h.labels; small = λ e y a b. h.small e y (omega arith) b; past = h.past }
+  -- the labels that fill two words
+  pub labels-two : 32 < n → ¬ (n ≡ 64) → n ≡ 128
+  labels-two l k = go (dec_lt m 6) (ℕ_discrete m 6)
+    where
+      go : Dec (m < 6) → Dec (m ≡ 6) → n ≡ 128
+      go (yes a) b = let s : 2 ^ m ≤ 2 ^ 5 = pow_mono {i = m} {j = 5} (omega arith) in absurd (omega (arith, h.labels))
+      go (no a) (yes b) = absurd (k (h.labels ∙ ap (λ (x : ℕ). 2 ^ x) b))
+      go (no a) (no b) = let e : m ≡ 7 = omega (arith, h.few) in h.labels ∙ ap (λ (x : ℕ). 2 ^ x) e
 
   -- the profile before a profile at an event
   pub profile-small : (e p : ℕ) → e < w → look profiles e (p % n) < n + n
-  profile-small e p l = h.small e (p % n) l (mod-lt p (labels-some h.labels))
+  profile-small e p l = h.small e (p % n) l (mod-lt p (subst (λ (x : ℕ). 1 ≤ x) (sym h.labels) (pow_pos m)))
 
   -- the step looks at no more of a set than its array of bools has
   pub step-held : (A e : ℕ) {held : List Bool} → Marked (n + n) (on A) held → e < w → step_key (tables_by n profiles W) (set_in held) e ≡ step_key (tables_by n profiles W) A e
@@ -95,7 +98,7 @@ module _ {w n : ℕ} {profiles : List (List ℕ)} {W : ℕ} (h : Steppable w n p
       each p m =
           let q : ℕ = look profiles e (p % n) in
           let s : q < n + n = profile-small e p l in
-          ap (λ (b : Bool). elim (on W p) [ true ↦ b | false ↦ false ]) (on-set-in held q (omega (arith, labels-few h.labels)) ∙ marked.at q s)
+          ap (λ (b : Bool). elim (on W p) [ true ↦ b | false ↦ false ]) (on-set-in held q (omega (arith, labels-few)) ∙ marked.at q s)
 
 -- ---- tables that the arrays hold
 
@@ -130,5 +133,5 @@ module _ {w n : ℕ} {t : Tables} {profiles : List (List ℕ)} {whole : List Boo
       (λ p m. ap (λ (q : ℕ). elim (on t.whole p) [ true ↦ on A q | false ↦ false ]) (h.profile e (p % n) l (mod-lt p h.some)))
       ∙ ap (λ (k : ℕ). step_from k (look t.profiles) t.whole A e) (sym h.labels)
 
-  pub steppable : Labels n → {W : ℕ} → W ≡ set_in whole → Steppable w n profiles W
-  steppable k {W} e = record { labels = k; small = h.small; past = λ p l. ap (λ (A : ℕ). on A p) (e ∙ whole_is) ∙ h.past p l }
+  pub steppable : w ≤ 16 → (m : ℕ) → m ≤ 7 → n ≡ 2 ^ m → {W : ℕ} → W ≡ set_in whole → Steppable w m n profiles W
+  steppable k m l q {W} e = record { narrow = k; few = l; labels = q; small = h.small; past = λ p l. ap (λ (A : ℕ). on A p) (e ∙ whole_is) ∙ h.past p l }

@@ -1,18 +1,21 @@
 -- Sets of profiles in four words: a word made from its highest bit down, which profiles are in a key, and that equal words are equal keys.
-use mathlib.Core.Path.{◌≡◌, refl, sym, ap, ◌∙◌, subst}
+use mathlib.Core.Path.{◌≡◌, refl, sym, ap, ap₂, ◌∙◌, subst}
 use mathlib.Core.Bool.{Bool, true, false, cond}
-use mathlib.Core.List.{List}
+use mathlib.Core.List.{List, [], ◌∷◌}
 use Prim.Native.Nat.{ℕ, zero, suc, ◌+◌, ◌-◌, ◌*◌, ◌/◌, ◌%◌, ◌^◌, ◌≤◌, ◌<◌}
 use native.Mathlib.Nat.{pow-suc}
 use native.Mathlib.Decide.{ℕ_discrete, dec_lt}
 use native.Mathlib.Omega.{arith}
-use lib.ListN.{get_or, replicate, get_or-replicate}
+use lib.ListN.{length, get_or, replicate, get_or-replicate}
 use lib.Pow.{pow_mono}
 use lib.Dec.{eqb}
-use borrow.Author.Tests.{eq-eqb, ne_eqb}
+use Rattle.std.specs.Str.{bytes_eq}
+use Rattle.std.proofs.lemmas.Slice.Eq.{bytes_eq-Decides}
+use Rattle.std.proofs.lemmas.Bool.Decides.{Decides-like, Decides-eqb, same_from_decides}
 use Rattle.ltl.specs.Sets.{on, put, set_below}
 use Rattle.ltl.proofs.Sets.{on-zero, on_out, on-set, same_set, same-members, set-lt, set_same}
-use Rattle.profile_sets.specs.Arrays.{set_in, word_in, key_of, WordsFit}
+use Rattle.profile_sets.specs.Words.{key-bit, each-of-four, words-back}
+use Rattle.profile_sets.specs.Arrays.{set_in, word_in, key_of, WordsFit, word_at, words_of}
 
 -- ---- sets by a test
 
@@ -58,12 +61,12 @@ begun_more {top} {f} {i} {word} d h l m e =
     record { is = (omega arith) ∙ sym (set-lowest n (λ k. f (j + k))) ∙ ap (λ (a : ℕ). set_below a (λ k. f (j + k))) r }
 
 -- two at once, the higher one first
-pub begun-two : {top : ℕ} {f : ℕ → Bool} {i word : ℕ} (a b : ℕ) → Begun top f i word → 1 < i → i ≤ top → a ≡ cond (f (i - 1)) 1 0 → b ≡ cond (f (i - 2)) 1 0 → Begun top f (i - 2) (word * 4 + (a * 2 + b))
-begun-two {top} {f} {i} {word} a b h l m p q =
-    let one = begun_more a h (omega arith) m p in
+pub begun-two : {top : ℕ} {f : ℕ → Bool} {i word : ℕ} (a b j : ℕ) → Begun top f i word → j + 2 ≡ i → i ≤ top → a ≡ cond (f (j + 1)) 1 0 → b ≡ cond (f j) 1 0 → Begun top f j (word * 4 + (a * 2 + b))
+begun-two {top} {f} {i} {word} a b j h l m p q =
+    let one = begun_more a h (omega arith) m (p ∙ ap (λ (k : ℕ). cond (f k) 1 0) (omega arith)) in
     let two = begun_more b one (omega arith) (omega arith) (q ∙ ap (λ (k : ℕ). cond (f k) 1 0) (omega arith)) in
-    subst (λ (w : ℕ). Begun top f (i - 2) w) (let r : (word * 2 + a) * 2 + b ≡ word * 4 + (a * 2 + b) = omega arith in r)
-    (subst (λ (k : ℕ). Begun top f k ((word * 2 + a) * 2 + b)) (let r : i - 1 - 1 ≡ i - 2 = omega arith in r) two)
+    subst (λ (w : ℕ). Begun top f j w) (let r : (word * 2 + a) * 2 + b ≡ word * 4 + (a * 2 + b) = omega arith in r)
+    (subst (λ (k : ℕ). Begun top f k ((word * 2 + a) * 2 + b)) (let r : i - 1 - 1 ≡ j = omega arith in r) two)
 
 -- where there are k bits to come
 pub begun-small : (k : ℕ) {top : ℕ} {f : ℕ → Bool} {i word : ℕ} → Begun top f i word → k ≤ i → top ≤ 64 → word < 2 ^ (64 - k)
@@ -77,62 +80,32 @@ pub begun-word : (bits : List Bool) (j : ℕ) {i word : ℕ} → Begun 64 (λ k.
 unfolding word_in
 begun-word bits j h e = begun_all h e
 
--- ---- a key
+-- ---- a key and its words
 
-pub key-member : (words : List ℕ) (q : ℕ) → q < 256 → on (key_of words) q ≡ on (get_or words (q / 64) 0) (q % 64)
-unfolding key_of
-key-member words q l = on-set 256 (λ q. on (get_or words (q / 64) 0) (q % 64)) q l
+module _ (bits : List Bool) where
+  abbrev packed : List ℕ
+  packed = word_in bits 0 ∷ word_in bits 1 ∷ word_in bits 2 ∷ word_in bits 3 ∷ []
 
-pub key-bit : (words : List ℕ) (j i : ℕ) → j < 4 → i < 64 → on (key_of words) (64 * j + i) ≡ on (get_or words j 0) i
-key-bit words j i l m =
-    let p : (64 * j + i) / 64 ≡ j = omega arith in
-    let q : (64 * j + i) % 64 ≡ i = omega arith in
-    key-member words (64 * j + i) (omega arith) ∙ (rw (p, q))
+  packed-at : (j : ℕ) → j < 4 → get_or packed j 0 ≡ word_in bits j
+  packed-at = each-of-four (λ j. get_or packed j 0 ≡ word_in bits j) refl refl refl refl
 
-module _ (words : List ℕ) (bits : List Bool) (each : (j : ℕ) → j < 4 → get_or words j 0 ≡ word_in bits j) where
-  pub packed-small : WordsFit words
-  unfolding word_in
-  packed-small = record { small = λ j l. rw (each j l) (set-lt 64 (λ i. get_or bits (64 * j + i) false)) }
-
-  pub packed-key : key_of words ≡ set_in bits
+  pub packed-key : key_of packed ≡ set_in bits
   unfolding key_of word_in set_in
   packed-key =
-      set_same 256 (λ q. on (get_or words (q / 64) 0) (q % 64)) (λ q. get_or bits q false)
+      set_same 256 (λ q. on (get_or packed (q / 64) 0) (q % 64)) (λ q. get_or bits q false)
       (λ q l. let r : 64 * (q / 64) + q % 64 ≡ q = omega arith in
-      ap (λ (w : ℕ). on w (q % 64)) (each (q / 64) (omega arith)) ∙ on-set 64 (λ i. get_or bits (64 * (q / 64) + i) false) (q % 64) (omega arith) ∙ ap (λ (n : ℕ). get_or bits n false) r)
+      ap (λ (w : ℕ). on w (q % 64)) (packed-at (q / 64) (omega arith)) ∙ on-set 64 (λ i. get_or bits (64 * (q / 64) + i) false) (q % 64) (omega arith) ∙ ap (λ (n : ℕ). get_or bits n false) r)
 
--- four words, one by one
-pub each-of-four : (P : ℕ → Type 0) → P 0 → P 1 → P 2 → P 3 → (j : ℕ) → j < 4 → P j
-each-of-four P a b c d zero l = a
-each-of-four P a b c d (suc zero) l = b
-each-of-four P a b c d (suc (suc zero)) l = c
-each-of-four P a b c d (suc (suc (suc zero))) l = d
-each-of-four P a b c d (suc (suc (suc (suc j)))) l = absurd (omega arith)
-
--- the empty key
+-- the empty set
 pub key-empty : key_of (replicate 4 0) ≡ 0
 unfolding key_of
 key-empty = set_past 0 256 (λ q. on (get_or (replicate 4 0) (q / 64) 0) (q % 64)) (omega arith) (λ q _ l. ap (λ (w : ℕ). on w (q % 64)) (get_or-replicate 4 (q / 64) 0 0 (omega arith)) ∙ on-zero (q % 64))
 
-pub empty-words : WordsFit (replicate 4 0)
-empty-words = record { small = each-of-four (λ j. get_or (replicate 4 0) j 0 < 2 ^ 64) (omega arith) (omega arith) (omega arith) (omega arith) }
+pub word-small : (k j : ℕ) → word_at k j < 2 ^ 64
+unfolding word_at
+word-small k j = set-lt 64 (λ i. on k (64 * j + i))
 
-key-equal : (a b : List ℕ) → ((j : ℕ) → j < 4 → get_or a j 0 ≡ get_or b j 0) → key_of a ≡ key_of b
-unfolding key_of
-key-equal a b h = set_same 256 (λ q. on (get_or a (q / 64) 0) (q % 64)) (λ q. on (get_or b (q / 64) 0) (q % 64)) (λ q l. ap (λ (w : ℕ). on w (q % 64)) (h (q / 64) (omega arith)))
-
-pub key-differ : (a b : List ℕ) → WordsFit a → WordsFit b → key_of a ≡ key_of b → (j : ℕ) → j < 4 → get_or a j 0 ≡ get_or b j 0
-key-differ a b s t e j l = same_set 64 (get_or a j 0) (get_or b j 0) (s.small j l) (t.small j l) (λ i m. sym (key-bit a j i l m) ∙ ap (λ (k : ℕ). on k (64 * j + i)) e ∙ key-bit b j i l m)
-
--- two keys by their words, one after the other
-
-pub words-apart : (a b : List ℕ) → WordsFit a × WordsFit b → (j : ℕ) → j < 4 → ¬ (get_or a j 0 ≡ get_or b j 0) → false ≡ eqb (key_of a) (key_of b)
-words-apart a b w j l n = sym (ne_eqb (key_of a) (key_of b) (λ e. n (key-differ a b w.0 w.1 e j l)))
-
-pub words_same : (a b : List ℕ) → WordsFit a × WordsFit b → get_or a 0 0 ≡ get_or b 0 0 → get_or a 1 0 ≡ get_or b 1 0 → get_or a 2 0 ≡ get_or b 2 0
-    → eqb (get_or a 3 0) (get_or b 3 0) ≡ eqb (key_of a) (key_of b)
-words_same a b w p q r = go (ℕ_discrete (get_or a 3 0) (get_or b 3 0))
-  where
-    go : Dec (get_or a 3 0 ≡ get_or b 3 0) → eqb (get_or a 3 0) (get_or b 3 0) ≡ eqb (key_of a) (key_of b)
-    go (yes e) = eq-eqb (get_or a 3 0) (get_or b 3 0) e ∙ sym (eq-eqb (key_of a) (key_of b) (key-equal a b (each-of-four (λ j. get_or a j 0 ≡ get_or b j 0) p q r e)))
-    go (no n) = ne_eqb (get_or a 3 0) (get_or b 3 0) n ∙ words-apart a b w 3 (omega arith) n
+-- two sets are the same exactly if their words are
+pub same-words : (a b : List ℕ) → WordsFit a → WordsFit b → {r : Bool} → r ≡ bytes_eq a b → r ≡ eqb (key_of a) (key_of b)
+same-words a b h k {r} e = e ∙ same_from_decides (bytes_eq a b) (eqb (key_of a) (key_of b)) (bytes_eq-Decides a b)
+    (Decides-like (eqb (key_of a) (key_of b)) (λ q. sym (words-back a h) ∙ ap words_of q ∙ words-back b k) (ap key_of) (Decides-eqb (key_of a) (key_of b)))

@@ -35,15 +35,12 @@ tables_in n profiles whole = tables_by n profiles (set_in whole)
 abbrev pub Tabled : ℕ → ℕ → List (List ℕ) → List Bool → Type 0
 Tabled width n profiles whole = TablesIn width n (tables_in n profiles whole) profiles whole
 
--- how many labels there are: 2 to the number of temporal nodes, which are at most seven
-pub record Labels (n : ℕ) : Type 0 where
-  pub nodes : ℕ
+-- for events below `width`, at most 16: there are n labels, 2 to the number of temporal nodes, which are at most seven, and all profiles are below n + n:
+-- those by an event and a label, and those in the set W
+pub record Steppable (width nodes n : ℕ) (profiles : List (List ℕ)) (W : ℕ) : Type 0 where
+  pub narrow : width ≤ 16
   pub few : nodes ≤ 7
-  pub is : n ≡ 2 ^ nodes
-
--- n labels, and all profiles are below n + n: those by an event below `width` and a label, and those in the set W
-pub record Steppable (width n : ℕ) (profiles : List (List ℕ)) (W : ℕ) : Type 0 where
-  pub labels : Labels n
+  pub labels : n ≡ 2 ^ nodes
   pub small : (e y : ℕ) → e < width → y < n → look profiles e y < n + n
   pub past : (p : ℕ) → n + n ≤ p → on W p ≡ false
 
@@ -51,14 +48,24 @@ pub record Steppable (width n : ℕ) (profiles : List (List ℕ)) (W : ℕ) : Ty
 unfoldable pub key_of : List ℕ → ℕ
 key_of words = set_below 256 (λ q. on (get_or words (q / 64) 0) (q % 64))
 
--- each is a word of 64 bits
+-- there are four words of 64 bits
 pub record WordsFit (words : List ℕ) : Type 0 where
-  pub small : (j : ℕ) → j < 4 → get_or words j 0 < 2 ^ 64
+  pub long : length words ≡ 4
+  pub small : (j : ℕ) → get_or words j 0 < 2 ^ 64
+
+-- word number j of a set
+unfoldable pub word_at : ℕ → ℕ → ℕ
+word_at k j = set_below 64 (λ i. on k (64 * j + i))
+
+-- its four words
+abbrev pub words_of : ℕ → List ℕ
+words_of k = word_at k 0 ∷ word_at k 1 ∷ word_at k 2 ∷ word_at k 3 ∷ []
 
 -- of the labels from `from` on, `count` of them, those that the event e takes to a profile at which the array is true
 unfoldable pub hits_from : List (List ℕ) → List Bool → ℕ → ℕ → ℕ → ℕ
 hits_from profiles held e from count = set_below count (λ i. get_or held (look profiles e (from + i)) false)
 
--- the numbers of the set in the words `full` that are in the words a, b, a, b
-pub record Cut (a b : ℕ) (full words : List ℕ) : Type 0 where
-  pub at : (q : ℕ) → q < 256 → on (key_of words) q ≡ (on (key_of full) q && on (key_of (a ∷ b ∷ a ∷ b ∷ [])) q)
+-- the numbers of the set `full` that are in the words a, b, a, b
+pub record Cut (a b full k : ℕ) : Type 0 where
+  pub low : k < 2 ^ 256
+  pub at : (q : ℕ) → q < 256 → on k q ≡ (on full q && on (key_of (a ∷ b ∷ a ∷ b ∷ [])) q)

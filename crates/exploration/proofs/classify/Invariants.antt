@@ -1,14 +1,9 @@
 -- `classify` meets its contract. The classes below s are stored.
-use mathlib.Core.List.{[]}
-use Prim.Native.Nat.{◌-◌, ◌≤◌}
-use lib.ListN.{get_or}
-use Rattle.sequences.proofs.Loops.{Filled}
-use Rattle.profile_sets.specs.Arrays.{key_of}
+use mathlib.Core.Path.{◌≡◌}
+use Prim.Native.Nat.{ℕ, ◌<◌}
+use lib.ListN.{length, get_or}
 use Rattle.exploration.specs.Answers.{class_by}
 use Rattle.exploration.proofs.classify.Given as goal
 
 abbrev pub invariant-loop-s : goal.invariant-loop-s
-invariant-loop-s l = (l.s ≤ l.count) × Filled l.s (λ s. class_by (key_of l.full) (key_of (get_or l.keys s []))) l.initial.classes l.classes
-
-abbrev pub decreases-loop-s : goal.decreases-loop-s
-decreases-loop-s l = l.count - l.s
+invariant-loop-s l = (length l.classes ≡ 256) × ((k : ℕ) → k < l.s → get_or l.classes k 0 ≡ class_by l.full (get_or l.keys k 0))

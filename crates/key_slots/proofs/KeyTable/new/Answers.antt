@@ -1,0 +1,6 @@
+-- `KeyTable::new` makes a table.
+use Rattle.key_slots.proofs.Lists.{first-fits, first-slotted}
+use Rattle.key_slots.proofs.KeyTable.new.Goals as goal
+
+pub invariant_of-result : goal.invariant_of-result
+invariant_of-result c = (first-fits c.args.first, first-slotted c.args.first)
