@@ -1,13 +1,12 @@
 -- The end of the walk, and the same answer for all tables that the arrays hold.
-use mathlib.Core.Path.{◌≡◌, sym, ap, ap₂, ◌∙◌, subst}
+use mathlib.Core.Path.{◌≡◌, sym, ap, ◌∙◌, subst}
 use mathlib.Core.Bool.{Bool, cond}
 use mathlib.Core.List.{List}
 use Prim.Native.Nat.{ℕ, ◌+◌, ◌*◌, ◌^◌}
 use native.Mathlib.Omega.{arith}
-use lib.ListN.{length, get_or}
+use lib.ListN.{get_or}
 use lib.Dec.{eqb}
 use Rattle.std.specs.Prelude.{Option, Some, None}
-use Rattle.std.proofs.lemmas.List.{get_or_default}
 use Rattle.meaning.specs.Traces.{masked}
 use Rattle.ltl.specs.Sets.{on}
 use Rattle.ltl.specs.Keys.{Tables, start_key, step_key, empty_key}
@@ -15,8 +14,7 @@ use Rattle.walk.specs.Explore.{Explored, within, beyond, explore}
 use Rattle.ltl.specs.Arrays.{TablesIn}
 use Rattle.profile_sets.specs.Arrays.{set_in, Marked, tables_by, tables_in, Tabled, Steppable}
 use Rattle.profile_sets.proofs.Tables.{step-held, marked-to, whole_is, start-same, step_same}
-use Rattle.key_slots.specs.Answers.{Beyond}
-use Rattle.exploration.specs.Answers.{expand_key, explore_keys, class_of, class_by, Ended, Classed, ClosedAs, ExploredAs, Explores}
+use Rattle.exploration.specs.Answers.{expand_key, explore_keys, class_of, ExploredAs, Explores}
 use Rattle.exploration.specs.declared.States.{States}
 use Rattle.exploration.proofs.SameSteps.{row_same, explore-same}
 
@@ -35,11 +33,6 @@ held-row {w} {m} {n} {profiles} {W} mask {A} {k} {held} h marked q keys =
 pub tabled-at : {w w' n n' : ℕ} {profiles : List (List ℕ)} {whole : List Bool} → w ≡ w' → n ≡ n' → Tabled w' n' profiles whole → Tabled w n profiles whole
 tabled-at {w} {w'} {n} {n'} {profiles} {whole} p q h =
     subst (λ (v : ℕ). Tabled v n profiles whole) (sym p) (subst (λ (k : ℕ). Tabled w' k profiles whole) (sym q) h)
-
--- the walk at other names of these and of the set of all profiles
-pub explored_at : {n n' W W' w w' : ℕ} (mask : ℕ) (profiles : List (List ℕ)) → w ≡ w' → n ≡ n' → W ≡ W'
-    → explore_keys (tables_by n profiles W) (masked w mask) ≡ explore_keys (tables_by n' profiles W') (masked w' mask)
-explored_at mask profiles p q r = rw (p, q, r)
 
 module _ (P mask : ℕ) {n : ℕ} {t : Tables} {profiles : List (List ℕ)} {whole : List Bool} (h : TablesIn (2 ^ P) n t profiles whole) where
   pub walk_same : explore_keys (tables_in n profiles whole) (masked (2 ^ P) mask) ≡ explore_keys t (masked (2 ^ P) mask)

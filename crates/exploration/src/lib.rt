@@ -85,7 +85,13 @@ fn classify(keys: &KeyTable, full: &Key) -> [u8; 256]
 
 /// The states that the rule's remaining properties make, by the tables of its m temporal nodes and the mask of the
 /// events that can happen; or none if there are more than 256.
-pub fn explore(signals: u8, mask: u16, m: u8, profiles: &[[u8; 128]; 16], whole: &[bool; 256]) -> Option<States>
+pub fn explore(
+    signals: u8,
+    mask: u16,
+    m: u8,
+    profiles: &[[u8; 128]; 16],
+    whole: &[bool; 256],
+) -> Option<States>
     requires { (signals ≤ 4) × (m ≤ 7) × Tabled (2 ^ signals) (2 ^ m) profiles.now whole.now }
     ensures { Explores signals mask (tables_in (2 ^ m) profiles.now whole.now) result }
 {

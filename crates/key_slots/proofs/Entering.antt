@@ -11,7 +11,7 @@ use Rattle.sequences.specs.Tabulate.{least_below}
 use Rattle.sequences.proofs.Pointwise.{least-same}
 use Rattle.walk.specs.Explore.{within, locate, enter}
 use Rattle.walk.proofs.Steps.{enter-met, enter-new, enter-over}
-use Rattle.key_slots.specs.Answers.{met_at, Finds, Enters, Beyond}
+use Rattle.key_slots.specs.Answers.{met_at, Finds, Beyond}
 
 module _ (keys : List ℕ) (k s : ℕ) where
   located : locate eqb s keys k ≡ least_below (length keys) (met_at keys k)

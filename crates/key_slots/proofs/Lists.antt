@@ -4,7 +4,7 @@ use mathlib.Core.Bool.{Bool, true, false, cond}
 use mathlib.Core.List.{List, [], ◌∷◌, ◌++◌}
 use Prim.Native.Nat.{ℕ, ◌+◌, ◌/◌, ◌%◌, ◌≤◌, ◌<◌}
 use native.Mathlib.Numerals.{add-one}
-use native.Mathlib.Decide.{ℕ_discrete, dec_lt}
+use native.Mathlib.Decide.{ℕ_discrete}
 use native.Mathlib.Omega.{arith}
 use lib.ListN.{length, get_or, set, take, length-set, replicate, length-replicate, get_or-replicate}
 use lib.Seq.{get_or-set_same, get_or-set_other, get_or-take, length-take-le, take-suc-set}
@@ -16,7 +16,7 @@ use Rattle.sequences.specs.Tabulate.{least_below}
 use Rattle.sequences.proofs.Pointwise.{least-same}
 use Rattle.sequences.proofs.Loops.{least-is}
 use Rattle.sequences.proofs.Pigeonhole.{least-below}
-use Rattle.profile_sets.specs.Arrays.{word_at, words_of}
+use Rattle.profile_sets.specs.Arrays.{word_at}
 use Rattle.key_slots.specs.Arrays.{KeysFit, slot_of, LastIn, Slotted}
 use Rattle.key_slots.specs.Answers.{met_at, Finds}
 
@@ -115,39 +115,6 @@ module _ {count : ℕ} {keys : List ℕ} (fit : KeysFit count keys) (key : ℕ) 
 pub record Sought (count : ℕ) (keys : List ℕ) (slot k i : ℕ) : Type 0 where
   pub there : 0 < i → (i < count) × (slot_of (get_or keys i 0) ≡ slot)
   pub past : (j : ℕ) → i < j → j < count → met_at keys k j ≡ false
-
-module _ {count : ℕ} {keys slots links : List ℕ} (fit : KeysFit count keys) (h : Slotted count keys slots links) (key slot : ℕ) (at : slot ≡ slot_of key) (low : slot < 768) where
-  -- a key that is the same is in the slot
-  in-slot : (j : ℕ) → j < count → (slot_of (get_or keys j 0) ≡ slot → ⊥) → met_at keys key j ≡ false
-  in-slot j l n = ne_eqb (get_or keys j 0) key (λ p. n (ap slot_of p ∙ sym at))
-
-  pub sought-first : {x : ℕ} → x ≡ get_or slots slot 0 → Sought count keys slot key x
-  sought-first {x} e = record {
-    there = λ l. subst (λ (y : ℕ). 0 < y → (y < count) × (slot_of (get_or keys y 0) ≡ slot)) (sym e) (h.heads slot low).there l;
-    past = λ j l m. in-slot j m (λ q. let t = (h.heads slot low).last j (omega arith) m q in omega arith);
-  }
-
-  module _ {i : ℕ} (o : 0 < i) (r : Sought count keys slot key i) {x : ℕ} (e : x ≡ get_or links i 0) where
-    link : LastIn keys (slot_of (get_or keys i 0)) i x
-    link = subst (LastIn keys (slot_of (get_or keys i 0)) i) (sym e) (h.before i o (r.there o).0)
-
-    pub sought-less : x < i
-    sought-less = go (ℕ_discrete x 0)
-      where
-        go : Dec (x ≡ 0) → x < i
-        go (yes z) = omega arith
-        go (no z) = (link.there (omega arith)).0
-
-    pub sought-next : met_at keys key i ≡ false → Sought count keys slot key x
-    sought-next f = record {
-      there = λ l. (let t = (link.there l).0 in let u = (r.there o).0 in omega arith, (link.there l).1 ∙ (r.there o).1);
-      past = λ j l m. go j l m (dec_lt j i) (ℕ_discrete j i);
-    }
-      where
-        go : (j : ℕ) → x < j → j < count → Dec (j < i) → Dec (j ≡ i) → met_at keys key j ≡ false
-        go j l m (yes n) q = in-slot j m (λ z. let t = link.last j (omega arith) n (z ∙ sym (r.there o).1) in omega arith)
-        go j l m (no n) (yes q) = subst (λ (k : ℕ). met_at keys key k ≡ false) (sym q) f
-        go j l m (no n) (no q) = r.past j (omega arith) m
 
 -- a key that was read
 pub read-met : (keys : List ℕ) (k i x : ℕ) → i < length keys → {b : Bool} → b ≡ eqb (get_or keys i x) k → met_at keys k i ≡ b

@@ -7,7 +7,7 @@ use native.Mathlib.Nat.{pow-suc, add-mod_right, mod-eq_of_lt, mul_assoc, add_com
 use native.Mathlib.Decide.{dec_lt}
 use native.Mathlib.Omega.{arith}
 use lib.ListN.{get_or}
-use lib.Bits.{bit_and, and_le_r}
+use lib.Bits.{bit_and}
 use lib.Pow.{pow_mono, shl_exact}
 use Rattle.ltl.specs.Sets.{on, set_below}
 use Rattle.ltl.specs.Residuals.{preimage}

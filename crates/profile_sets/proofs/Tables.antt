@@ -34,9 +34,6 @@ marked_more {p} {f} {bits} {b} h l e = record { long = length-set bits p b ∙ h
 pub marked-to : {p : ℕ} {f : ℕ → Bool} {bits : List Bool} (m : ℕ) → Marked p f bits → m ≤ p → Marked m f bits
 marked-to m h l = record { long = h.long; at = λ q k. h.at q (omega arith) }
 
-pub marked_all : {p : ℕ} {f : ℕ → Bool} {bits : List Bool} → Marked p f bits → 256 ≤ p → Marked 256 f bits
-marked_all h l = record { long = h.long; at = λ q m. h.at q (omega arith) }
-
 set-marked : (n : ℕ) (f : ℕ → Bool) (bits : List Bool) → Marked 256 f bits → n ≤ 256 → ((p : ℕ) → n ≤ p → p < 256 → f p ≡ false) → set_in bits ≡ set_below n f
 unfolding set_in
 set-marked n f bits m l h = set_same 256 (λ p. get_or bits p false) f m.at ∙ set_past n 256 f l h

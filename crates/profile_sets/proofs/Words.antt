@@ -1,21 +1,21 @@
 -- Sets of profiles in four words: a word made from its highest bit down, which profiles are in a key, and that equal words are equal keys.
-use mathlib.Core.Path.{◌≡◌, refl, sym, ap, ap₂, ◌∙◌, subst}
+use mathlib.Core.Path.{◌≡◌, refl, sym, ap, ◌∙◌, subst}
 use mathlib.Core.Bool.{Bool, true, false, cond}
 use mathlib.Core.List.{List, [], ◌∷◌}
 use Prim.Native.Nat.{ℕ, zero, suc, ◌+◌, ◌-◌, ◌*◌, ◌/◌, ◌%◌, ◌^◌, ◌≤◌, ◌<◌}
 use native.Mathlib.Nat.{pow-suc}
-use native.Mathlib.Decide.{ℕ_discrete, dec_lt}
+use native.Mathlib.Decide.{dec_lt}
 use native.Mathlib.Omega.{arith}
-use lib.ListN.{length, get_or, replicate, get_or-replicate}
+use lib.ListN.{get_or, replicate, get_or-replicate}
 use lib.Pow.{pow_mono}
 use lib.Dec.{eqb}
 use Rattle.std.specs.Str.{bytes_eq}
 use Rattle.std.proofs.lemmas.Slice.Eq.{bytes_eq-Decides}
 use Rattle.std.proofs.lemmas.Bool.Decides.{Decides-like, Decides-eqb, same_from_decides}
 use Rattle.ltl.specs.Sets.{on, put, set_below}
-use Rattle.ltl.proofs.Sets.{on-zero, on_out, on-set, same_set, same-members, set-lt, set_same}
-use Rattle.profile_sets.specs.Words.{key-bit, each-of-four, words-back}
-use Rattle.profile_sets.specs.Arrays.{set_in, word_in, key_of, WordsFit, word_at, words_of}
+use Rattle.ltl.proofs.Sets.{on-zero, on_out, on-set, same-members, set-lt, set_same}
+use Rattle.profile_sets.specs.Words.{each-of-four, words-back}
+use Rattle.profile_sets.specs.Arrays.{set_in, word_in, key_of, WordsFit, words_of}
 
 -- ---- sets by a test
 
@@ -46,9 +46,6 @@ set_past n m f l h = same-members (set_below m f) (set_below n f) (λ i. go i (d
 -- of `top` bits those from i on
 pub record Begun (top : ℕ) (f : ℕ → Bool) (i word : ℕ) : Type 0 where
   pub is : word ≡ set_below (top - i) (λ k. f (i + k))
-
-pub begun-none : (top : ℕ) {f : ℕ → Bool} → Begun top f top 0
-begun-none top {f} = record { is = sym (ap (λ (n : ℕ). set_below n (λ k. f (top + k))) (let e : top - top ≡ 0 = omega arith in e)) }
 
 pub begun_more : {top : ℕ} {f : ℕ → Bool} {i word : ℕ} (d : ℕ) → Begun top f i word → 0 < i → i ≤ top → d ≡ cond (f (i - 1)) 1 0 → Begun top f (i - 1) (word * 2 + d)
 begun_more {top} {f} {i} {word} d h l m e =
@@ -100,10 +97,6 @@ module _ (bits : List Bool) where
 pub key-empty : key_of (replicate 4 0) ≡ 0
 unfolding key_of
 key-empty = set_past 0 256 (λ q. on (get_or (replicate 4 0) (q / 64) 0) (q % 64)) (omega arith) (λ q _ l. ap (λ (w : ℕ). on w (q % 64)) (get_or-replicate 4 (q / 64) 0 0 (omega arith)) ∙ on-zero (q % 64))
-
-pub word-small : (k j : ℕ) → word_at k j < 2 ^ 64
-unfolding word_at
-word-small k j = set-lt 64 (λ i. on k (64 * j + i))
 
 -- two sets are the same exactly if their words are
 pub same-words : (a b : List ℕ) → WordsFit a → WordsFit b → {r : Bool} → r ≡ bytes_eq a b → r ≡ eqb (key_of a) (key_of b)

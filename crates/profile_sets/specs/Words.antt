@@ -1,6 +1,6 @@
 -- A set of numbers below 256 and its four words: which numbers are in it by the words, and that the words come back from the set.
 use Rattle.std.specs.Prelude.{◌≡◌, refl, List, [], ◌∷◌, ℕ, ◌+◌, ◌*◌, ◌/◌, ◌%◌, ◌<◌, length, get_or}
-use Rattle.std.proofs.Common.{zero, suc, sym, ap, ap₂, ◌∙◌, arith}
+use Rattle.std.proofs.Common.{zero, suc, sym, ap₂, ◌∙◌, arith}
 use Rattle.ltl.specs.Sets.{on, set_below}
 use Rattle.ltl.proofs.Sets.{on-set, same_set, set-lt}
 use Rattle.profile_sets.specs.Arrays.{key_of, WordsFit, word_at, words_of}
