@@ -2,13 +2,12 @@
 use mathlib.Core.Path.{◌≡◌, refl, sym, ap, ap₂, ◌∙◌, subst}
 use mathlib.Core.List.{List}
 use Prim.Native.Nat.{ℕ, ◌≤◌, ◌<◌}
-use native.Mathlib.Omega.{arith}
 use lib.ListN.{length, take}
-use borrow.Author.Tests.{lt-ltb, le-ltb, lt-leb, le-leb}
+use borrow.Author.Tests.{lt-ltb, le-ltb, le-leb}
 use Rattle.meaning.specs.Grammar.{Tree, Parses, Fitting}
 use Rattle.meaning.specs.RuleTexts.{size, nodes_of, rule_of, rule_bytes, rule_answer, tree_answer, output_of}
 use Rattle.meaning.specs.declared.Node.{Node}
-use Rattle.meaning.specs.declared.Refusal.TheVariants.{WrongSignals, WrongText, TooManyNodes}
+use Rattle.meaning.specs.declared.Refusal.TheVariants.{WrongText, TooManyNodes}
 use Rattle.grammar.specs.Reading.{tree_of, parsed_of}
 use Rattle.grammar.proofs.Texts.{parsed, parsed-fitting, parsed-outside, parses-seen}
 use Rattle.text_scan.specs.Modes.{Whole, Fault}
@@ -18,7 +17,7 @@ use Rattle.rule_bytes.specs.WellFormed.{KindsFit}
 use Rattle.rule_bytes.proofs.Trees.{tree-kinds}
 use Rattle.rule_writer.specs.Writing.{unmasked}
 use Rattle.rule_text.specs.Writing.{Writes}
-use Rattle.std.proofs.Common.{Result}
+use Rattle.std.proofs.Common.{Result, Err}
 use Rattle.meaning.specs.declared.Refusal.{Refusal}
 
 -- ---- the text
@@ -48,36 +47,24 @@ inside {s} {ts} {n} P before r after h w a o =
       output = rw e o;
     }
 
--- ---- the signs
+-- ---- the checks of the signs
 
-pub no-signal : (P room : ℕ) (t : Tree) → P < 1 → Err WrongSignals ≡ tree_answer P room t
+pub many : (P room : ℕ) (t : Tree) → 1 ≤ P → P ≤ 4 → 64 < size t → Err TooManyNodes ≡ tree_answer P room t
 unfolding tree_answer
-no-signal P room t h = rw (lt-leb 1 P h)
+many P room t low high h = rw (le-leb 1 P low, le-leb P 4 high, lt-ltb 64 (size t) h)
 
-pub five-signals : (P room : ℕ) (t : Tree) → 1 ≤ P → 4 < P → Err WrongSignals ≡ tree_answer P room t
-unfolding tree_answer
-five-signals P room t l h = rw (le-leb 1 P l, lt-leb P 4 h)
+-- ---- the nodes of a tree, and what was written for them
 
-module _ (P room : ℕ) (t : Tree) (low : 1 ≤ P) (high : P ≤ 4) where
-  pub many : 64 < size t → Err TooManyNodes ≡ tree_answer P room t
+module _ (t : Tree) {ns : List Node} (e : ns ≡ nodes_of 0 t) where
+  pub kinds-fit : Trees.Signs t → KindsFit ns
+  kinds-fit g = subst KindsFit (sym e) (tree-kinds t 0 g)
+
+  pub written : (P : ℕ) (before : List ℕ) (r : Result ℕ Refusal) (after : List ℕ) → 1 ≤ P → P ≤ 4 → size t ≤ 64
+      → r ≡ rule_answer (length before) (unmasked P ns) → after ≡ output_of (rule_answer (length before) (unmasked P ns)) (rule_bytes (unmasked P ns)) before
+      → (r ≡ tree_answer P (length before) t) × (after ≡ output_of r (rule_bytes (rule_of P t)) before)
   unfolding tree_answer
-  many h = rw (le-leb 1 P low, le-leb P 4 high, lt-ltb 64 (size t) h)
-
-  pub few : size t ≤ 64 → rule_answer room (rule_of P t) ≡ tree_answer P room t
-  unfolding tree_answer
-  few h = rw (le-leb 1 P low, le-leb P 4 high, le-ltb 64 (size t) h)
-
--- the first k nodes are the tree's
-pub rule-is : (P k : ℕ) (nodes : List Node) (t : Tree) → k ≡ size t → take (size t) nodes ≡ nodes_of 0 t → unmasked P k nodes ≡ rule_of P t
-rule-is P k nodes t e q = rw (e, q)
-
-pub kinds-fit : (k : ℕ) (nodes : List Node) (t : Tree) → Trees.Signs t → k ≡ size t → take (size t) nodes ≡ nodes_of 0 t → KindsFit (take k nodes)
-kinds-fit k nodes t g e q = rw (e, q) (tree-kinds t 0 g)
-
--- what was written for them
-pub written : (P k : ℕ) (nodes : List Node) (t : Tree) (before : List ℕ) (r : Result ℕ Refusal) (after : List ℕ) → 1 ≤ P → P ≤ 4 → k ≤ 64 → k ≡ size t → take (size t) nodes ≡ nodes_of 0 t
-    → r ≡ rule_answer (length before) (unmasked P k nodes) → after ≡ output_of (rule_answer (length before) (unmasked P k nodes)) (rule_bytes (unmasked P k nodes)) before
-    → (r ≡ tree_answer P (length before) t) × (after ≡ output_of r (rule_bytes (rule_of P t)) before)
-written P k nodes t before r after low high h e q a o =
-    let i = rule-is P k nodes t e q in
-    (a ∙ ap (rule_answer (length before)) i ∙ few P (length before) t low high (omega arith), o ∙ ap₂ (λ (x : Result ℕ Refusal) (y : Rule). output_of x (rule_bytes y) before) (sym a) i)
+  written P before r after low high few a o =
+      let i : unmasked P ns ≡ rule_of P t = ap (unmasked P) e in (
+        rw (le-leb 1 P low, le-leb P 4 high, le-ltb 64 (size t) few) (a ∙ ap (rule_answer (length before)) i),
+        o ∙ ap₂ (λ (x : Result ℕ Refusal) (y : Rule). output_of x (rule_bytes y) before) (sym a) i,
+      )

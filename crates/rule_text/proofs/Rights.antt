@@ -24,7 +24,7 @@ use Rattle.rule_bytes.proofs.Trees.{tree-formula}
 use Rattle.rule_bytes.proofs.Answers.{accepted}
 use Rattle.rule_bytes.proofs.Lengths.{tree-file}
 use Rattle.rule_text.specs.Writing.{Writes, written_answer, written_after, Typed, Right, longest_file}
-use Rattle.std.proofs.Common.{Result}
+use Rattle.std.proofs.Common.{Result, Ok, Err}
 
 -- ---- a number that is not the answer
 
@@ -68,7 +68,7 @@ module _ (s : List ℕ) where
   abbrev Out : Type 0
   Out = (1024 < length s) ⊎ ((t : Tree) → ¬ Fits s t)
 
-  fault : (p : ℕ) (x : Refusal) → Err x ≡ Err (WrongText p) → Out → ((code_of x).0 ≡ 15) ↔ Out
+  fault : (p : ℕ) (x : Refusal) → ◌≡◌ {A = Result ℕ Refusal} (Err x) (Err (WrongText p)) → Out → ((code_of x).0 ≡ 15) ↔ Out
   fault p x e o = let q : x ≡ WrongText p = cc in (λ _. o, λ _. ap (λ (y : Refusal). (code_of y).0) q)
 
   fits_out : (t : Tree) → Fits s t → length s ≤ 1024 → ¬ Out

@@ -6,7 +6,7 @@ use Rattle.meaning.specs.RuleFiles.{rule_formula}
 use Rattle.meaning.specs.RuleTexts.{tree_formula, rule_of, write_answer, file_of, output_of}
 use Rattle.meaning.specs.Demands.{Reads}
 use Rattle.grammar.specs.Reading.{parsed_of}
-use Rattle.std.specs.Prelude.{Result}
+use Rattle.std.specs.Prelude.{Result, Ok, Err}
 use Rattle.meaning.specs.declared.Refusal.{Refusal}
 
 -- The answer and the output, with what reading the text finds. A text is read in exactly one way (grammar.Texts), so both
