@@ -2,7 +2,7 @@
 use mathlib.Core.Path.{◌≡◌, refl, sym, ap, ◌∙◌, subst}
 use mathlib.Core.List.{List}
 use mathlib.Core.Bool.{Bool}
-use Prim.Native.Nat.{ℕ, ◌^◌, ◌≤◌, ◌<◌}
+use Prim.Native.Nat.{ℕ, ◌^◌, ◌≤◌}
 use native.Mathlib.Omega.{arith}
 use lib.ListN.{take, length-take}
 use Rattle.meaning.specs.RuleFiles.{Rule, alphabet_of, Judgement}
@@ -25,7 +25,8 @@ use Rattle.rule_file.specs.Reading.{rule_in}
 use Rattle.monitor.specs.Parts.{Finished}
 use Rattle.monitor.proofs.Walking.{tables_for, class_list, closes, goes-beyond, machine-in, agrees}
 use Rattle.monitor.proofs.Writing.{bytes-are, answer_is, output-is}
-use Rattle.std.proofs.Common.{Result}
+use Rattle.std.proofs.Common.{Result, Err, Option, Some, None}
+use Rattle.exploration.specs.declared.States.{States}
 use Rattle.meaning.specs.declared.Refusal.{Refusal}
 
 -- the answer b and the output after it are those of the rule
@@ -33,60 +34,65 @@ pub record Answers (r : Rule) (before : List ℕ) (b : Result ℕ Refusal) (afte
   pub answer : b ≡ answer_of (Judgement.Accepted r) before
   pub output : after ≡ output_after (Judgement.Accepted r) before
 
--- the walk over a rule's keys met n of them
-pub record Walks (r : Rule) (n : ℕ) (rows : List (List ℕ)) (classes : List ℕ) : Type 0 where
-  pub is : Explores r.signals r.mask (tables_for r) n rows classes
+-- the answer of the walk over a rule's keys
+pub record Walks (r : Rule) (o : Option States) : Type 0 where
+  pub is : Explores r.signals r.mask (tables_for r) o
 
--- the walk closed with n states
+-- the walk closed with these states
 record Found (r : Rule) (n : ℕ) (rows : List (List ℕ)) (classes : List ℕ) : Type 0 where
+  few : n ≤ 256
   machine : Machine (alphabet_of r) n rows classes
   states : List (List ℕ)
   model : List ℕ
   agree : Agree (alphabet_of r) n rows states classes model
   outcome : outcome_of r ≡ Table (reduced_bytes (alphabet_of r) r.signals n states model)
 
-module _ {r : Rule} (s : Formed r) {n : ℕ} {rows : List (List ℕ)} {classes : List ℕ} (a : Walks r n rows classes) where
-  found : n ≤ 256 → Found r n rows classes
-  found l = go (explore_keys (tables_for r) (alphabet_of r)) refl a.is
+module _ {r : Rule} (f : Formed r) where
+  module _ (s : States) (a : Walks r (Some s)) where
+    found : Found r s.count s.rows s.classes
+    found = go (explore_keys (tables_for r) (alphabet_of r)) refl a.is
+      where
+        go : (m : Explored ℕ (List (List ℕ))) → explore_keys (tables_for r) (alphabet_of r) ≡ m → ExploredAs r.signals (tables_for r) m (Some s) → Found r s.count s.rows s.classes
+        go (within keys states) q A =
+            let C = closes r f keys states q in
+            subst (λ (k : ℕ). Found r k s.rows s.classes) (sym A.count)
+            (record {
+              few = C.few;
+              machine = machine-in r C A;
+              states = states;
+              model = class_list r keys;
+              agree = agrees r C A;
+              outcome = C.outcome ∙ ap (λ (k : ℕ). Table (reduced_bytes (alphabet_of r) r.signals k states (class_list r keys))) C.count;
+            })
+        go (beyond keys k) q A = absurd A
+
+    pub closed-few : s.count ≤ 256
+    closed-few = found.few
+
+    pub closed-machine : Machine (alphabet_of r) s.count s.rows s.classes
+    closed-machine = found.machine
+
+    pub closed-answers : (before after : List ℕ) (b : Result ℕ Refusal) → Finished r.signals r.mask s.count s.rows s.classes before b after → Answers r before b after
+    closed-answers before after b F =
+        let is : outcome_of r ≡ Table (table_bytes (alphabet_of r) r.signals F.groups F.bytes F.to) = found.outcome ∙ ap Table (sym (bytes-are r.signals r.mask s.count found.agree F.reduction)) in
+        record {
+          answer = F.answer ∙ answer_is r F.groups F.bytes F.to is before;
+          output = F.output ∙ output-is r F.groups F.bytes F.to is before;
+        }
+
+  pub over-answers : Walks r None → (before : List ℕ) → Answers r before (Err TooManyResiduals) before
+  over-answers a before = go (explore_keys (tables_for r) (alphabet_of r)) refl a.is
     where
-      go : (m : Explored ℕ (List (List ℕ))) → explore_keys (tables_for r) (alphabet_of r) ≡ m → ExploredAs r.signals (tables_for r) m n rows classes → Found r n rows classes
-      go (within keys states) q A =
-          let C = closes r s keys states q in
-          subst (λ (k : ℕ). Found r k rows classes) (sym A.count)
-          (record {
-            machine = machine-in r C A;
-            states = states;
-            model = class_list r keys;
-            agree = agrees r C A;
-            outcome = C.outcome ∙ ap (λ (k : ℕ). Table (reduced_bytes (alphabet_of r) r.signals k states (class_list r keys))) C.count;
-          })
-      go (beyond keys k) q A = absurd (omega arith)
-
-  pub closed-machine : n ≤ 256 → Machine (alphabet_of r) n rows classes
-  closed-machine l = (found l).machine
-
-  pub closed-answers : n ≤ 256 → (before after : List ℕ) (b : Result ℕ Refusal) → Finished r.signals r.mask n rows classes before b after → Answers r before b after
-  closed-answers l before after b F =
-      let f = found l in
-      let is : outcome_of r ≡ Table (table_bytes (alphabet_of r) r.signals F.groups F.bytes F.to) = f.outcome ∙ ap Table (sym (bytes-are r.signals r.mask n f.agree F.reduction)) in
-      record {
-        answer = F.answer ∙ answer_is r F.groups F.bytes F.to is before;
-        output = F.output ∙ output-is r F.groups F.bytes F.to is before;
-      }
-
-  pub over-answers : 256 < n → (before : List ℕ) → Answers r before (Err TooManyResiduals) before
-  over-answers l before = go (explore_keys (tables_for r) (alphabet_of r)) refl a.is
-    where
-      go : (m : Explored ℕ (List (List ℕ))) → explore_keys (tables_for r) (alphabet_of r) ≡ m → ExploredAs r.signals (tables_for r) m n rows classes → Answers r before (Err TooManyResiduals) before
-      go (within keys states) q A = absurd (omega (arith, (closes r s keys states q).few, A.count))
+      go : (m : Explored ℕ (List (List ℕ))) → explore_keys (tables_for r) (alphabet_of r) ≡ m → ExploredAs r.signals (tables_for r) m None → Answers r before (Err TooManyResiduals) before
+      go (within keys states) q A = absurd A
       go (beyond keys k) q A =
-          let e = goes-beyond r s keys k q in
+          let e = goes-beyond r f keys k q in
           record { answer = ap (λ (x : Outcome). answer_to x before) (sym e); output = ap (λ (x : Outcome). output_of x before) (sym e) }
 
 -- the answer of the walk over the arrays, as one over the rule's keys
-pub walks : (r : Rule) {k : ℕ} {profiles : List (List ℕ)} {whole : List Bool} (n : ℕ) (rows : List (List ℕ)) (classes : List ℕ) → TablesIn (2 ^ r.signals) k (tables_for r) profiles whole
-    → Explores r.signals r.mask (tables_in k profiles whole) n rows classes → Walks r n rows classes
-walks r n rows classes T E = record { is = explored-same r.signals r.mask T n rows classes E }
+pub walks : (r : Rule) {k : ℕ} {profiles : List (List ℕ)} {whole : List Bool} (o : Option States) → TablesIn (2 ^ r.signals) k (tables_for r) profiles whole
+    → Explores r.signals r.mask (tables_in k profiles whole) o → Walks r o
+walks r o T E = record { is = explored-same r.signals r.mask T o E }
 
 -- what the tables ask of the nodes
 pub valuable : (P mask count : ℕ) (nodes : List Node) → Formed (rule_in P mask count nodes) → count ≤ 64 → Valuable count nodes

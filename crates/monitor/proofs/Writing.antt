@@ -8,6 +8,7 @@ use lib.Dec.{leb}
 use Rattle.meaning.specs.Traces.{masked}
 use Rattle.meaning.specs.RuleFiles.{Rule, alphabet_of, Judgement}
 use Rattle.meaning.specs.TableFiles.{table_length}
+use Rattle.std.specs.Prelude.{Ok, Err}
 use Rattle.meaning.specs.declared.Refusal.TheVariants.{ShortOutput}
 use Rattle.moore.specs.Grouping.{entry, grouping}
 use Rattle.moore.specs.Quotient.{size, verdicts, quotient_rows}

@@ -10,9 +10,7 @@ ghost use Rattle.building.specs.Build.{answer_of, output_after, Right};
 ghost use Rattle.rule_file.specs.Reading.{rule_in};
 ghost use Rattle.monitor.specs.Parts.{Finished};
 
-use exploration::no_rows;
-use meaning::{Built, Node, Refusal};
-use rule_file::Outcome;
+use meaning::{Node, Refusal};
 
 fn zeros() -> [u8; 256]
     ensures { length result ≡ 256 }
@@ -28,13 +26,13 @@ fn finish(
     classes: &[u8; 256],
     rows: [[u8; 16]; 256],
     table: &mut [u8],
-) -> Built
+) -> Result<usize, Refusal>
     requires signals_bound { (signals ≤ 4) × (states ≤ 256) }
     requires machine { Machine (masked (2 ^ signals) mask) states rows classes.now }
     ensures { Finished signals mask states rows classes.now table.old result table.new }
 {
     let mut verdicts = zeros();
-    let mut to = no_rows();
+    let mut to = [[0; 16]; 256];
     let groups = grouping::reduce(signals, mask, states, classes, rows, &mut verdicts, &mut to);
     table_writer::write(table, signals, mask, groups, &verdicts, &to)
 }
@@ -52,7 +50,13 @@ fn nowhere() -> [bool; 256]
 }
 
 // Builds the table of an accepted rule: the tables of its residuals, the walk over them, and what follows.
-fn construct(signals: u8, mask: u16, count: u8, nodes: [Node; 64], table: &mut [u8]) -> Built
+fn construct(
+    signals: u8,
+    mask: u16,
+    count: u8,
+    nodes: [Node; 64],
+    table: &mut [u8],
+) -> Result<usize, Refusal>
     requires { Formed (rule_in signals mask count nodes) × (count ≤ 64) }
     ensures value { result ≡ answer_of (Accepted (rule_in signals mask count nodes)) table.old }
     ensures table_after { table.new ≡ output_after (Accepted (rule_in signals mask count nodes)) table.old }
@@ -60,37 +64,26 @@ fn construct(signals: u8, mask: u16, count: u8, nodes: [Node; 64], table: &mut [
     let mut profiles = no_profiles();
     let mut whole = nowhere();
     let m = labelling::tables(signals, mask, count, nodes, &mut profiles, &mut whole);
-    let mut states: u16 = 0;
-    let mut classes = zeros();
-    let rows = exploration::explore(
+    let Some(found) = exploration::explore(signals, mask, m, &profiles, &whole) else {
+        return Err(Refusal::TooManyResiduals);
+    };
+    finish(
         signals,
         mask,
-        m,
-        &profiles,
-        &whole,
-        &mut states,
-        &mut classes,
-    );
-    if 256 < states {
-        return Built::Refused(Refusal::TooManyResiduals);
-    }
-    finish(signals, mask, states, &classes, rows, table)
+        found.count,
+        &found.classes,
+        found.rows,
+        table,
+    )
 }
 
 // Builds the table of a rule file at the front of `table`. The answer is the table's length, or the refusal: 1 to 9 or 17 by the file, then 11, then 10.
 // Bytes past the table, and on a refusal all bytes, keep their values.
-pub fn build(rule: &[u8], table: &mut [u8]) -> Built
+pub fn build(rule: &[u8], table: &mut [u8]) -> Result<usize, Refusal>
     ensures answer { result ≡ answer_of (judge rule.now) table.old }
     ensures output { table.new ≡ output_after (judge rule.now) table.old }
     ensures demands { Right rule.now table.old table.new result }
 {
-    let read = rule_file::read(rule);
-    let outcome = read.outcome;
-    match outcome {
-        Outcome::Refused(why) => Built::Refused(why),
-        Outcome::Accepted => {
-            let nodes = read.nodes;
-            construct(read.signals, read.mask, read.count, nodes, table)
-        }
-    }
+    let read = rule_file::read(rule)?;
+    construct(read.signals, read.mask, read.count, read.nodes, table)
 }
