@@ -1,23 +1,19 @@
 -- What each way through `level` and `more` shows.
-use mathlib.Core.Path.{◌≡◌, refl, sym, ap, ◌∙◌, subst}
+use mathlib.Core.Path.{◌≡◌, sym, ap, ◌∙◌, subst}
 use mathlib.Core.Bool.{true, false}
 use mathlib.Core.List.{List, [], ◌∷◌}
 use Prim.Native.Nat.{ℕ, zero, suc, ◌+◌, ◌-◌, ◌≤◌, ◌<◌}
 use native.Mathlib.Numerals.{add-one}
 use native.Mathlib.Omega.{arith}
-use lib.ListN.{length, get_or, set, drop, drop_of_length-le}
+use lib.ListN.{length, get_or, drop, drop_of_length-le}
 use lib.Seq.{drop-cons}
+use Rattle.std.specs.Prelude.{Option, Some, None}
 use Rattle.meaning.specs.Grammar.{Tree, leaf, pre, bin, rightward}
 use Rattle.grammar.specs.Descent.{Level, More}
 use Rattle.grammar.proofs.Descending.{level-leaf, level-other, level-inside, level-over, level-up, more-end, more-none, more_left, more-right}
 use native.Mathlib.Decide.{dec_lt}
-use Rattle.descent.specs.Laying.{put, lay, laid_as, Read, Moved, Skips}
+use Rattle.descent.specs.Laying.{put, lay, laid_as, Read, Moved, Skips, GoesOn}
 use Rattle.descent.specs.declared.Cursor.{Cursor}
-
-pub set_past : (s : List ℕ) (i v : ℕ) → length s ≤ i → set s i v ≡ s
-set_past [] i v h = refl
-set_past (x ∷ s) zero v h = absurd (omega arith)
-set_past (x ∷ s) (suc i) v h = ap (λ (t : List ℕ). x ∷ t) (set_past s i v (omega arith))
 
 -- the token at a place and what follows it
 from : (s : List ℕ) (i : ℕ) → i < length s → drop i s ≡ get_or s i 0 ∷ drop (i + 1) s
@@ -166,5 +162,16 @@ module _ (s : List ℕ) where
           let e : m + 1 + d ≡ m + suc d = omega arith in
           subst (λ (j : ℕ). Climbed j c₀ o₀ o c) e (go d (m + 1) (climbed-more p (still u (f m (omega arith) (omega arith)))) (λ j l h. f j (omega arith) (omega arith)))
 
-  pub climbed-all : {m n : ℕ} {c₀ : Cursor} {o₀ o : List ℕ} {c : Cursor} {i : ℕ} {o₁ : List ℕ} {k : ℕ} → m ≡ n → Climbed m c₀ o₀ o c → Read s 0 i o₁ k o₀ c₀ → Read s n i o₁ k o c
-  climbed-all {o = o} {c} {i} {o₁} {k} e p r = subst (λ (j : ℕ). Read s j i o₁ k o c) e (p.from r)
+  -- the level that was reached: the last, or one below it with the sign that goes on
+  abbrev pub Onto : ℕ → Cursor → List ℕ → List ℕ → Cursor → Option ℕ → Type 0
+  Onto n c₀ o₀ o c None = Climbed n c₀ o₀ o c
+  Onto n c₀ o₀ o c (Some m) = (m < n) × Climbed m c₀ o₀ o c
+
+  pub onto : {m : ℕ} (n : ℕ) {c₀ : Cursor} {o₀ o : List ℕ} {c : Cursor} (r : Option ℕ) → c.at ≤ length s → Climbed m c₀ o₀ o c → GoesOn s c.at m n r → Onto n c₀ o₀ o c r
+  onto n None u p k = climbed-skip u p k
+  onto n (Some r) u p k = (k.1, climbed-skip u p k.0)
+
+-- how many levels are left
+abbrev pub levels_left : ℕ → Option ℕ → ℕ
+levels_left n None = 0
+levels_left n (Some m) = n - m

@@ -1,5 +1,5 @@
 -- The occurrences of a tree, laid into a list of bytes, while there are fewer than 64: the sign and the numbers of its operands, the operator after these.
-use Rattle.std.specs.Prelude.{◌≡◌, cond, List, ℕ, ◌+◌, ◌*◌, ◌≤◌, ◌<◌, length, get_or, drop, set, ltb}
+use Rattle.std.specs.Prelude.{◌≡◌, cond, List, ℕ, ◌+◌, ◌*◌, ◌≤◌, ◌<◌, length, get_or, drop, set, ltb, Option, Some, None}
 use Rattle.meaning.specs.Grammar.{Tree, leaf, pre, bin}
 use Rattle.grammar.specs.Descent.{Level, More}
 use Rattle.descent.specs.declared.Cursor.{Cursor}
@@ -47,3 +47,8 @@ pub record Skips (signs : List ℕ) (place m n r : ℕ) : Type 0 where
   pub low : m ≤ r
   pub high : r ≤ n
   pub none : (j : ℕ) → m ≤ j → j < r → place < length signs → get_or signs place 0 ≡ 12 + j → ⊥
+
+-- the binary sign that stands at a place, of those from m up and below n
+abbrev pub GoesOn : List ℕ → ℕ → ℕ → ℕ → Option ℕ → Type 0
+GoesOn signs place m n None = Skips signs place m n n
+GoesOn signs place m n (Some r) = Skips signs place m n r × (r < n)

@@ -1,9 +1,10 @@
-// A reader of signs by levels: it lays three bytes for each occurrence, the operator after its operands: the sign, and the numbers of its operands.
+// A reader of signs by levels: it lays three bytes for each occurrence, the operator after its operands: the sign, and
+// the numbers of its operands.
 #![tactic(auto)]
 
 ghost use Rattle.std.specs.Prelude.{◌≡◌, ℕ, ◌+◌, ◌≤◌, ◌<◌, length, set};
 ghost use Rattle.meaning.specs.Grammar.{rightward};
-ghost use Rattle.descent.specs.Laying.{put, laid_as, Read, Moved, Skips};
+ghost use Rattle.descent.specs.Laying.{put, laid_as, Read, Moved, GoesOn};
 
 // How far the signs were read, how many occurrences were laid, and the number of the last tree's root.
 #[derive(Clone, Copy)]
@@ -23,6 +24,7 @@ fn store(out: &mut [u8], i: usize, v: u8)
 }
 
 // Lays one occurrence; the 65th and later ones are dropped.
+#[tactic(auto, unfolding(crate::specs::Laying::put))]
 fn emit(out: &mut [u8], at: usize, count: usize, x: u8, a: u8, b: u8) -> Cursor
     ensures { (put out.old count x a b ≡ laid_as out.new result) × (result.at ≡ at) }
 {
@@ -41,31 +43,26 @@ fn emit(out: &mut [u8], at: usize, count: usize, x: u8, a: u8, b: u8) -> Cursor
 }
 
 // Whether the binary sign, by number from 0, groups to the right.
+#[tactic(auto, unfolding(meaning::specs::Grammar::rightward))]
 fn rightwards(n: u8) -> bool
     ensures { result ≡ rightward n }
 {
-    if n == 0 { true } else { n == 4 }
+    n == 0 || n == 4
 }
 
-// The binary sign at a place, if it is one from m up and below n; else n. Signs are by number from 0.
-fn going_on(signs: &[u8], at: usize, m: u8, n: u8) -> u8
+// The binary sign at a place, if it is one from m up and below n. Signs are by number from 0.
+fn going_on(signs: &[u8], at: usize, m: u8, n: u8) -> Option<u8>
     requires { (m ≤ n) × (n ≤ 6) }
-    ensures { Skips signs.now at m n result }
+    ensures { GoesOn signs.now at m n result }
 {
-    if at < signs.len() {
-        let x = signs[at];
-        if x < 12 + m {
-            return n;
-        }
-        if x - 12 < n {
-            return x - 12;
-        }
+    match signs.get(at) {
+        Some(&x) if 12 + m <= x && x < 12 + n => Some(x - 12),
+        _ => None,
     }
-    n
 }
 
-// Reads an operand, a prefix and what it stands before, or an expression in brackets, and lays its tree. Signs that are none of these are taken as
-// they come, so that it always returns.
+// Reads an operand, a prefix and what it stands before, or an expression in brackets, and lays its tree. Signs that are
+// none of these are taken as they come, so that it always returns.
 #[cycle(level_more_tight)]
 fn tight(signs: &[u8], at: usize, out: &mut [u8], count: usize) -> Cursor
     requires { at ≤ length signs.now }
@@ -75,13 +72,8 @@ fn tight(signs: &[u8], at: usize, out: &mut [u8], count: usize) -> Cursor
         let x = signs[at];
         if x == 10 {
             let c = level(signs, 6, at + 1, out, count);
-            let e = c.at;
-            if e < signs.len() {
-                Cursor {
-                    at: e + 1,
-                    count: c.count,
-                    root: c.root,
-                }
+            if c.at < signs.len() {
+                Cursor { at: c.at + 1, ..c }
             } else {
                 c
             }
@@ -103,10 +95,10 @@ pub fn level(signs: &[u8], n: u8, at: usize, out: &mut [u8], count: usize) -> Cu
     ensures { Read signs.now n at out.old count out.new result }
 {
     let mut c = tight(signs, at, out, count);
-    let mut m = going_on(signs, c.at, 0, n);
-    while m < n {
+    let mut next = going_on(signs, c.at, 0, n);
+    while let Some(m) = next {
         c = more(signs, m, c, out);
-        m = going_on(signs, c.at, m + 1, n);
+        next = going_on(signs, c.at, m + 1, n);
     }
     c
 }
@@ -118,19 +110,15 @@ fn more(signs: &[u8], n: u8, c: Cursor, out: &mut [u8]) -> Cursor
     ensures { Moved signs.now n c out.old out.new result }
 {
     let at = c.at;
-    if at < signs.len() {
+    if at < signs.len() && signs[at] == 12 + n {
         let x = signs[at];
-        if x == 12 + n {
-            if rightwards(n) {
-                let d = level(signs, n + 1, at + 1, out, c.count);
-                emit(out, d.at, d.count, x, c.root, d.root)
-            } else {
-                let d = level(signs, n, at + 1, out, c.count);
-                let e = emit(out, d.at, d.count, x, c.root, d.root);
-                more(signs, n, e, out)
-            }
+        if rightwards(n) {
+            let d = level(signs, n + 1, at + 1, out, c.count);
+            emit(out, d.at, d.count, x, c.root, d.root)
         } else {
-            c
+            let d = level(signs, n, at + 1, out, c.count);
+            let e = emit(out, d.at, d.count, x, c.root, d.root);
+            more(signs, n, e, out)
         }
     } else {
         c

@@ -10,66 +10,33 @@ ghost use Rattle.text_nodes.specs.Occurrences.{mark, occurrences, node_of, node_
 
 use descent::level;
 use meaning::Node;
-use wire::wide;
 
-// ---- how many
-
-// 1 for a sign that is no bracket.
-fn one(sign: u8) -> usize
-    ensures { (result ≡ mark sign) × (result ≤ 1) }
-{
-    if sign == 10 {
-        0
-    } else if sign == 11 {
-        0
-    } else {
-        1
-    }
-}
-
-// The number of nodes that the signs make.
+// The number of nodes that the signs make: one for each sign that is no bracket.
 pub fn count(signs: &[u8]) -> usize
     requires { length signs.now ≤ 1024 }
     ensures { (result ≡ occurrences signs.now) × (result ≤ 1024) }
 {
-    let mut k: usize = 0;
-    let mut i: usize = 0;
-    while i < signs.len() {
-        k += one(signs[i]);
-        i += 1;
-    }
-    k
+    signs
+        .iter()
+        .filter(|sign| **sign != 10 && **sign != 11)
+        .count()
 }
 
-// ---- which
-
+// The kind of a sign's node.
 fn kind_of(sign: u8) -> u8
     ensures { result ≡ kind_of sign }
 {
     let kinds: [u8; 18] = [2, 2, 2, 2, 1, 0, 4, 10, 12, 13, 0, 0, 11, 5, 9, 6, 7, 8];
-    let i = wide(sign);
-    if i < 18 {
-        return kinds[i];
-    }
-    0
+    kinds.get(usize::from(sign)).copied().unwrap_or(0)
 }
 
 // The node of an occurrence: a signal carries its number, any other sign its operands.
 fn node_of(sign: u8, a: u8, b: u8) -> Node
     ensures { result ≡ node_of sign a b }
 {
-    let kind = kind_of(sign);
-    if sign < 4 {
-        return Node {
-            kind,
-            a: sign,
-            b,
-            upper: 0,
-        };
-    }
     Node {
-        kind,
-        a,
+        kind: kind_of(sign),
+        a: if sign < 4 { sign } else { a },
         b,
         upper: 0,
     }
@@ -86,18 +53,10 @@ fn nodes_in(laid: &[u8], count: usize) -> [Node; 64]
         b: 0,
         upper: 0,
     }; 64];
-    let mut i: usize = 0;
-    while i < count {
+    for i in 0..count {
         nodes[i] = node_of(laid[3 * i], laid[3 * i + 1], laid[3 * i + 2]);
-        i += 1;
     }
     nodes
-}
-
-fn room() -> [u8; 192]
-    ensures { length result ≡ 192 }
-{
-    [0; 192]
 }
 
 // The nodes of the signs' tree, of at most 64.
@@ -105,8 +64,7 @@ pub fn nodes(signs: &[u8]) -> [Node; 64]
     requires { Signs (tree_of signs.now) × (size (tree_of signs.now) ≤ 64) }
     ensures { take (size (tree_of signs.now)) result ≡ nodes_of 0 (tree_of signs.now) }
 {
-    let mut laid = room();
+    let mut laid = [0; 192];
     let end = level(signs, 6, 0, &mut laid, 0);
-    let count = end.count;
-    nodes_in(&laid, count)
+    nodes_in(&laid, end.count)
 }

@@ -1,8 +1,7 @@
 -- `descent::level`, `more` and `tight`, which call one another, meet their contracts. The signs that are left fall, or else the level does.
-use mathlib.Core.Path.{◌≡◌}
-use Prim.Native.Nat.{◌≤◌, ◌+◌, ◌-◌, ◌*◌}
+use Prim.Native.Nat.{◌+◌, ◌-◌, ◌*◌}
 use lib.ListN.{length}
-use Rattle.descent.proofs.Laws.{Climbed}
+use Rattle.descent.proofs.Laws.{Onto, levels_left}
 use Rattle.descent.proofs.+level_more_tight.Given as goal
 
 abbrev pub decreases-level : goal.decreases-level
@@ -14,8 +13,8 @@ decreases-more l = 16 * (length l.signs.now - l.c.at) + 2 * l.n + 2
 abbrev pub decreases-tight : goal.decreases-tight
 decreases-tight l = 16 * (length l.signs.now - l.at)
 
-abbrev pub invariant-level-loop-m : goal.invariant-level-loop-m
-invariant-level-loop-m l = (l.m ≤ l.n) × (length l.out ≡ length l.initial.out) × Climbed l.signs l.m l.initial.c l.initial.out l.out l.c
+abbrev pub invariant-level-loop-next : goal.invariant-level-loop-next
+invariant-level-loop-next l = Onto l.signs l.n l.initial.c l.initial.out l.out l.c l.next
 
-abbrev pub decreases-level-loop-m : goal.decreases-level-loop-m
-decreases-level-loop-m l = l.n - l.m
+abbrev pub decreases-level-loop-next : goal.decreases-level-loop-next
+decreases-level-loop-next l = levels_left l.n l.next

@@ -1,5 +1,4 @@
 -- `text_nodes::nodes_in` meets its contract.
-use Prim.Native.Nat.{◌-◌, ◌≤◌}
 use lib.ListN.{replicate}
 use Rattle.sequences.proofs.Loops.{Filled}
 use Rattle.meaning.specs.RuleTexts.{node}
@@ -7,7 +6,4 @@ use Rattle.text_nodes.specs.Occurrences.{node_in}
 use Rattle.text_nodes.proofs.nodes_in.Given as goal
 
 abbrev pub invariant-loop-i : goal.invariant-loop-i
-invariant-loop-i l = (l.i ≤ l.count) × Filled l.i (node_in l.laid) (replicate 64 (node 0 0 0)) l.nodes
-
-abbrev pub decreases-loop-i : goal.decreases-loop-i
-decreases-loop-i l = l.count - l.i
+invariant-loop-i l = Filled l.i (node_in l.laid) (replicate 64 (node 0 0 0)) l.nodes
