@@ -9,7 +9,7 @@ use meaning::{Built, Refusal};
 use std::env::Env;
 use std::io;
 use std::io::Write;
-use text_input::{Request, read_argument};
+use text_input::{Asked, read_argument};
 use text_pieces::{Text, refusal_text};
 
 // What is taken: the first 4,096 bytes of standard input, or all if there are fewer.
@@ -71,11 +71,9 @@ fn say_usage(rt: &HostRuntime) -> io::Result<()> {
     }
     let mut word = [0u8; 8];
     let n = rt.arg(1, &mut word).unwrap_or(0);
-    let request = read_argument(front(&word, n));
-    match request {
-        Request::Help => usage(&mut rt.stdout()),
-        Request::Signals(_) => usage(&mut rt.stderr()),
-        Request::Unknown => usage(&mut rt.stderr()),
+    match read_argument(front(&word, n)) {
+        Some(Asked::Help) => usage(&mut rt.stdout()),
+        _ => usage(&mut rt.stderr()),
     }
 }
 

@@ -9,7 +9,7 @@ use meaning::{Arrived, Refusal};
 use std::env::Env;
 use std::io;
 use std::io::Write;
-use text_input::{RunRequest, read_events};
+use text_input::{Asked, read_events};
 
 // What is taken: the first 9,479 bytes of standard input, as many as the longest table has, or all if there are fewer.
 fn input() -> [u8; 9479]
@@ -72,11 +72,10 @@ fn read_and_answer(rt: &HostRuntime, events: &[u8]) -> io::Result<()> {
 
 // Does what the argument asks for.
 fn serve(rt: &HostRuntime, argument: &mut [u8]) -> io::Result<()> {
-    let request = read_events(argument);
-    match request {
-        RunRequest::Events => read_and_answer(rt, argument),
-        RunRequest::Help => usage(&mut rt.stdout()),
-        RunRequest::Unknown => usage(&mut rt.stderr()),
+    match read_events(argument) {
+        Some(Asked::For(())) => read_and_answer(rt, argument),
+        Some(Asked::Help) => usage(&mut rt.stdout()),
+        None => usage(&mut rt.stderr()),
     }
 }
 

@@ -1,14 +1,13 @@
 -- What the argument and the input of the writer of rule files say, in ASCII.
-use Rattle.std.specs.Prelude.{List, [], ◌∷◌, Bool, false, cond, ◌&&◌, ◌||◌, ℕ, ◌+◌, ◌-◌, ◌*◌, length, take, get_or, leb, eqb}
-use Rattle.sequences.specs.Tabulate.{every, all_below}
-use Rattle.text_input.specs.declared.Request.{Request}
-use Rattle.text_input.specs.declared.Request.TheVariants.{Signals, Help, Unknown}
+use Rattle.std.specs.Prelude.{List, [], ◌∷◌, Bool, cond, ◌&&◌, ◌||◌, ℕ, ◌+◌, ◌-◌, ◌*◌, length, take, drop, leb, nat_eq, Option, Some, None}
+use lib.Pointwise.{pointwise}
+use Rattle.text_input.specs.declared.Asked.{Asked}
+use Rattle.text_input.specs.declared.Asked.TheVariants.{Help, For}
 
 -- ---- the argument
 
--- as many bytes, and at each index the same
 abbrev pub same : List ℕ → List ℕ → Bool
-same a b = cond (eqb (length a) (length b)) (all_below (length a) (λ i. eqb (get_or a i 0) (get_or b i 0))) false
+same a b = pointwise nat_eq a b
 
 -- `-h` or `--help`
 abbrev pub is_help : List ℕ → Bool
@@ -18,27 +17,27 @@ abbrev pub within : ℕ → ℕ → ℕ → Bool
 within low high b = leb low b && leb b high
 
 abbrev pub is_digit : ℕ → Bool
-is_digit b = leb 48 b && leb b 57
+is_digit b = within 48 57 b
 
--- the value of decimal digits after digits of value n; 256 where a byte is no digit
-unfoldable pub value_after : ℕ → List ℕ → ℕ
-value_after n [] = n
-value_after n (b ∷ bs) =
-    let more = value_after (n * 10 + (b - 48)) bs in
-    cond (is_digit b) more 256
+-- the value of decimal digits after digits of value n, if each byte is one
+abbrev pub value_after : ℕ → List ℕ → Option ℕ
+value_after n [] = Some n
+value_after n (b ∷ bs) = cond (is_digit b) (value_after (n * 10 + (b - 48)) bs) None
 
-abbrev pub value_of : List ℕ → ℕ
+abbrev pub value_of : List ℕ → Option ℕ
 value_of bytes = value_after 0 bytes
 
--- one to three digits, whose value one byte holds
-abbrev pub number_tests : List ℕ → List Bool
-number_tests bytes = leb 1 (length bytes) ∷ leb (length bytes) 3 ∷ leb (value_of bytes) 255 ∷ []
+-- a value that one byte holds
+abbrev pub asked_for : Option ℕ → Option (Asked ℕ)
+asked_for None = None
+asked_for (Some n) = cond (leb n 255) (Some (For n)) None
 
-abbrev pub request_of : List ℕ → Request
-request_of bytes = cond (is_help bytes) Help (cond (every (number_tests bytes)) (Signals (value_of bytes)) Unknown)
+-- one to three digits, whose value one byte holds
+abbrev pub request_of : List ℕ → Option (Asked ℕ)
+request_of bytes = cond (is_help bytes) (Some Help) (cond (within 1 3 (length bytes)) (asked_for (value_of bytes)) None)
 
 -- ---- the input
 
 -- all but one line end (10) at the end
 abbrev pub without_line_end : List ℕ → List ℕ
-without_line_end bytes = cond (eqb (get_or bytes (length bytes - 1) 0) 10) (take (length bytes - 1) bytes) bytes
+without_line_end bytes = cond (same (drop (length bytes - 1) bytes) (10 ∷ [])) (take (length bytes - 1) bytes) bytes

@@ -3,167 +3,103 @@
 #![tactic(auto)]
 
 ghost use Rattle.std.specs.Prelude.{◌≡◌, ◌≤◌, length, map};
-ghost use Rattle.text_input.specs.Given.{same, within, is_digit, value_of, is_help, request_of, without_line_end};
-ghost use Rattle.text_input.specs.EventDigits.{hex_value, all_hex, run_request_of, events_in};
+ghost use Rattle.text_input.specs.Given.{value_of, is_help, request_of, without_line_end};
+ghost use Rattle.text_input.specs.EventDigits.{hex_value, all_hex, put_value, run_request_of, events_in};
 
-use wire::wide;
-
-// What an argument asks for: the rule file over so many signals, or the help text. Unknown where it is neither.
+// What an argument asks for: the help text, or the program's work, for what the argument says.
 #[derive(Clone, Copy)]
-pub enum Request {
-    Signals(u8),
+pub enum Asked<T> {
     Help,
-    Unknown,
-}
-
-fn same_bytes(a: &[u8], b: &[u8]) -> bool
-    ensures { result ≡ same a.now b.now }
-{
-    if a.len() != b.len() {
-        return false;
-    }
-    let mut i: usize = 0;
-    while i < a.len() {
-        if a[i] != b[i] {
-            return false;
-        }
-        i += 1;
-    }
-    true
+    For(T),
 }
 
 fn is_help(argument: &[u8]) -> bool
     ensures { result ≡ is_help argument.now }
 {
-    same_bytes(argument, b"-h") | same_bytes(argument, b"--help")
+    argument == b"-h".as_slice() || argument == b"--help".as_slice()
 }
 
-fn is_within(low: u8, high: u8, b: u8) -> bool
-    ensures { result ≡ within low high b }
-{
-    (low <= b) & (b <= high)
-}
-
-fn is_digit(b: u8) -> bool
-    ensures { result ≡ is_digit b }
-{
-    (48 <= b) & (b <= 57)
-}
-
-// The value of digits, or 256 where a byte is none.
-fn value(digits: &[u8]) -> usize
+// The value of decimal digits, if each byte is one.
+fn value(digits: &[u8]) -> Option<usize>
     requires { length digits.now ≤ 3 }
     ensures { result ≡ value_of digits.now }
 {
     let mut n: usize = 0;
-    let mut i: usize = 0;
-    while i < digits.len() {
-        let b = digits[i];
-        if !is_digit(b) {
-            return 256;
+    for &b in digits {
+        if !b.is_ascii_digit() {
+            return None;
         }
-        n = n * 10 + wide(b - 48);
-        i += 1;
+        n = n * 10 + usize::from(b - b'0');
     }
-    n
+    Some(n)
 }
 
-pub fn read_argument(argument: &[u8]) -> Request
+// What the argument of the writer of rule files asks for, if it is one: the rule file over so many signals, or the help.
+pub fn read_argument(argument: &[u8]) -> Option<Asked<u8>>
     ensures { result ≡ request_of argument.now }
 {
     if is_help(argument) {
-        return Request::Help;
+        return Some(Asked::Help);
     }
-    if argument.len() < 1 {
-        return Request::Unknown;
+    if argument.is_empty() || 3 < argument.len() {
+        return None;
     }
-    if 3 < argument.len() {
-        return Request::Unknown;
+    let n = value(argument)?;
+    if n <= 255 {
+        Some(Asked::For(n as u8))
+    } else {
+        None
     }
-    let n = value(argument);
-    if 255 < n {
-        return Request::Unknown;
-    }
-    Request::Signals(n as u8)
 }
 
 // The text with the line end dropped that stands last, if one does.
 pub fn without_line_end(text: &[u8]) -> &[u8]
     ensures { result.now ≡ without_line_end text.now }
 {
-    if text.len() < 1 {
-        return text;
-    }
-    let last = text.len() - 1;
-    if text[last] != 10 {
-        return text;
-    }
-    &text[..last]
+    text.strip_suffix(b"\n").unwrap_or(text)
 }
 
 // ---- a list of events, a digit of base 16 each
 
-// What the argument of a run asks for: a run over events, or the help text. Unknown where it is neither.
-#[derive(Clone, Copy)]
-pub enum RunRequest {
-    Events,
-    Help,
-    Unknown,
-}
-
-// The value of a digit, or 16 where the byte is none.
-fn hex_value(b: u8) -> u8
+// The value of a digit.
+fn hex_value(b: u8) -> Option<u8>
     ensures { result ≡ hex_value b }
 {
-    if is_digit(b) {
-        return b - 48;
+    match b {
+        b'0'..=b'9' => Some(b - 48),
+        b'a'..=b'f' => Some(b - 87),
+        b'A'..=b'F' => Some(b - 55),
+        _ => None,
     }
-    if is_within(97, 102, b) {
-        return b - 87;
-    }
-    if is_within(65, 70, b) {
-        return b - 55;
-    }
-    16
 }
 
 fn all_hex(bytes: &[u8]) -> bool
     ensures { result ≡ all_hex bytes.now }
 {
-    let mut i: usize = 0;
-    while i < bytes.len() {
-        if 15 < hex_value(bytes[i]) {
-            return false;
-        }
-        i += 1;
-    }
-    true
+    bytes.iter().all(|b| hex_value(*b).is_some())
 }
 
-// Puts its value in the place of each byte.
+// Puts its value in the place of each digit.
 fn put_values(bytes: &mut [u8])
-    ensures { bytes.new ≡ map hex_value bytes.old }
+    ensures { bytes.new ≡ map put_value bytes.old }
 {
-    let mut i: usize = 0;
-    while i < bytes.len() {
-        let value = hex_value(bytes[i]);
-        bytes[i] = value;
-        i += 1;
+    for b in bytes.iter_mut() {
+        *b = hex_value(*b).unwrap_or(*b);
     }
 }
 
-// Reads the argument of a run. Where it is digits alone, none too, their values are put in their places; any other is
-// kept.
-pub fn read_events(argument: &mut [u8]) -> RunRequest
+// What the argument of a run asks for, if it is one: a run, or the help. Where it is digits alone, none too, their values
+// are put in their places; any other is kept.
+pub fn read_events(argument: &mut [u8]) -> Option<Asked<()>>
     ensures value { result ≡ run_request_of argument.old }
     ensures argument_after { argument.new ≡ events_in argument.old }
 {
-    if !all_hex(argument) {
-        if is_help(argument) {
-            return RunRequest::Help;
-        }
-        return RunRequest::Unknown;
+    if all_hex(argument) {
+        put_values(argument);
+        Some(Asked::For(()))
+    } else if is_help(argument) {
+        Some(Asked::Help)
+    } else {
+        None
     }
-    put_values(argument);
-    RunRequest::Events
 }

@@ -10,7 +10,7 @@ use meaning::{Refusal, Written};
 use std::env::Env;
 use std::io;
 use std::io::Write;
-use text_input::{Request, read_argument, without_line_end};
+use text_input::{Asked, read_argument, without_line_end};
 use text_pieces::Text;
 
 // What is taken of the input: 1,024 bytes, a line end, and one byte more, by which a longer text is seen to be too long.
@@ -80,10 +80,9 @@ fn main(rt: HostRuntime) -> io::Result<()> {
     }
     let mut word = [0u8; 8];
     let n = rt.arg(1, &mut word).unwrap_or(0);
-    let request = read_argument(front(&word, n));
-    match request {
-        Request::Signals(signals) => read_and_answer(&rt, signals),
-        Request::Help => usage(&mut rt.stdout()),
-        Request::Unknown => usage(&mut rt.stderr()),
+    match read_argument(front(&word, n)) {
+        Some(Asked::For(signals)) => read_and_answer(&rt, signals),
+        Some(Asked::Help) => usage(&mut rt.stdout()),
+        None => usage(&mut rt.stderr()),
     }
 }
