@@ -1,11 +1,10 @@
 -- What a refusal says in words, in ASCII: what is wrong, and what to do.
-use Rattle.std.specs.Prelude.{List, [], ◌∷◌, ◌++◌, cond, ℕ, length, get_or, leb}
+use Rattle.std.specs.Prelude.{List, [], ◌∷◌, ◌++◌, cond, ℕ, length, get_or, leb, Result, Ok, Err}
 use Rattle.meaning.specs.Bytes.{ascii}
 use Rattle.meaning.specs.Refusals.{code_of}
 use Rattle.meaning.specs.declared.Refusal.{Refusal}
 use Rattle.meaning.specs.declared.Refusal.TheVariants.{ShortOutput}
 use Rattle.text_pieces.specs.Put.{at_front}
-use Rattle.text_pieces.specs.declared.Text.{Text}
 
 -- the words of the refusal with each number, from 0; there is none with 0
 unfoldable pub sentences : List (List ℕ)
@@ -45,8 +44,8 @@ abbrev pub words_of : Refusal → List ℕ
 words_of r = words_for (code_of r).0 ++ (10 ∷ [])
 
 -- the answer: 10 where the output has fewer than 128 bytes, in which the words of every refusal fit
-abbrev pub words_answer : Refusal → List ℕ → Text
-words_answer r out = cond (leb 128 (length out)) (Text.Written (length (words_of r))) (Text.Refused ShortOutput)
+abbrev pub words_answer : Refusal → List ℕ → Result ℕ Refusal
+words_answer r out = cond (leb 128 (length out)) (Ok (length (words_of r))) (Err ShortOutput)
 
 -- the output then: on a refusal "Lent buffers keep every byte"
 abbrev pub words_after : Refusal → List ℕ → List ℕ

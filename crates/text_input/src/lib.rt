@@ -34,7 +34,7 @@ fn value(digits: &[u8]) -> Option<usize>
     Some(n)
 }
 
-// What the argument of the writer of rule files asks for, if it is one: the rule file over so many signals, or the help.
+// What the argument of the writer of rule files asks for, if it is one: the rule file over so many signals, or help.
 pub fn read_argument(argument: &[u8]) -> Option<Asked<u8>>
     ensures { result ≡ request_of argument.now }
 {
@@ -88,7 +88,7 @@ fn put_values(bytes: &mut [u8])
     }
 }
 
-// What the argument of a run asks for, if it is one: a run, or the help. Where it is digits alone, none too, their values
+// What the argument of a run asks for, if it is one: a run, or help. Where it is digits alone, none too, their values
 // are put in their places; any other is kept.
 pub fn read_events(argument: &mut [u8]) -> Option<Asked<()>>
     ensures value { result ≡ run_request_of argument.old }

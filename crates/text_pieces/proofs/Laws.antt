@@ -1,14 +1,17 @@
 -- Pieces put into a buffer one after the other.
 --     put-none, put-more, put_byte           before the first piece, after one piece more, one byte
 --     put-length, put_front                  the buffer at the end
---     bytes-, decimal-, joined-more          one byte more of a list, one digit more of a number, one list more of those joined
+--     copied                                 bytes copied into their place
+--     decimal-, joined-more                  one digit more of a number, one list more of those joined
 use mathlib.Core.Path.{◌≡◌, refl, sym, ap, ◌∙◌, subst}
-use mathlib.Core.List.{List, [], ◌∷◌, ◌++◌}
+use mathlib.Core.List.{List, [], ◌∷◌, ◌++◌, append_assoc}
 use Prim.Native.Nat.{ℕ, ◌+◌, ◌/◌, ◌%◌, ◌≤◌, ◌<◌}
 use native.Mathlib.Numerals.{add-one}
 use native.Mathlib.Omega.{arith}
-use lib.ListN.{length, get_or, set, take, length-append}
-use lib.Seq.{take-suc, take-length}
+use lib.ListN.{length, set, take, drop, length-append}
+use lib.Seq.{sets-eq}
+use borrow.Rule.Slice.PartMut.{put_mid}
+use Rattle.std.proofs.lemmas.List.{drop-drop}
 use Rattle.sequences.specs.Tabulate.{joined}
 use Rattle.sequences.proofs.Stores.{Stored, stored_more, stored-whole, stored-length}
 use Rattle.text_pieces.specs.Put.{Put, at_front}
@@ -39,15 +42,12 @@ module _ {d : List ℕ} {i : ℕ} {vs s : List ℕ} {j : ℕ} (h : Put d i vs s 
 pub put_front : {d vs s : List ℕ} {j : ℕ} → Put d 0 vs s j → j ≤ length d → s ≡ at_front vs d
 put_front {d} {vs} h l = stored-whole (length vs) (stored_of h) refl (omega (arith, h.next))
 
--- one byte more of the bytes bs
-pub bytes-more : (d bs s : List ℕ) (i k : ℕ) → k < length bs → Put d i (take k bs) s (i + k)
-    → Put d i (take (k + 1) bs) (set s (i + k) (get_or bs k 0)) (i + (k + 1))
-bytes-more d bs s i k l h =
-    let g = put-more h (put_byte s (i + k) (get_or bs k 0) (i + (k + 1)) (omega arith)) in
-    put_is g (take (k + 1) bs) (sym (take-suc bs k 0 l) ∙ ap (λ (n : ℕ). take n bs) (sym (add-one k)))
-
-pub bytes-all : (d bs s : List ℕ) (i k j : ℕ) → k ≡ length bs → Put d i (take k bs) s j → Put d i bs s j
-bytes-all d bs s i k j e h = put_is h bs (ap (λ (n : ℕ). take n bs) e ∙ take-length bs)
+-- bytes copied into their place
+pub copied : (d bs ys : List ℕ) (i k j : ℕ) → i + length bs ≤ length d → k ≡ length bs → ys ≡ bs → j ≡ i + length bs
+    → Put d i bs (put_mid i k d ys) j
+copied d bs ys i k j h e q n =
+    let rest : drop (length bs) (drop i d) ≡ drop (i + length bs) d = grind (arith, drop-drop) in
+    record { stored = rw (e, q, rest) (sym (append_assoc (take i d) bs (drop (i + length bs) d)) ∙ sym (sets-eq bs d i h)); next = n }
 
 pub decimal-one-put : (d : List ℕ) (i n v : ℕ) → n < 10 → v ≡ 48 + n → Put d i (decimal n) (set d i v) (i + 1)
 decimal-one-put d i n v h e = put_is (put_byte d i v (i + 1) refl) (decimal n) (ap (λ (x : ℕ). x ∷ []) e ∙ sym (decimal-one n h))

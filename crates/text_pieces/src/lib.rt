@@ -1,20 +1,12 @@
 // Pieces of text put into a lent buffer: bytes, numbers in decimal, the line of a refusal.
 #![tactic(auto)]
 
-ghost use Rattle.std.specs.Prelude.{◌≡◌, ◌+◌, ◌≤◌, ◌<◌, length};
+ghost use Rattle.std.specs.Prelude.{◌≡◌, ◌+◌, ◌≤◌, IfOk, length};
 ghost use Rattle.text_pieces.specs.Put.{Put};
 ghost use Rattle.text_pieces.specs.Decimal.{decimal};
 ghost use Rattle.text_pieces.specs.RefusalLine.{line_answer, line_after};
 
 use meaning::Refusal;
-use wire::wide16;
-
-// What writing a text returns: its length in bytes, or the refusal.
-#[derive(Clone, Copy)]
-pub enum Text {
-    Written(usize),
-    Refused(Refusal),
-}
 
 // ---- pieces: each is put at a place, and the place after it is returned
 
@@ -22,19 +14,9 @@ pub fn put_bytes(out: &mut [u8], at: usize, bytes: &[u8]) -> usize
     requires { at + length bytes.now ≤ length out.old }
     ensures { Put out.old at bytes.now out.new result }
 {
-    let mut i: usize = 0;
-    while i < bytes.len() {
-        out[at + i] = bytes[i];
-        i += 1;
-    }
-    at + i
-}
-
-fn digit(n: usize) -> u8
-    requires { n < 10 }
-    ensures { result ≡ 48 + n }
-{
-    48 + (n as u8)
+    let end = at + bytes.len();
+    out[at..end].copy_from_slice(bytes);
+    end
 }
 
 // A number: its digits but the last, then the last.
@@ -43,12 +25,13 @@ fn put_decimal(out: &mut [u8], at: usize, n: usize) -> usize
     ensures { Put out.old at (decimal n) out.new result }
 {
     if n < 10 {
-        out[at] = digit(n);
-        return at + 1;
+        out[at] = b'0' + n as u8;
+        at + 1
+    } else {
+        let next = put_decimal(out, at, n / 10);
+        out[next] = b'0' + (n % 10) as u8;
+        next + 1
     }
-    let next = put_decimal(out, at, n / 10);
-    out[next] = digit(n % 10);
-    next + 1
 }
 
 // A number of two bytes, which has at most five digits.
@@ -57,24 +40,24 @@ pub fn put_number(out: &mut [u8], at: usize, n: u16) -> usize
     ensures put { Put out.old at (decimal n) out.new result }
     ensures upper_bound { result ≤ at + 5 }
 {
-    put_decimal(out, at, wide16(n))
+    put_decimal(out, at, usize::from(n))
 }
 
 // ---- a refusal
 
-// The refusal's line at the front of the output and its length; or 10 where the output has fewer than 64 bytes, and every byte of it as it was.
-// Bytes past the line are kept.
-pub fn refusal_text(refusal: Refusal, out: &mut [u8]) -> Text
+// The refusal's line at the front of the output and its length; or 10 where the output has fewer than 64 bytes, and
+// every byte of it as it was. Bytes past the line are kept.
+pub fn refusal_text(refusal: Refusal, out: &mut [u8]) -> Result<usize, Refusal>
     ensures value { result ≡ line_answer refusal out.old }
     ensures out_after { out.new ≡ line_after refusal out.old }
+    ensures upper_bound { IfOk result (λ n. n ≤ 64) }
 {
     if out.len() < 64 {
-        return Text::Refused(Refusal::ShortOutput);
+        return Err(Refusal::ShortOutput);
     }
     let a = put_bytes(out, 0, b"refused ");
-    let b = put_number(out, a, refusal.number() as u16);
+    let b = put_number(out, a, u16::from(refusal.number()));
     let c = put_bytes(out, b, b" at ");
     let d = put_decimal(out, c, refusal.place());
-    let end = put_bytes(out, d, b"\n");
-    Text::Written(end)
+    Ok(put_bytes(out, d, b"\n"))
 }

@@ -1,18 +1,6 @@
 -- `fault_text::put_shown` meets its contract.
-use native.Mathlib.Omega.{arith}
-use borrow.Author.Rules.{rules}
-use Rattle.text_pieces.proofs.Laws.{put-none, put-length}
-use Rattle.fault_text.proofs.Laws.{shown-more, shown-all}
+use Rattle.fault_text.proofs.Laws.{shown-more}
 use Rattle.fault_text.proofs.put_shown.Goals as goal
 
-pub loop-i-init : goal.loop-i-init
-loop-i-init c = (omega arith, put-none (omega arith))
-
-pub bounds-out-at : goal.bounds-out-at
-bounds-out-at c = omega (arith, put-length c.loop-i.invariant.1)
-
 pub loop-i-preserved : goal.loop-i-preserved
-loop-i-preserved c = (search rules, shown-more c.args.out.now c.args.text.now _ c.args.at c.loop-i.i _ c.loop-i-test.true c.printable.ensures c.loop-i.invariant.1)
-
-pub returns : goal.returns
-returns c = shown-all c.args.out.now c.args.text.now _ c.args.at c.loop-i.i _ (omega arith) c.loop-i.invariant.1
+loop-i-preserved c = shown-more c.args.out.now c.args.text.now _ c.args.at c.loop-i.i _ c.loop-i-test.true c.printable.ensures c.loop-i.invariant
