@@ -10,7 +10,7 @@ use std::env::Env;
 use std::io;
 use std::io::Write;
 use text_input::{Asked, read_argument};
-use text_pieces::{Text, refusal_text};
+use text_pieces::refusal_text;
 
 // What is taken: the first 4,096 bytes of standard input, or all if there are fewer.
 fn input() -> [u8; 4096]
@@ -36,7 +36,7 @@ fn usage<W: Write>(out: &mut W) -> io::Result<()> {
 fn say_refused(rt: &HostRuntime, why: Refusal) -> io::Result<()> {
     let mut line = [0u8; 64];
     let said = refusal_text(why, &mut line);
-    if let Text::Written(n) = said {
+    if let Ok(n) = said {
         say(&mut rt.stderr(), front(&line, n))?;
     }
     Ok(())

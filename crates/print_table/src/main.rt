@@ -5,7 +5,6 @@ ghost use Rattle.std.specs.Prelude.{◌≡◌, length};
 
 use console::{front, read_full, say};
 use std::io;
-use text_pieces::Text;
 
 // What is taken: the first 4,096 bytes of standard input, or all if there are fewer.
 fn input() -> [u8; 4096]
@@ -26,7 +25,7 @@ fn main(rt: HostRuntime) -> io::Result<()> {
     let n = read_full(&mut rt.stdin(), &mut rule)?;
     let mut text = page();
     let written = table_printer::print_rule(front(&rule, n), &mut text);
-    if let Text::Written(length) = written {
+    if let Ok(length) = written {
         say(&mut rt.stdout(), front(&text, length))?;
     }
     Ok(())

@@ -1,13 +1,13 @@
 -- The text of a table, as document 01 prints it, in ASCII: byte 32 between words, byte 10 at the end of each line.
-use Rattle.std.specs.Prelude.{List, [], ◌∷◌, ◌++◌, cond, ℕ, ◌^◌, length, leb}
+use Rattle.std.specs.Prelude.{List, [], ◌∷◌, ◌++◌, cond, ℕ, ◌^◌, length, leb, Result, Ok, Err}
 use Rattle.sequences.specs.Tabulate.{joined}
 use Rattle.meaning.specs.TableFiles.{signals_in, states_in, verdict_byte, verdict_of, successor, is_table}
 use Rattle.meaning.specs.declared.Verdict.{Verdict}
 use Rattle.meaning.specs.declared.Verdict.TheVariants.{Undecided, Satisfied, Violated, Moot}
+use Rattle.meaning.specs.declared.Refusal.{Refusal}
 use Rattle.meaning.specs.declared.Refusal.TheVariants.{ShortOutput, WrongTable}
 use Rattle.text_pieces.specs.Put.{at_front}
 use Rattle.text_pieces.specs.Decimal.{decimal}
-use Rattle.text_pieces.specs.declared.Text.{Text}
 
 -- "undecided", "satisfied", "violated", "moot"
 abbrev pub word : Verdict → List ℕ
@@ -39,9 +39,9 @@ unfoldable pub text_of : List ℕ → List ℕ
 text_of t = counts_text (signals_in t) (states_in t) ++ lines_text t (signals_in t) (states_in t)
 
 -- the answer: 14 where the bytes are no table, 10 where the output has fewer than 32,768 bytes, in which the text of every table fits
-abbrev pub text_answer : List ℕ → List ℕ → Text
+abbrev pub text_answer : List ℕ → List ℕ → Result ℕ Refusal
 text_answer t out =
-    cond (is_table t) (cond (leb 32768 (length out)) (Text.Written (length (text_of t))) (Text.Refused ShortOutput)) (Text.Refused WrongTable)
+    cond (is_table t) (cond (leb 32768 (length out)) (Ok (length (text_of t))) (Err ShortOutput)) (Err WrongTable)
 
 -- the output then: on a refusal "Lent buffers keep every byte"
 abbrev pub text_after : List ℕ → List ℕ → List ℕ

@@ -7,28 +7,25 @@ ghost use Rattle.text_pieces.specs.Decimal.{decimal};
 ghost use Rattle.table_text.specs.Text.{word, counts_text, successors_text, line_text, lines_text, text_answer, text_after};
 
 use events::width;
-use meaning::{Checked, Refusal, Verdict};
+use meaning::{Refusal, Verdict};
 use table_file::check;
 use table_layout::{successor_at, verdict_at};
-use text_pieces::{Text, put_bytes, put_number};
-
-// ---- pieces: each is put at a place, and the place after it is returned
+use text_pieces::{put_bytes, put_number};
 
 // The word of a verdict.
-fn put_word(out: &mut [u8], at: usize, verdict: Verdict) -> usize
-    requires { at + 9 ≤ length out.old }
-    ensures put { Put out.old at (word verdict) out.new result }
-    ensures upper_bound { result ≤ at + 9 }
+fn word(verdict: Verdict) -> &'static [u8]
+    ensures word { result.now ≡ word verdict }
+    ensures upper_bound { length result.now ≤ 9 }
 {
     match verdict {
-        Verdict::Undecided => put_bytes(out, at, b"undecided"),
-        Verdict::Satisfied => put_bytes(out, at, b"satisfied"),
-        Verdict::Violated => put_bytes(out, at, b"violated"),
-        Verdict::Moot => put_bytes(out, at, b"moot"),
+        Verdict::Undecided => b"undecided",
+        Verdict::Satisfied => b"satisfied",
+        Verdict::Violated => b"violated",
+        Verdict::Moot => b"moot",
     }
 }
 
-// ---- lines
+// ---- lines: each is put at a place, and the place after it is returned
 
 // The first line, at the front.
 fn put_counts(out: &mut [u8], signals: u8, states: u16) -> usize
@@ -37,7 +34,7 @@ fn put_counts(out: &mut [u8], signals: u8, states: u16) -> usize
     ensures upper_bound { result ≤ 32 }
 {
     let a = put_bytes(out, 0, b"signals ");
-    let b = put_number(out, a, signals as u16);
+    let b = put_number(out, a, u16::from(signals));
     let c = put_bytes(out, b, b" states ");
     let d = put_number(out, c, states);
     put_bytes(out, d, b"\n")
@@ -60,11 +57,9 @@ fn put_successors(out: &mut [u8], at: usize, table: &[u8], signals: u8, state: u
 {
     let events = width(signals);
     let mut next = at;
-    let mut e: usize = 0;
-    while e < events {
+    for e in 0..events {
         let to = successor_at(table, signals, state, e as u8);
         next = put_successor(out, next, to);
-        e += 1;
     }
     next
 }
@@ -77,7 +72,7 @@ fn put_line(out: &mut [u8], at: usize, table: &[u8], signals: u8, state: u16) ->
 {
     let a = put_number(out, at, state);
     let b = put_bytes(out, a, b" ");
-    let c = put_word(out, b, verdict_at(table, signals, state));
+    let c = put_bytes(out, b, word(verdict_at(table, signals, state)));
     let d = put_successors(out, c, table, signals, state);
     put_bytes(out, d, b"\n")
 }
@@ -88,30 +83,24 @@ fn put_lines(out: &mut [u8], at: usize, table: &[u8], signals: u8, states: u16) 
     ensures upper_bound { result ≤ at + 112 * states }
 {
     let mut next = at;
-    let mut s: u16 = 0;
-    while s < states {
+    for s in 0..states {
         next = put_line(out, next, table, signals, s);
-        s += 1;
     }
     next
 }
 
 // ---- the text
 
-// The table's text at the front of the output and its length; or 14 where the bytes are no table, then 10 where the output has fewer than
-// 32,768 bytes, and every byte of the output as it was. Bytes past the text are kept.
-pub fn table_text(table: &[u8], out: &mut [u8]) -> Text
+// The table's text at the front of the output and its length; or 14 where the bytes are no table, then 10 where the
+// output has fewer than 32,768 bytes, and every byte of the output as it was. Bytes past the text are kept.
+pub fn table_text(table: &[u8], out: &mut [u8]) -> Result<usize, Refusal>
     ensures value { result ≡ text_answer table.now out.old }
     ensures out_after { out.new ≡ text_after table.now out.old }
 {
-    let checked = check(table);
-    let Checked::Table { signals, states } = checked else {
-        return Text::Refused(Refusal::WrongTable);
-    };
+    let counts = check(table)?;
     if out.len() < 32768 {
-        return Text::Refused(Refusal::ShortOutput);
+        return Err(Refusal::ShortOutput);
     }
-    let next = put_counts(out, signals, states);
-    let end = put_lines(out, next, table, signals, states);
-    Text::Written(end)
+    let next = put_counts(out, counts.signals, counts.states);
+    Ok(put_lines(out, next, table, counts.signals, counts.states))
 }

@@ -6,14 +6,15 @@ ghost use Rattle.std.specs.Prelude.{◌≡◌};
 ghost use Rattle.meaning.specs.RuleFiles.{judge};
 ghost use Rattle.meaning.specs.TableFiles.{checked_of};
 ghost use Rattle.building.specs.Build.{answer_of, output_after, Right};
-ghost use Rattle.codes.specs.Codes.{written_code, built_code, opened_code, start_code, arrived_code, count_after, run_at, step_at, shown_code, judge_at, text_code, served_code, fresh_at, post_at, turn_at};
+ghost use Rattle.codes.specs.Codes.{length_code, opened_code, start_code, arrived_code, count_after, run_at, step_at};
+ghost use Rattle.codes.specs.Codes.{shown_code, judge_at, served_code, fresh_at, post_at, turn_at};
 ghost use Rattle.rule_text.specs.Writing.{written_answer, written_after};
 ghost use Rattle.table_text.specs.Text.{text_answer, text_after};
 ghost use Rattle.tefuji.specs.Writing.{Written};
 
 use codes::{
-    arrived_code, built_code, count_after, opened_code, opening_in, served_code, shown_code,
-    start_code, state_in, text_code, written_code,
+    arrived_code, count_after, length_code, opened_code, opening_in, served_code, shown_code,
+    start_code, state_in,
 };
 use desk::{fresh, serve};
 use desk_tasks::{post_request, turn_request};
@@ -22,21 +23,21 @@ use meaning::Watch;
 // Writes the rule file of a text into the front of a buffer. Answers the file's length.
 #[unsafe(no_mangle)]
 pub extern "C" fn tefuji_write(text: &[u8], signals: u8, rule: &mut [u8]) -> u64
-    ensures answer { result ≡ written_code (written_answer text.now signals rule.old) }
+    ensures answer { result ≡ length_code (written_answer text.now signals rule.old) }
     ensures output { rule.new ≡ written_after text.now signals rule.old }
     ensures reading { Written text.now signals rule.old result rule.new }
 {
-    written_code(rule_text::write(text, signals, rule))
+    length_code(rule_text::write(text, signals, rule))
 }
 
 // Builds the smallest table of a rule file into the front of a buffer. Answers the table's length.
 #[unsafe(no_mangle)]
 pub extern "C" fn tefuji_build(rule: &[u8], table: &mut [u8]) -> u64
-    ensures answer { result ≡ built_code (answer_of (judge rule.now) table.old) }
+    ensures answer { result ≡ length_code (answer_of (judge rule.now) table.old) }
     ensures output { table.new ≡ output_after (judge rule.now) table.old }
     ensures demands { Right rule.now table.old table.new (answer_of (judge rule.now) table.old) }
 {
-    built_code(monitor::build(rule, table))
+    length_code(monitor::build(rule, table))
 }
 
 // Opens a table with a number: checks its bytes. Answers the opening, which what is done with the table takes.
@@ -87,10 +88,10 @@ pub extern "C" fn tefuji_step(table: &[u8], opened: u64, state: u32, event: u8) 
 // Writes a table's text into the front of a buffer of at least 32,768 bytes. Answers the text's length.
 #[unsafe(no_mangle)]
 pub extern "C" fn tefuji_text(table: &[u8], text: &mut [u8]) -> u64
-    ensures value { result ≡ text_code (text_answer table.now text.old) }
+    ensures value { result ≡ length_code (text_answer table.now text.old) }
     ensures text_after { text.new ≡ text_after table.now text.old }
 {
-    text_code(table_text::table_text(table, text))
+    length_code(table_text::table_text(table, text))
 }
 
 // Judges two recordings with gaps over a table that was opened, from its start. Answers the verdict.

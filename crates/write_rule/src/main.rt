@@ -11,7 +11,6 @@ use std::env::Env;
 use std::io;
 use std::io::Write;
 use text_input::{Asked, read_argument, without_line_end};
-use text_pieces::Text;
 
 // What is taken of the input: 1,024 bytes, a line end, and one byte more, by which a longer text is seen to be too long.
 fn input() -> [u8; 1026]
@@ -46,7 +45,7 @@ fn usage<W: Write>(out: &mut W) -> io::Result<()> {
 fn say_fault(rt: &HostRuntime, refusal: Refusal, text: &[u8]) -> io::Result<()> {
     let mut page = [0u8; 4096];
     let said = fault_text(refusal, text, &mut page);
-    if let Text::Written(n) = said {
+    if let Ok(n) = said {
         say(&mut rt.stderr(), front(&page, n))?;
     }
     Ok(())
