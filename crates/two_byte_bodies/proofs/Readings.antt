@@ -168,9 +168,9 @@ module _ (b : List ℕ) where
   body_alike k P = go (mask_of b P)
     where
       go : (x : Result Mask Refusal)
-          → Alike (elim x as (λ _. Judgement) [ Ok m p ↦ nodes_from k b P m p [] | Err r ↦ Refused r ])
-          (elim x as (λ _. Judgement) [ Ok m p ↦ old_nodes k b P m p [] | Err r ↦ Refused r ])
-      go (Ok m p) = nodes-alike k P m p []
+          → Alike (elim x as (λ _. Judgement) [ Ok m ↦ nodes_from k b P m.mask m.nodes_at [] | Err r ↦ Refused r ])
+          (elim x as (λ _. Judgement) [ Ok m ↦ old_nodes k b P m.mask m.nodes_at [] | Err r ↦ Refused r ])
+      go (Ok m) = nodes-alike k P m.mask m.nodes_at []
       go (Err r) = inl refl
 
 pub readings : (file : List ℕ) → (judge file ≡ widened_judgement (old_judge file)) ⊎ ThirdByte file

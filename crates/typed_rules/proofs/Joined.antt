@@ -22,7 +22,7 @@ use Rattle.rule_bytes.proofs.Trees.{tree-formula}
 use Rattle.rule_text.specs.Writing as text
 use Rattle.rule_text.proofs.Rights as rights
 use Rattle.typed_rules.specs.Typed.{typed, TableOf, TypedTable, TypedRight}
-use Rattle.std.proofs.Common.{Result, Ok}
+use Rattle.std.proofs.Common.{Result, Ok, Err}
 use Rattle.meaning.specs.declared.Refusal.{Refusal}
 
 -- the property of the written rule is what was typed

@@ -13,7 +13,7 @@ use Rattle.meaning.specs.declared.Verdict.{Verdict}
 use Rattle.ltl.proofs.Instance.{ltl_system}
 use Rattle.smallest.specs.Builder.{Built as BuiltBy}
 use Rattle.building.specs.Build.{NoRoom}
-use Rattle.std.specs.Prelude.{Result}
+use Rattle.std.specs.Prelude.{Result, Ok, Err}
 use Rattle.meaning.specs.declared.Refusal.{Refusal}
 
 -- what was typed: the traces on which its formula holds

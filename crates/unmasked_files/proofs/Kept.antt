@@ -34,7 +34,7 @@ old-mask file r e = go (header_of file) e
     go (Ok h) e =
         let f = has-from h.nodes file h.signals (full_mask h.signals) 6 [] r e (omega arith) in
         f.mask ∙ ap full_mask (sym f.signals)
-    go (Err y) e = let z : ◌≡◌ {A = ℕ} 0 1 = cc in absurd (omega arith)
+    go (Err y) e = cc
 
 -- and by it each event can happen
 all-possible : (r : Rule) → r.mask ≡ full_mask r.signals → Alike (alphabet_of r) (old_alphabet r) (property_of r) (property_of r)

@@ -25,15 +25,15 @@ use Rattle.meaning.specs.declared.Mask.{Mask}
 abbrev after_node : (Node → Judgement) → Result Node Refusal → Judgement
 after_node f x = elim x as (λ _. Judgement) [ Ok n ↦ f n | Err r ↦ Refused r ]
 
-abbrev after_mask : (ℕ → ℕ → Judgement) → Result Mask Refusal → Judgement
-after_mask f x = elim x as (λ _. Judgement) [ Ok m p ↦ f m p | Err r ↦ Refused r ]
+abbrev after_mask : (Mask → Judgement) → Result Mask Refusal → Judgement
+after_mask f x = elim x as (λ _. Judgement) [ Ok m ↦ f m | Err r ↦ Refused r ]
 
 -- the first three checks of a record
 abbrev three : Bool → Bool → Bool → List (Bool × Refusal)
 three c₁ c₂ c₃ = (c₁, Truncated 6) ∷ (c₂, WrongLength 6) ∷ (c₃, Truncated 6) ∷ []
 
 -- they are the same for a mask and for a node, whose kind is wrong where it is a mask's
-frames : (c₁ c₂ c₃ : Bool) (f : Node → Judgement) (g : ℕ → ℕ → Judgement) (y : Result Mask Refusal)
+frames : (c₁ c₂ c₃ : Bool) (f : Node → Judgement) (g : Mask → Judgement) (y : Result Mask Refusal)
     → (after_mask g (first_of Err (three c₁ c₂ c₃) y) ≡ after_node f (first_of Err (three c₁ c₂ c₃) (Err (WrongKind 6))))
     ⊎ (after_node f (first_of Err (three c₁ c₂ c₃) (Err (WrongKind 6))) ≡ Refused (WrongKind 6))
 frames true c₂ c₃ f g y = inl refl
@@ -54,7 +54,7 @@ module _ (b : List ℕ) (k P : ℕ) where
       ∷ (leb (2 ^ 2 ^ P) (u16_at b 10), OutOfRange 6)
       ∷ (eqb (u16_at b 10) 0, NoEvent 6)
       ∷ [])
-      (Ok (u16_at b 10) 12)
+      (Ok (record { mask = u16_at b 10; nodes_at = 12 }))
 
   abbrev c₁ : Bool
   c₁ = ltb (length b - 6) 2
@@ -68,12 +68,12 @@ module _ (b : List ℕ) (k P : ℕ) where
   abbrev f : Node → Judgement
   f n = nodes_from k b P (full_mask P) (6 + 2 + u16_at b 6) (n ∷ [])
 
-  abbrev g : ℕ → ℕ → Judgement
-  g m p = nodes_from (suc k) b P m p []
+  abbrev g : Mask → Judgement
+  g m = nodes_from (suc k) b P m.mask m.nodes_at []
 
-  new_is : (t : Bool) → eqb (u16_at b 8) 257 ≡ t → body_from (suc k) b P ≡ after_mask g (cond t (first_of Err (three c₁ c₂ c₃) rest) (Ok (full_mask P) 6))
+  new_is : (t : Bool) → eqb (u16_at b 8) 257 ≡ t → body_from (suc k) b P ≡ after_mask g (cond t (first_of Err (three c₁ c₂ c₃) rest) (Ok (record { mask = full_mask P; nodes_at = 6 })))
   unfolding body_from mask_of
-  new_is t q = ap (λ (t : Bool). after_mask g (cond t (first_of Err (three c₁ c₂ c₃) rest) (Ok (full_mask P) 6))) q
+  new_is t q = ap (λ (t : Bool). after_mask g (cond t (first_of Err (three c₁ c₂ c₃) rest) (Ok (record { mask = full_mask P; nodes_at = 6 })))) q
 
   old-is : u16_at b 8 ≡ 257 → old ≡ after_node f (first_of Err (three c₁ c₂ c₃) (Err (WrongKind 6)))
   unfolding nodes_from reading_of
