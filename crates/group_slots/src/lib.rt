@@ -58,7 +58,15 @@ impl Grouped<'_> {
             result ≡ same_step (unmasked s.events) s.rows.now self.now.group.now j i }
     {
         let s = &self.successors;
-        self.joined(j, i) && (0..s.events).all(|e| self.joined(s.at(j, e), s.at(i, e)))
+        if !self.joined(j, i) {
+            return false;
+        }
+        for e in 0..s.events {
+            if !self.joined(s.at(j, e), s.at(i, e)) {
+                return false;
+            }
+        }
+        true
     }
 
     // The least state that a round leaves with a state. The search starts at the least of its group so far, before

@@ -146,9 +146,12 @@ pub fn reduce(
         classes,
         mask,
     };
-    for (q, s) in least[..count].iter().enumerate() {
+    let leaders = &least[..count];
+    for (q, s) in leaders.iter().enumerate() {
         verdicts[q] = judged.verdict_of(*s);
-        to[q] = row_of(&successors, &numbers, *s);
+    }
+    for (r, s) in leaders.iter().enumerate() {
+        to[r] = row_of(&successors, &numbers, *s);
     }
     count as u16
 }

@@ -11,14 +11,14 @@ invariant_of-grouped c = record {
 }
 
 pub loop-q-preserved : goal.loop-q-preserved
-loop-q-preserved c = record {
-  judged = filled_more c.loop-q.invariant.judged c.verdict_of.ensures (omega (arith, length-take {A = ℕ}));
-  led = filled_more c.loop-q.invariant.led c.row_of.ensures (omega (arith, length-take {A = ℕ}));
-}
+loop-q-preserved c = filled_more c.loop-q.invariant c.verdict_of.ensures (omega (arith, length-take {A = ℕ}))
+
+pub loop-r-preserved : goal.loop-r-preserved
+loop-r-preserved c = filled_more c.loop-r.invariant c.row_of.ensures (omega (arith, length-take {A = ℕ}))
 
 pub returns : goal.returns
 returns c =
     let count = c.list_leaders-count in
     reduced c.args.signals c.args.mask c.width-events.ensures.0 c.from-states.ensures c.requires.machine c.clear_impossible.ensures c.groups-group.result c.groups-group.ensures count.ensures.listed
-    c.numbers-numbers.result c.args.verdicts.now c.loop-q.verdicts c.args.to.now c.loop-q.to c.numbers-numbers.ensures
-    (filled-to count.result c.loop-q.invariant.judged (omega (arith, length-take {A = ℕ}))) (filled-to count.result c.loop-q.invariant.led (omega (arith, length-take {A = ℕ})))
+    c.numbers-numbers.result c.args.verdicts.now c.loop-q.verdicts c.args.to.now c.loop-r.to c.numbers-numbers.ensures
+    (filled-to count.result c.loop-q.invariant (omega (arith, length-take {A = ℕ}))) (filled-to count.result c.loop-r.invariant (omega (arith, length-take {A = ℕ})))

@@ -10,7 +10,10 @@ abbrev pub invariant-loop-q : goal.invariant-loop-q
 invariant-loop-q l =
     let j = l.judged in
     let s = l.successors in
-    let group = j.grouped.now.group.now in record {
-      judged : Filled l.q (λ k. verdict_at (masked s.events j.mask) s.rows.now j.classes.now group (get_or l.s-items k 0)) l.initial.verdicts l.verdicts;
-      led : Filled l.q (λ k. row_at (unmasked s.events) s.rows.now l.numbers (get_or l.s-items k 0)) l.initial.to l.to;
-    }
+    let group = j.grouped.now.group.now in
+    Filled l.q (λ k. verdict_at (masked s.events j.mask) s.rows.now j.classes.now group (get_or l.leaders k 0)) l.initial.verdicts l.verdicts
+
+abbrev pub invariant-loop-r : goal.invariant-loop-r
+invariant-loop-r l =
+    let s = l.successors in
+    Filled l.r (λ k. row_at (unmasked s.events) s.rows.now l.numbers (get_or l.leaders k 0)) l.initial.to l.to

@@ -1,19 +1,23 @@
 -- `Grouped::same_step` meets its contract.
-use Rattle.std.proofs.Common.{◌≡◌, ℕ, Bool, rules, tests, refl, sym, ◌∙◌, arith}
-use Rattle.std.proofs.lemmas.Iterator.{YieldsList-from_range}
-use Rattle.std.proofs.lemmas.Iterator.Search.{all_from_yields_List}
-use Rattle.std.specs.List.{list_all, range_with_len}
+use Rattle.std.proofs.Common.{◌≡◌, ℕ, Bool, true, false, sym, ◌∙◌, arith}
+use Rattle.sequences.proofs.Loops.{passed-more, passed-all, all-not}
 use Rattle.moore.specs.Grouping.{entry, together}
 use Rattle.group_slots.specs.Groups.{unmasked}
 use Rattle.group_slots.proofs.Comparing.{step_is}
-use Rattle.group_slots.proofs.Ranges.{all_range}
 use Rattle.group_slots.proofs.Grouped.same_step.Goals as goal
 
-pub returns-then-joined : goal.returns-then-joined
-returns-then-joined c =
+pub returns-then-not-joined-2 : goal.returns-then-not-joined-2
+returns-then-not-joined-2 c =
     let s = c.args.self.now.successors in
     let group = c.args.self.now.group.now in
-    let both : ℕ → Bool = λ e. together group (entry s.rows.now c.args.j e) (entry s.rows.now c.args.i e) in
-    let met : c.all.result ≡ list_all both (range_with_len 0 s.events) =
-    all_from_yields_List both _ _ _ c.all.ensures.ran (YieldsList-from_range 0 s.events s.events refl (omega arith)) (λ x b q k. search (rules, tests)) in
-    step_is (unmasked s.events) s.rows.now group c.args.j c.args.i c.all.result (sym c.joined.ensures ∙ c.if-joined.true) (met ∙ all_range s.events both)
+    let both : ℕ → Bool = λ k. together group (entry s.rows.now c.args.j k) (entry s.rows.now c.args.i k) in
+    let apart : both c.loop-e.e ≡ false = rw (← c.at.ensures, ← c.at-in-loop-e.ensures) (sym c.joined-in-loop-e.ensures ∙ c.if-not-joined-2.true) in
+    step_is (unmasked s.events) s.rows.now group c.args.j c.args.i false (sym c.joined.ensures ∙ c.if-not-joined.false) (sym (all-not s.events both c.loop-e.e c.loop-e-test.true apart))
+
+pub loop-e-preserved : goal.loop-e-preserved
+loop-e-preserved c = passed-more c.loop-e.invariant (rw (← c.at.ensures, ← c.at-in-loop-e.ensures) (sym c.joined-in-loop-e.ensures ∙ c.if-not-joined-2.false))
+
+pub returns : goal.returns
+returns c =
+    let s = c.args.self.now.successors in
+    step_is (unmasked s.events) s.rows.now c.args.self.now.group.now c.args.j c.args.i true (sym c.joined.ensures ∙ c.if-not-joined.false) (sym (passed-all c.loop-e.invariant s.events (omega arith)))
