@@ -141,9 +141,11 @@ module _ (P mask : ℕ) {n : ℕ} {rows rows' : List (List ℕ)} {classes : List
   least-of = group-least machine_of group groups_of
 
   module _ {r : ℕ} {least : List ℕ} (L : Leaders m group r least) where
-    pub reduced : (numbers bytes bytes' : List ℕ) (to to' : List (List ℕ)) → take m numbers ≡ tabulate m (number group)
-        → bytes' ≡ tabulate r (λ i. verdict_at (masked w mask) rows' classes group (get_or (take r least) i 0)) ++ drop r bytes
-        → to' ≡ tabulate r (λ i. row_at (unmasked w) rows' numbers (get_or (take r least) i 0)) ++ drop r to
+    pub reduced : (numbers bytes bytes' : List ℕ) (to to' : List (List ℕ)) → take m numbers ≡ tabulate m (number group) → (k : ℕ) → k ≡ r
+        → bytes' ≡ tabulate k (λ i. verdict_at (masked w mask) rows' classes group (get_or (take r least) i 0)) ++ drop k bytes
+        → to' ≡ tabulate k (λ i. row_at (unmasked w) rows' numbers (get_or (take r least) i 0)) ++ drop k to
         → Reduction (masked (2 ^ P) mask) n rows classes bytes to r bytes' to'
-    reduced numbers bytes bytes' to to' N b t =
-        reduction machine_of group groups_of (leaders-taken r least L) C numbers N (masked (2 ^ P) mask) n bytes bytes' to to' (ap (λ (k : ℕ). masked k mask) p) q b t
+    reduced numbers bytes bytes' to to' N k e b t =
+        reduction machine_of group groups_of (leaders-taken r least L) C numbers N (masked (2 ^ P) mask) n bytes bytes' to to' (ap (λ (k : ℕ). masked k mask) p) q
+        (subst (λ (k : ℕ). bytes' ≡ tabulate k (λ i. verdict_at (masked w mask) rows' classes group (get_or (take r least) i 0)) ++ drop k bytes) e b)
+        (subst (λ (k : ℕ). to' ≡ tabulate k (λ i. row_at (unmasked w) rows' numbers (get_or (take r least) i 0)) ++ drop k to) e t)

@@ -1,7 +1,7 @@
 // Makes of a machine the smallest one that shows the same: a state for each group of states that no word tells apart.
 #![tactic(auto)]
 
-ghost use Rattle.std.specs.Prelude.{◌≡◌, true, cond, ◌^◌, ◌≤◌, ◌<◌, take, eqb};
+ghost use Rattle.std.specs.Prelude.{◌≡◌, true, cond, ◌++◌, ◌^◌, ◌≤◌, ◌<◌, length, get_or, take, drop, eqb};
 ghost use Rattle.sequences.specs.Tabulate.{tabulate};
 ghost use Rattle.meaning.specs.Bytes.{bit};
 ghost use Rattle.meaning.specs.Traces.{masked};
@@ -95,6 +95,33 @@ impl Judged<'_> {
         }
         if self.is_closed(s) { 3 } else { 0 }
     }
+
+    // Stores the verdict byte and the row of each group, by its least state.
+    fn store(
+        &self,
+        numbers: &[u8; 256],
+        leaders: &[u8],
+        verdicts: &mut [u8; 256],
+        to: &mut [[u8; 16]; 256],
+    )
+        requires { length leaders.now ≤ 256 }
+        ensures verdict { let g = self.now.grouped.now in
+            let possible = masked g.successors.events self.now.mask in
+            let of = verdict_at possible g.successors.rows.now self.now.classes.now g.group.now in
+            let count = length leaders.now in
+            verdicts.new ≡ tabulate count (λ q. of (get_or leaders.now q 0)) ++ drop count verdicts.old }
+        ensures row { let s = self.now.grouped.now.successors in
+            let of = row_at (unmasked s.events) s.rows.now numbers.now in
+            let count = length leaders.now in
+            to.new ≡ tabulate count (λ q. of (get_or leaders.now q 0)) ++ drop count to.old }
+    {
+        for (q, s) in leaders.iter().enumerate() {
+            verdicts[q] = self.verdict_of(*s);
+        }
+        for (r, s) in leaders.iter().enumerate() {
+            to[r] = row_of(&self.grouped.successors, numbers, *s);
+        }
+    }
 }
 
 // The row of a group, by its least state: the numbers of the groups that its successors are in.
@@ -146,12 +173,6 @@ pub fn reduce(
         classes,
         mask,
     };
-    let leaders = &least[..count];
-    for (q, s) in leaders.iter().enumerate() {
-        verdicts[q] = judged.verdict_of(*s);
-    }
-    for (r, s) in leaders.iter().enumerate() {
-        to[r] = row_of(&successors, &numbers, *s);
-    }
+    judged.store(&numbers, &least[..count], verdicts, to);
     count as u16
 }

@@ -50,9 +50,6 @@ cleared_more {Σ} {e} {n} {rows} {rows'} {rows''} h q = record {
     go s k l m (no z) = q.other s k l z ∙ h.below s k l (omega arith)
     go s k l m (yes z) = subst (λ (k : ℕ). entry rows'' s k ≡ cond (Σ.possible k) (entry rows s k) 0) (sym z) (q.here s l ∙ ap (λ (x : ℕ). cond (Σ.possible e) x 0) (h.above s e l (omega arith)))
 
-pub cleared-to : (m : ℕ) {Σ : Alphabet} {e n : ℕ} {rows rows' : List (List ℕ)} → Cleared Σ e n rows rows' → e ≡ m → Cleared Σ m n rows rows'
-cleared-to m {Σ} {n = n} {rows} {rows'} h q = subst (λ (k : ℕ). Cleared Σ k n rows rows') q h
-
 -- ---- the groups
 module _ {Σ : Alphabet} {n : ℕ} {rows rows' : List (List ℕ)} (h : Cleared Σ Σ.width n rows rows') where
   pub cleared-below : RowsBelow n Σ n rows → RowsBelow n (unmasked Σ.width) n rows'
