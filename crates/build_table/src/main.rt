@@ -5,7 +5,7 @@
 ghost use Rattle.std.specs.Prelude.{◌≡◌, length};
 
 use console::{arg_count, front, read_full, room, say, say_failure};
-use meaning::{Built, Refusal};
+use meaning::Refusal;
 use std::env::Env;
 use std::io;
 use std::io::Write;
@@ -35,8 +35,7 @@ fn usage<W: Write>(out: &mut W) -> io::Result<()> {
 // Only writes: the refusal's line, on standard error.
 fn say_refused(rt: &HostRuntime, why: Refusal) -> io::Result<()> {
     let mut line = [0u8; 64];
-    let said = refusal_text(why, &mut line);
-    if let Ok(n) = said {
+    if let Ok(n) = refusal_text(why, &mut line) {
         say(&mut rt.stderr(), front(&line, n))?;
     }
     Ok(())
@@ -45,10 +44,9 @@ fn say_refused(rt: &HostRuntime, why: Refusal) -> io::Result<()> {
 // Only writes: the table on standard output, or the refusal.
 fn answer(rt: &HostRuntime, rule: &[u8]) -> io::Result<()> {
     let mut table = room();
-    let built = monitor::build(rule, &mut table);
-    match built {
-        Built::Refused(why) => say_refused(rt, why),
-        Built::Table(n) => match say(&mut rt.stdout(), front(&table, n)) {
+    match monitor::build(rule, &mut table) {
+        Err(why) => say_refused(rt, why),
+        Ok(n) => match say(&mut rt.stdout(), front(&table, n)) {
             Ok(()) => Ok(()),
             Err(why) => say_failure(rt, "build_table: standard output", why),
         },

@@ -24,8 +24,7 @@ fn main(rt: HostRuntime) -> io::Result<()> {
     let mut rule = input();
     let n = read_full(&mut rt.stdin(), &mut rule)?;
     let mut text = page();
-    let written = table_printer::print_rule(front(&rule, n), &mut text);
-    if let Ok(length) = written {
+    if let Ok(length) = table_printer::print_rule(front(&rule, n), &mut text) {
         say(&mut rt.stdout(), front(&text, length))?;
     }
     Ok(())

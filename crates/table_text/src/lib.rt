@@ -4,7 +4,8 @@
 ghost use Rattle.std.specs.Prelude.{◌≡◌, ◌+◌, ◌*◌, ◌^◌, ◌≤◌, ◌∷◌, length};
 ghost use Rattle.text_pieces.specs.Put.{Put};
 ghost use Rattle.text_pieces.specs.Decimal.{decimal};
-ghost use Rattle.table_text.specs.Text.{word, counts_text, successors_text, line_text, lines_text, text_answer, text_after};
+ghost use Rattle.table_text.specs.Text.{word, counts_text, successors_text, line_text, lines_text};
+ghost use Rattle.table_text.specs.Text.{text_answer, text_after};
 
 use events::width;
 use meaning::{Refusal, Verdict};

@@ -6,7 +6,7 @@ ghost use Rattle.std.specs.Prelude.{◌≡◌, length};
 
 use console::{arg_count, front, read_full, say, say_failure};
 use fault_text::fault_text;
-use meaning::{Refusal, Written};
+use meaning::Refusal;
 use std::env::Env;
 use std::io;
 use std::io::Write;
@@ -44,8 +44,7 @@ fn usage<W: Write>(out: &mut W) -> io::Result<()> {
 // Only writes: the refusal, the text and the mark, on standard error.
 fn say_fault(rt: &HostRuntime, refusal: Refusal, text: &[u8]) -> io::Result<()> {
     let mut page = [0u8; 4096];
-    let said = fault_text(refusal, text, &mut page);
-    if let Ok(n) = said {
+    if let Ok(n) = fault_text(refusal, text, &mut page) {
         say(&mut rt.stderr(), front(&page, n))?;
     }
     Ok(())
@@ -54,10 +53,9 @@ fn say_fault(rt: &HostRuntime, refusal: Refusal, text: &[u8]) -> io::Result<()> 
 // Only writes: the rule file on standard output, or the refusal. The buffer has room for every rule file.
 fn answer(rt: &HostRuntime, text: &[u8], signals: u8) -> io::Result<()> {
     let mut rule = [0u8; 4096];
-    let written = rule_text::write(text, signals, &mut rule);
-    match written {
-        Written::Refused(refusal) => say_fault(rt, refusal, text),
-        Written::Rule(n) => match say(&mut rt.stdout(), front(&rule, n)) {
+    match rule_text::write(text, signals, &mut rule) {
+        Err(refusal) => say_fault(rt, refusal, text),
+        Ok(n) => match say(&mut rt.stdout(), front(&rule, n)) {
             Ok(()) => Ok(()),
             Err(why) => say_failure(rt, "write_rule: standard output", why),
         },
