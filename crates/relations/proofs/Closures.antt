@@ -5,7 +5,6 @@ use mathlib.Core.List.{List}
 use Prim.Native.Nat.{ℕ, zero, suc, ◌+◌, ◌≤◌, ◌<◌}
 use native.Mathlib.Numerals.{add-one}
 use native.Mathlib.Omega.{arith}
-use lib.ListN.{length}
 use lib.Bits.{bit_or}
 use Rattle.ltl.specs.Sets.{on}
 use Rattle.ltl.specs.Closure.{row, closure}
@@ -25,22 +24,13 @@ through-agree h k l = record { is = λ x y a b. λ i. joins (h.is x k a l i) (h.
 
 -- the matrix m holds the ways through the numbers below k of the one from which it started
 pub record Closing (k n : ℕ) (old m : List ℕ) : Type 0 where
-  pub long : length m ≡ 256
   pub holds : Matrix n (closed k (entry old)) m
 
-pub closing-none : {n : ℕ} {old : List ℕ} → length old ≡ 256 → Closing 0 n old old
-closing-none l = record { long = l; holds = record { is = λ x y a b. refl } }
-
-pub closing-more : {k n : ℕ} {old m : List ℕ} → Closing k n old m → (m' : List ℕ) → k < n → length m' ≡ 256 → Matrix n (through k (entry m)) m'
-    → Closing (k + 1) n old m'
-closing-more {k} {n} {old} {m} h m' l long q = record {
-  long = long;
+pub closing-more : {k n : ℕ} {old m : List ℕ} → Closing k n old m → {m' : List ℕ} → k < n → Matrix n (through k (entry m)) m' → Closing (k + 1) n old m'
+closing-more {k} {n} {old} {m} h {m'} l q = record {
   holds = subst (λ (j : ℕ). Matrix n (closed j (entry old)) m') (sym (add-one k))
       (record { is = λ x y a b. q.is x y a b ∙ (through-agree (record { is = h.holds.is }) k l).is x y a b });
 }
-
-pub closing-all : {k n : ℕ} {old m : List ℕ} → Closing k n old m → (j : ℕ) → k ≡ j → Matrix n (closed j (entry old)) m
-closing-all {n = n} {old} {m} h j e = subst (λ (i : ℕ). Matrix n (closed i (entry old)) m) e h.holds
 
 -- ---- rows as numbers
 

@@ -3,4 +3,3 @@ pub mod Words
 pub mod Rows
 pub mod Closures
 pub mod Reach
-pub mod Empty

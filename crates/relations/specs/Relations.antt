@@ -1,13 +1,13 @@
--- A relation between labels, as words hold it: its pairs, the edges that the profiles give, and the ways along them.
-use Rattle.std.specs.Prelude.{◌≡◌, Bool, true, false, ◌||◌, List, ℕ, zero, suc, ◌+◌, ◌*◌, ◌/◌, ◌%◌, ◌≤◌, ◌<◌, length, get_or, eqb}
+-- A relation between labels, as rows hold it: its pairs, the edges that the profiles give, and the ways along them.
+use Rattle.std.specs.Prelude.{◌≡◌, Bool, true, false, ◌||◌, List, ℕ, zero, suc, ◌≤◌, ◌<◌, length, get_or, eqb}
 use Rattle.meaning.specs.Traces.{Alphabet, Event}
 use Rattle.ltl.specs.Sets.{on, some_event}
 use Rattle.ltl.specs.Residuals.{before}
 use Rattle.ltl.specs.Keys.{look}
 
--- whether a matrix relates x to y: row x is the words 2x and 2x + 1 of 64 bits
+-- whether a matrix relates x to y: y is in row x
 abbrev pub entry : List ℕ → ℕ → ℕ → Bool
-entry m x y = on (get_or m (2 * x + y / 64) 0) (y % 64)
+entry m x y = on (get_or m x 0) y
 
 -- the relation below n that a matrix holds, whatever else it holds
 pub record Matrix (n : ℕ) (r : ℕ → ℕ → Bool) (m : List ℕ) : Type 0 where
@@ -19,14 +19,12 @@ pub record EmptyRow (x : ℕ) (m : List ℕ) (answer : Bool) : Type 0 where
 
 -- the pair of x and y is added, and no other
 pub record MarkedAt (x y : ℕ) (old new : List ℕ) : Type 0 where
-  pub long : length new ≡ 256
   pub there : entry new x y ≡ true
-  pub row_else : (v z : ℕ) → z < 128 → (v ≡ x → ⊥) → entry new v z ≡ entry old v z
-  pub column_else : (v z : ℕ) → z < 128 → (z ≡ y → ⊥) → entry new v z ≡ entry old v z
+  pub row_else : (v z : ℕ) → (v ≡ x → ⊥) → entry new v z ≡ entry old v z
+  pub column_else : (v z : ℕ) → (z ≡ y → ⊥) → entry new v z ≡ entry old v z
 
 -- the pairs of r with a second number below w are added, of those below n
 pub record Added (w n : ℕ) (r : ℕ → ℕ → Bool) (old new : List ℕ) : Type 0 where
-  pub long : length new ≡ 256
   pub done : (x y : ℕ) → x < n → y < w → y < n → entry new x y ≡ elim (r x y) [ true ↦ true | false ↦ entry old x y ]
   pub left : (x y : ℕ) → x < n → w ≤ y → y < n → entry new x y ≡ entry old x y
 
@@ -44,15 +42,11 @@ edge Σ n profiles x y = some_event Σ (λ e. eqb (label_at n profiles e y) x)
 abbrev pub only_if : Bool → ℕ → ℕ
 only_if test A = elim test [ true ↦ A | false ↦ 0 ]
 
--- y is in the set whose words are a and b
-abbrev pub in_words : ℕ → ℕ → ℕ → Bool
-in_words a b y = on (elim (y / 64) [ zero ↦ a | suc _ ↦ b ]) (y % 64)
-
--- row x is joined with the words a and b where the test holds, and the others are as they were
-pub record RowPassed (test : Bool) (a b x : ℕ) (old new : List ℕ) : Type 0 where
-  pub long : length new ≡ 256
-  pub row : (y : ℕ) → y < 128 → entry new x y ≡ elim test [ true ↦ in_words a b y || entry old x y | false ↦ entry old x y ]
-  pub others : (v y : ℕ) → y < 128 → (v ≡ x → ⊥) → entry new v y ≡ entry old v y
+-- row x is joined with the set A where the test holds, and the others are as they were
+pub record RowPassed (test : Bool) (A x : ℕ) (old new : List ℕ) : Type 0 where
+  pub long : length new ≡ 128
+  pub row : (y : ℕ) → entry new x y ≡ elim test [ true ↦ on A y || entry old x y | false ↦ entry old x y ]
+  pub others : (v y : ℕ) → (v ≡ x → ⊥) → entry new v y ≡ entry old v y
 
 -- with the ways through k
 abbrev pub through : ℕ → (ℕ → ℕ → Bool) → ℕ → ℕ → Bool

@@ -1,149 +1,117 @@
 // A relation between labels: its pairs, the edges that the profiles give, and their closure.
 #![tactic(auto)]
 
-ghost use Rattle.std.specs.Prelude.{◌≡◌, List, ℕ, ◌%◌, ◌≤◌, ◌<◌, length, eqb};
+ghost use Rattle.std.specs.Prelude.{◌≡◌, ◌≤◌, ◌<◌, eqb};
 ghost use Rattle.meaning.specs.Traces.{masked};
-ghost use Rattle.relations.specs.Relations.{entry, Matrix, EmptyRow, MarkedAt, Added, only_if, RowPassed, label_at, edge, through, closed};
+ghost use Rattle.relations.specs.Relations.{entry, Matrix, EmptyRow, MarkedAt, Added, label_at, edge, through, closed};
 
 use events::mask_has;
-use wire::wide;
 
-// The label within a profile: the remainder, mostly without a division.
-pub fn label_in(profile: u8, labels: usize) -> usize
-    requires { 1 ≤ labels }
-    ensures { (result ≡ profile % labels) × (result < labels) }
-{
-    let p = wide(profile);
-    if p < labels {
-        return p;
-    }
-    let q = p - labels;
-    if q < labels {
-        return q;
-    }
-    p % labels
+// What the nodes of a rule give by event and next label: the profile, and the set of the temporal nodes to which the
+// edge is fair. Of the events, those of the mask can happen.
+#[derive(Clone, Copy)]
+pub struct Tables<'a> {
+    pub profiles: &'a [[u8; 128]; 16],
+    pub fairs: &'a [[u8; 128]; 16],
+    pub temporals: u8,
+    pub events: usize,
+    pub mask: u16,
+    pub labels: usize,
+    ghost sizes: { (events ≤ 16) × (1 ≤ labels) × (labels ≤ 128) },
 }
 
-// ---- a relation between labels: row x is the words 2x and 2x + 1, and y is its bit y
-
-pub fn has(rows: &[u64; 256], x: usize, y: usize) -> bool
-    requires { (x < 128) × (y < 128) × (length rows.now ≡ 256) }
-    ensures { result ≡ entry rows.now x y }
-{
-    (rows[2 * x + y / 64] >> (y % 64)) % 2 == 1
-}
-
-// Whether x leads nowhere.
-pub fn is_empty(rows: &[u64; 256], x: usize) -> bool
-    requires { (x < 128) × (length rows.now ≡ 256) }
-    ensures { EmptyRow x rows.now result }
-{
-    if rows[2 * x] == 0 {
-        return rows[2 * x + 1] == 0;
-    }
-    false
-}
-
-// Adds the pair of x and y.
-fn mark(rows: &mut [u64; 256], x: usize, y: usize)
-    requires { (x < 128) × (y < 128) × (length rows.old ≡ 256) }
-    ensures { MarkedAt x y rows.old rows.new }
-{
-    let i = 2 * x + y / 64;
-    let bit: u64 = 1 << (y % 64);
-    rows[i] = bit | rows[i];
-}
-
-// ---- edges
-
-// Adds the edges of an event.
-fn mark_event(rows: &mut [u64; 256], profiles: &[[u8; 128]; 16], labels: usize, e: usize)
-    requires e_bound { (e < 16) × (1 ≤ labels) × (labels ≤ 128) }
-    requires profiles_len { (length {A = List ℕ} profiles.now ≡ 16) × (length rows.old ≡ 256) }
-    ensures { Added labels labels (λ x y. eqb (label_at labels profiles.now e y) x) rows.old rows.new }
-{
-    let mut y: usize = 0;
-    while y < labels {
-        let x = label_in(profiles[e][y], labels);
-        mark(rows, x, y);
-        y += 1;
-    }
-}
-
-// The edges of the events that can happen, by the mask, and no others.
-pub fn edge_rows(
-    events: usize,
-    mask: u16,
-    labels: usize,
-    profiles: &[[u8; 128]; 16],
-    rows: &mut [u64; 256],
-)
-    requires events_bound { (events ≤ 16) × (1 ≤ labels) × (labels ≤ 128) }
-    requires profiles_len { length {A = List ℕ} profiles.now ≡ 16 }
-    ensures { (length rows.new ≡ 256) × Matrix labels (edge (masked events mask) labels profiles.now) rows.new }
-{
-    *rows = [0; 256];
-    let mut e: usize = 0;
-    while e < events {
-        if mask_has(mask, e) {
-            mark_event(rows, profiles, labels, e);
+impl Tables<'_> {
+    // The label at an event before the label y: the remainder of the profile, mostly without a division.
+    pub fn label_before(&self, e: usize, y: usize) -> usize
+        requires { (e < 16) × (y < 128) }
+        ensures { (result ≡ label_at self.now.labels self.now.profiles.now e y) × (result < self.now.labels) }
+    {
+        let profile = usize::from(self.profiles[e][y]);
+        if profile < self.labels {
+            profile
+        } else if profile - self.labels < self.labels {
+            profile - self.labels
+        } else {
+            profile % self.labels
         }
-        e += 1;
     }
 }
 
-// ---- closure
-
-// A set, or none.
-fn only_if(test: bool, set: u64) -> u64
-    ensures { result ≡ only_if test set }
-{
-    if test { set } else { 0 }
+// A relation between labels: y is bit y of row x where x is related to y.
+#[derive(Clone, Copy)]
+pub struct Relation {
+    pub rows: [u128; 128],
 }
 
-// Adds the ways through k to the row of x, where a and b are the row of k.
-fn pass_row(k: usize, a: u64, b: u64, x: usize, rows: &mut [u64; 256])
-    requires { (k < 128) × (x < 128) × (length rows.old ≡ 256) }
-    ensures { RowPassed (entry rows.old x k) a b x rows.old rows.new }
-{
-    let there = has(rows, x, k);
-    rows[2 * x] = only_if(there, a) | rows[2 * x];
-    rows[2 * x + 1] = only_if(there, b) | rows[2 * x + 1];
-}
-
-// Adds the ways through k to each row.
-fn pass_rows(k: usize, labels: usize, rows: &mut [u64; 256])
-    requires { (labels ≤ 128) × (k < labels) × (length rows.old ≡ 256) }
-    ensures { (length rows.new ≡ 256) × Matrix labels (through k (entry rows.old)) rows.new }
-{
-    let a = rows[2 * k];
-    let b = rows[2 * k + 1];
-    let mut x: usize = 0;
-    while x < labels {
-        pass_row(k, a, b, x, rows);
-        x += 1;
+impl Relation {
+    // The edges of the events that can happen, and no others.
+    pub fn of_edges(tables: &Tables<'_>) -> Relation
+        ensures { Matrix tables.now.labels (edge (masked tables.now.events tables.now.mask) tables.now.labels tables.now.profiles.now) result.rows }
+    {
+        let mut relation = Relation { rows: [0; 128] };
+        for e in 0..tables.events {
+            if mask_has(tables.mask, e) {
+                relation.add_event(tables, e);
+            }
+        }
+        relation
     }
-}
 
-// The same; no way goes through a label that leads nowhere, as many do.
-fn pass(k: usize, labels: usize, rows: &mut [u64; 256])
-    requires { (labels ≤ 128) × (k < labels) × (length rows.old ≡ 256) }
-    ensures { (length rows.new ≡ 256) × Matrix labels (through k (entry rows.old)) rows.new }
-{
-    if is_empty(rows, k) {
-        return;
+    // Adds the edges of an event.
+    fn add_event(&mut self, tables: &Tables<'_>, e: usize)
+        requires { e < 16 }
+        ensures { Added tables.now.labels tables.now.labels (λ x y. eqb (label_at tables.now.labels tables.now.profiles.now e y) x) self.old.rows self.new.rows }
+    {
+        for y in 0..tables.labels {
+            self.add(tables.label_before(e, y), y);
+        }
     }
-    pass_rows(k, labels, rows);
-}
 
-// The ways through all labels.
-pub fn close(labels: usize, rows: &mut [u64; 256])
-    requires { (labels ≤ 128) × (length rows.old ≡ 256) }
-    ensures { (length rows.new ≡ 256) × Matrix labels (closed labels (entry rows.old)) rows.new }
-{
-    let mut k: usize = 0;
-    while k < labels {
-        pass(k, labels, rows);
-        k += 1;
+    // Adds the pair of x and y.
+    fn add(&mut self, x: usize, y: usize)
+        requires { (x < 128) × (y < 128) }
+        ensures { MarkedAt x y self.old.rows self.new.rows }
+    {
+        self.rows[x] |= 1 << y;
+    }
+
+    pub fn has(&self, x: usize, y: usize) -> bool
+        requires { (x < 128) × (y < 128) }
+        ensures { result ≡ entry self.now.rows x y }
+    {
+        (self.rows[x] >> y) % 2 == 1
+    }
+
+    // Whether x leads nowhere.
+    pub fn is_empty(&self, x: usize) -> bool
+        requires { x < 128 }
+        ensures { EmptyRow x self.now.rows result }
+    {
+        self.rows[x] == 0
+    }
+
+    // Adds the ways through k to each row. Through a label that leads nowhere, as many do, there is none.
+    fn pass(&mut self, k: usize, labels: usize)
+        requires { (labels ≤ 128) × (k < labels) }
+        ensures { Matrix labels (through k (entry self.old.rows)) self.new.rows }
+    {
+        if self.is_empty(k) {
+            return;
+        }
+        let row = self.rows[k];
+        for x in 0..labels {
+            let more = if self.has(x, k) { row } else { 0 };
+            self.rows[x] |= more;
+        }
+    }
+
+    // The ways through all labels.
+    pub fn close(&mut self, labels: usize)
+        requires { labels ≤ 128 }
+        ensures { Matrix labels (closed labels (entry self.old.rows)) self.new.rows }
+    {
+        for k in 0..labels {
+            self.pass(k, labels);
+        }
     }
 }
