@@ -27,10 +27,6 @@ use Rattle.ltl.specs.Arrays.{TablesIn}
 use Rattle.labelling.specs.Marks.{hits, AllMarked}
 use Rattle.labelling.proofs.Marks.{gives, marks-on}
 
--- so many events and labels are within the arrays
-pub within : (j k x : ℕ) → x ≡ 2 ^ k → k ≤ j → (1 ≤ x) × (x ≤ 2 ^ j)
-within j k x e h = (subst (λ (y : ℕ). 1 ≤ y) (sym e) (pow_pos k), subst (λ (y : ℕ). y ≤ 2 ^ j) (sym e) (pow_mono h))
-
 -- the first `count` of 64 nodes are a rule
 pub rule-of : (count : ℕ) (nodes : List Node) → length nodes ≡ 64 → Valuable count nodes → RuleNodes (take count nodes)
 rule-of count nodes l v =

@@ -1,5 +1,4 @@
-pub mod Core
 pub mod Labels
 pub mod Gathers
-pub mod Components
+pub mod Walks
 pub mod Alone

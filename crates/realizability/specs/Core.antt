@@ -1,5 +1,5 @@
 -- The labels that some continuation has, as crate ltl finds them, over a relation between labels instead of its rows.
-use Rattle.std.specs.Prelude.{◌≡◌, Bool, true, false, ◌&&◌, List, ℕ, ◌≤◌, ◌<◌, length, get_or, eqb}
+use Rattle.std.specs.Prelude.{◌≡◌, Bool, true, false, ◌&&◌, List, ℕ, ◌<◌, get_or, eqb}
 use Rattle.std.specs.Int.Bits.{bit_or}
 use Rattle.sequences.specs.Tabulate.{least_below}
 use Rattle.meaning.specs.Traces.{Alphabet}
@@ -40,12 +40,10 @@ within_component components before fair e p y =
 
 -- the sets that the labels below w give to each p below n, added to those before
 pub record Gathered (w n : ℕ) (f : ℕ → ℕ → ℕ) (old new : List ℕ) : Type 0 where
-  pub long : length new ≡ 128
   pub is : (p : ℕ) → p < n → get_or new p 0 ≡ bit_or (union_below w (f p)) (get_or old p 0)
 
 -- the sets that the events that can happen and n labels give to each p below n
 pub record AllGathered (Σ : Alphabet) (n : ℕ) (f : ℕ → ℕ → ℕ → ℕ) (sets : List ℕ) : Type 0 where
-  pub long : length sets ≡ 128
   pub is : (p : ℕ) → p < n → get_or sets p 0 ≡ union_events Σ (λ e. union_below n (f e p))
 
 -- c is on a closed walk, and all temporal nodes are in the set of its component
@@ -57,12 +55,3 @@ to_core_by r core x c = elim (core c) [ true ↦ leads_by r x c | false ↦ fals
 
 abbrev pub realizable_by : ℕ → (ℕ → ℕ → Bool) → (ℕ → Bool) → ℕ → Bool
 realizable_by n r core x = some_below n (to_core_by r core x)
-
--- ---- arrays of the sizes that the code has
-
-pub record Sizes (w n : ℕ) (profiles fairs : List (List ℕ)) : Type 0 where
-  pub events : w ≤ 16
-  pub some : 1 ≤ n
-  pub few : n ≤ 128
-  pub profiles_long : length profiles ≡ 16
-  pub fairs_long : length fairs ≡ 16

@@ -1,10 +1,9 @@
--- Loops that look for a number and that test all of them, and unions over the same sets (specs/Sets of crate ltl).
-use mathlib.Core.Path.{ap₂, ◌≡◌, refl, sym, ap, ◌∙◌, subst}
+-- Searches for a number and tests of all of them, and unions over the same sets (specs/Sets of crate ltl).
+use mathlib.Core.Path.{ap₂, ◌≡◌, refl, sym, subst}
 use mathlib.Core.Bool.{Bool, true, false}
-use Prim.Native.Nat.{zero, suc, ℕ, ◌+◌, ◌<◌}
+use Prim.Native.Nat.{zero, suc, ℕ, ◌<◌}
 use native.Mathlib.Nat.{le_refl}
 use native.Mathlib.Omega.{arith}
-use native.Mathlib.Numerals.{add-one}
 use lib.Dec.{T}
 use lib.Bits.{bit_or}
 use Rattle.sequences.proofs.Pointwise.{is_true, is_false}
@@ -16,30 +15,12 @@ use Rattle.ltl.proofs.Searches.{→some, every→}
 pub record NoneBelow (n : ℕ) (f : ℕ → Bool) : Type 0 where
   pub is : some_below n f ≡ false
 
-pub none-zero : {f : ℕ → Bool} → NoneBelow 0 f
-none-zero = record { is = refl }
-
-pub none_more : {n : ℕ} {f : ℕ → Bool} → NoneBelow n f → f n ≡ false → NoneBelow (n + 1) f
-none_more {n} {f} h e = record { is = ap (λ (k : ℕ). some_below k f) (add-one n) ∙ ap (λ (b : Bool). elim b [ true ↦ true | false ↦ some_below n f ]) e ∙ h.is }
-
-pub none-all : {n : ℕ} {f : ℕ → Bool} → NoneBelow n f → (m : ℕ) → n ≡ m → false ≡ some_below m f
-none-all {f = f} h m e = sym h.is ∙ ap (λ (k : ℕ). some_below k f) e
-
 pub some-found : (m : ℕ) (f : ℕ → Bool) (i : ℕ) → i < m → f i ≡ true → true ≡ some_below m f
 some-found m f i h e = sym (is_true (some_below m f) (→some m f i h (subst T (sym e) tt)))
 
 -- all pass so far
 pub record AllBelow (n : ℕ) (f : ℕ → Bool) : Type 0 where
   pub is : every_below n f ≡ true
-
-pub all-zero : {f : ℕ → Bool} → AllBelow 0 f
-all-zero = record { is = refl }
-
-pub all_more : {n : ℕ} {f : ℕ → Bool} → AllBelow n f → f n ≡ true → AllBelow (n + 1) f
-all_more {n} {f} h e = record { is = ap (λ (k : ℕ). every_below k f) (add-one n) ∙ ap (λ (b : Bool). elim b [ true ↦ every_below n f | false ↦ false ]) e ∙ h.is }
-
-pub all-all : {n : ℕ} {f : ℕ → Bool} → AllBelow n f → (m : ℕ) → n ≡ m → true ≡ every_below m f
-all-all {f = f} h m e = sym h.is ∙ ap (λ (k : ℕ). every_below k f) e
 
 pub not-all : (m : ℕ) (f : ℕ → Bool) (i : ℕ) → i < m → f i ≡ false → false ≡ every_below m f
 not-all m f i h e = sym (is_false (every_below m f) (λ t. subst T e (every→ m f t i h)))

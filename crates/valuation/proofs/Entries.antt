@@ -8,9 +8,6 @@ use lib.ListN.{length, get_or, set}
 use lib.Seq.{get_or-set_same, get_or-set_other}
 use Rattle.valuation.specs.Entries.{Entries, Table}
 
-pub entries_none : {A : Type 0} {f : ℕ → A} {d : A} {row : List A} → Entries 0 f d row
-entries_none = record { entry = λ i h. absurd (omega arith) }
-
 pub entries-more : {A : Type 0} {n : ℕ} {f : ℕ → A} {d : A} {row : List A} {v : A} → Entries n f d row → v ≡ f n → n < length row → Entries (n + 1) f d (set row n v)
 entries-more {n = n} {f} {d} {row} {v} h q l = record { entry = λ i k. go i k (ℕ_discrete i n) }
   where

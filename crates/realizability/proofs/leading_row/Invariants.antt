@@ -1,7 +1,6 @@
 -- `realizability::leading_row` meets its contract. The loop's invariant: the entries below x are made.
 use mathlib.Core.Path.{◌≡◌}
 use mathlib.Core.Bool.{false}
-use Prim.Native.Nat.{◌-◌, ◌≤◌}
 use lib.ListN.{length, get_or}
 use Rattle.valuation.specs.Entries.{Entries}
 use Rattle.relations.specs.Relations.{entry}
@@ -9,7 +8,7 @@ use Rattle.realizability.specs.Core.{realizable_by}
 use Rattle.realizability.proofs.leading_row.Given as goal
 
 abbrev pub invariant-loop-x : goal.invariant-loop-x
-invariant-loop-x l = (l.x ≤ l.labels) × (length l.leading ≡ 128) × Entries l.x (realizable_by l.labels (entry l.rows) (λ i. get_or l.core i false)) false l.leading
-
-abbrev pub decreases-loop-x : goal.decreases-loop-x
-decreases-loop-x l = l.labels - l.x
+invariant-loop-x l = record {
+  long : length l.leading ≡ 128;
+  made : Entries l.x (realizable_by l.labels (entry l.relation.rows) (λ i. get_or l.core i false)) false l.leading;
+}

@@ -9,7 +9,7 @@ use native.Mathlib.Decide.{ℕ_discrete, dec_lt}
 use native.Mathlib.Omega.{arith}
 use lib.ListN.{get_or}
 use lib.Dec.{T, eqb, eqb→eq}
-use borrow.Author.Tests.{eq-eqb}
+use borrow.Author.Tests.{eq-eqb, ne_eqb}
 use Rattle.sequences.proofs.Pointwise.{is_true}
 use Rattle.sequences.proofs.Pigeonhole.{Least, least-below}
 use Rattle.meaning.specs.Traces.{Alphabet}
@@ -22,7 +22,13 @@ use Rattle.valuation.specs.Entries.{Entries}
 use Rattle.relations.specs.Relations.{label_at, only_if, Reaches}
 use Rattle.realizability.specs.Core.{leads_by, via_by, core_by, both_ways, component_by, Within, within_component, AllGathered, core_in}
 use Rattle.relations.proofs.Searches.{union-same, union-events-same}
-use Rattle.realizability.proofs.Core.{leads-there, leads-else}
+
+module _ (r : ℕ → ℕ → Bool) where
+  leads-there : (x y : ℕ) → x ≡ y → true ≡ leads_by r x y
+  leads-there x y e = sym (ap (λ (b : Bool). elim b [ true ↦ true | false ↦ r x y ]) (eq-eqb x y e))
+
+  leads-else : (x y : ℕ) → (x ≡ y → ⊥) → r x y ≡ leads_by r x y
+  leads-else x y n = sym (ap (λ (b : Bool). elim b [ true ↦ true | false ↦ r x y ]) (ne_eqb x y n))
 
 both_true : (a b : Bool) → (a && b) ≡ true → (a ≡ true) × (b ≡ true)
 both_true true b e = (refl, e)
@@ -50,6 +56,10 @@ pick_same a b c d v f g = pick-and a b v ∙ ap (λ (t : Bool). only_if t v) (t-
 
 true-eqb : (a b : ℕ) → a ≡ b → T (eqb a b)
 true-eqb a b e = subst T (sym (eq-eqb a b e)) tt
+
+-- the first label of a component is a label
+pub components-within : {n : ℕ} (r : ℕ → ℕ → Bool) {components : List ℕ} → Entries n (component_by r) 0 components → Within n components
+components-within r h = record { is = λ y l. omega (arith, h.entry y l, (least-below y (λ x. both_ways r x y)).bound) }
 
 module _ (n : ℕ) (r : ℕ → ℕ → Bool) (via : (x v y : ℕ) → x < n → v < n → y < n → r x v ≡ true → r v y ≡ true → r x y ≡ true) where
   -- the same, or they lead to each other
@@ -128,9 +138,6 @@ module _ (n : ℕ) (r : ℕ → ℕ → Bool) (via : (x v y : ℕ) → x < n →
     start-together (inr p) (inr q) = inr (via x y c b d a edge q, p)
 
   module _ (components : List ℕ) (h : Entries n (component_by r) 0 components) where
-    pub components-within : Within n components
-    components-within = record { is = λ y l. subst (λ (p : ℕ). p < n) (sym (h.entry y l)) (component-lt y l) }
-
     components-same : (x c : ℕ) → x < n → c < n → Together x c → get_or components x 0 ≡ get_or components c 0
     components-same x c a b t = h.entry x a ∙ component-same x c a b t ∙ sym (h.entry c b)
 
@@ -155,16 +162,13 @@ module _ (n : ℕ) (r : ℕ → ℕ → Bool) (via : (x v y : ℕ) → x < n →
 -- ---- the core
 
 module _ (m : ℕ) (Σ : Alphabet) (n : ℕ) (profiles fairs : List (List ℕ)) (r : ℕ → ℕ → Bool) (some : 1 ≤ n) (reach : Reaches Σ n profiles r) where
-  pub within-components : (components : List ℕ) → Entries n (component_by r) 0 components → Within n components
-  within-components components h = components-within n r reach.via components h
-
   pub core-components : (components sets : List ℕ) (core : List Bool) → Entries n (component_by r) 0 components → AllGathered Σ n (within_component components (label_at n profiles) (look fairs)) sets
       → Entries n (core_in m r components sets) false core → Entries n (core_by m Σ n r (label_at n profiles) (look fairs)) false core
   core-components components sets core h g k = record { entry = λ c l. k.entry c l ∙ ap (λ (A : ℕ). elim (r c c) [ true ↦ all_of m A | false ↦ false ]) (around c l) }
     where
       around : (c : ℕ) → c < n → get_or sets (get_or components c 0) 0 ≡ union_events Σ (λ e. union_below n (via_by r (label_at n profiles) (look fairs) c e))
       around c l =
-          g.is (get_or components c 0) ((within-components components h).is c l)
+          g.is (get_or components c 0) ((components-within r h).is c l)
           ∙ union-events-same Σ (λ e. union_below n (within_component components (label_at n profiles) (look fairs) e (get_or components c 0))) (λ e. union_below n (via_by r (label_at n profiles) (look fairs) c e))
           (λ e u. union-same n (within_component components (label_at n profiles) (look fairs) e (get_or components c 0)) (via_by r (label_at n profiles) (look fairs) c e)
           (λ y v. via-within n r reach.via components h (label_at n profiles) (look fairs) c e y l (mod-lt (look profiles e y) some) v (reach.edges e y u v)))
