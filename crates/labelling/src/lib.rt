@@ -12,41 +12,28 @@ ghost use Rattle.ltl.specs.Arrays.{TablesIn};
 use events::{mask_has, power, width};
 use meaning::Node;
 use realizability::realizable_labels;
+use relations::Tables;
 use valuation::Rule;
 
 // Marks the profiles that an event gives before the labels that some continuation has.
-fn mark_event(
-    whole: &mut [bool; 256],
-    profiles: &[[u8; 128]; 16],
-    real: &[bool; 128],
-    labels: usize,
-    e: usize,
-)
-    requires { (labels ≤ 128) × (e < 16) }
-    ensures { Marked labels (hits profiles.now real.now e) whole.old whole.new }
+fn mark_event(whole: &mut [bool; 256], tables: &Tables<'_>, real: &[bool; 128], e: usize)
+    requires { e < 16 }
+    ensures { Marked tables.now.labels (hits tables.now.profiles.now real.now e) whole.old whole.new }
 {
-    for y in 0..labels {
-        let p = usize::from(profiles[e][y]);
-        whole[p] = real[y] | whole[p];
+    for y in 0..tables.labels {
+        let p = usize::from(tables.profiles[e][y]);
+        whole[p] |= real[y];
     }
 }
 
-// Marks the profiles of all continuations, and no other. The mask has the events that can happen.
-fn mark_all(
-    whole: &mut [bool; 256],
-    profiles: &[[u8; 128]; 16],
-    real: &[bool; 128],
-    events: usize,
-    mask: u16,
-    labels: usize,
-)
-    requires { (labels ≤ 128) × (events ≤ 16) }
-    ensures { AllMarked (masked events mask) labels profiles.now real.now whole.new }
+// Marks the profiles of all continuations, and no other.
+fn mark_all(whole: &mut [bool; 256], tables: &Tables<'_>, real: &[bool; 128])
+    ensures { AllMarked (masked tables.now.events tables.now.mask) tables.now.labels tables.now.profiles.now real.now whole.new }
 {
     *whole = [false; 256];
-    for e in 0..events {
-        if mask_has(mask, e) {
-            mark_event(whole, profiles, real, labels, e);
+    for e in 0..tables.events {
+        if mask_has(tables.mask, e) {
+            mark_event(whole, tables, real, e);
         }
     }
 }
@@ -71,12 +58,20 @@ pub fn tables(
     let rule = Rule {
         nodes: &nodes[..usize::from(count)],
     };
-    let m = rule.temporal_count();
+    let temporals = rule.temporal_count();
     let events = width(signals);
-    let labels = power(m);
+    let labels = power(temporals);
     let mut fairs = [[0u8; 128]; 16];
     rule.tables(events, labels, profiles, &mut fairs);
-    let real = realizable_labels(profiles, &fairs, m, events, mask, labels);
-    mark_all(whole, profiles, &real, events, mask, labels);
-    m
+    let tables = Tables {
+        profiles,
+        fairs: &fairs,
+        temporals,
+        events,
+        mask,
+        labels,
+    };
+    let real = realizable_labels(&tables);
+    mark_all(whole, &tables, &real);
+    temporals
 }

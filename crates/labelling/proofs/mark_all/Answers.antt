@@ -3,4 +3,4 @@ use Rattle.labelling.proofs.Marks.{all_none}
 use Rattle.labelling.proofs.mark_all.Goals as goal
 
 pub loop-e-init : goal.loop-e-init
-loop-e-init c = all_none c.args.mask
+loop-e-init c = all_none c.args.tables.now.mask

@@ -4,4 +4,4 @@ use Rattle.labelling.specs.Marks.{AllMarked}
 use Rattle.labelling.proofs.mark_all.Given as goal
 
 abbrev pub invariant-loop-e : goal.invariant-loop-e
-invariant-loop-e l = AllMarked (masked l.e l.mask) l.labels l.profiles l.real l.whole
+invariant-loop-e l = AllMarked (masked l.e l.tables.mask) l.tables.labels l.tables.profiles.now l.real l.whole

@@ -3,4 +3,4 @@ use Rattle.labelling.specs.Marks.{hits, Marked}
 use Rattle.labelling.proofs.mark_event.Given as goal
 
 abbrev pub invariant-loop-y : goal.invariant-loop-y
-invariant-loop-y l = Marked l.y (hits l.profiles l.real l.e) l.initial.whole l.whole
+invariant-loop-y l = Marked l.y (hits l.tables.profiles.now l.real l.e) l.initial.whole l.whole
