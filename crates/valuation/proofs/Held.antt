@@ -9,7 +9,6 @@ use native.Mathlib.Omega.{arith}
 use lib.ListN.{length, get_or, set, length-set}
 use lib.Pow.{pow_pos}
 use lib.Bits.{bit_or}
-use mir.Val.{bool_byte}
 use native.Mathlib.Nat.{le_refl, pow-suc}
 use Rattle.std.proofs.lemmas.Nat.{one_shl, or_lt}
 use lib.Seq.{get_or-set_same, get_or-set_other}
@@ -140,15 +139,12 @@ module _ {e : ℕ} {high : Bool} {i : ℕ} {n : Node} {c : Columns} {a b x : ℕ
 -- ---- bytes
 
 -- a digit at place n of a byte
-digit-at : (n : ℕ) (b : Bool) → n < 8 → (bool_byte b * 2 ^ n) % 256 ≡ put n b 0
-digit-at n true h = one_shl n 8 h ∙ omega arith
-digit-at n false h = omega arith
+pub digit-at : (n : ℕ) → n < 8 → (1 * 2 ^ n) % 256 ≡ put n true 0
+digit-at n h = one_shl n 8 h ∙ omega arith
 
-pub byte_more : {n : ℕ} {columns : List ℕ} {l r : ℕ} → Byte n columns l r → n < 8 → (b : Bool) → b ≡ on (get_or columns n 0) l → (x : ℕ) → x ≡ bool_byte b
-    → Byte (n + 1) columns l (bit_or r ((x * 2 ^ n) % 256))
-byte_more {n} {columns} {l} {r} h few b q x e =
-    subst (λ (t : ℕ). Byte (n + 1) columns l (bit_or r t)) (sym (ap (λ (y : ℕ). (y * 2 ^ n) % 256) e ∙ digit-at n b few))
-    (record { size = or_lt (n + 1) r (put n b 0) (rw add-one (omega (arith, h.size, pow-suc 2 n))) (put-size n n b 0 refl (pow_pos n)); bits = λ j k. on_or r (put n b 0) j ∙ go j k (ℕ_discrete j n) })
+pub byte_more : {n : ℕ} {columns : List ℕ} {l r : ℕ} → Byte n columns l r → (b : Bool) → b ≡ on (get_or columns n 0) l → (t : ℕ) → t ≡ put n b 0 → Byte (n + 1) columns l (bit_or r t)
+byte_more {n} {columns} {l} {r} h b q t e =
+    rw e (record { size = or_lt (n + 1) r (put n b 0) (rw add-one (omega (arith, h.size, pow-suc 2 n))) (put-size n n b 0 refl (pow_pos n)); bits = λ j k. on_or r (put n b 0) j ∙ go j k (ℕ_discrete j n) })
   where
     or-false : (a : Bool) → (a || false) ≡ a
     or-false true = refl

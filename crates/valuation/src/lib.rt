@@ -67,7 +67,8 @@ fn byte_at(columns: &[u64; 8], l: u8) -> u8
 {
     let mut byte = 0u8;
     for (j, column) in columns.iter().enumerate() {
-        byte |= u8::from(holds(*column, l)) << j;
+        let bit = if holds(*column, l) { 1 << j } else { 0 };
+        byte |= bit;
     }
     byte
 }
