@@ -1,25 +1,22 @@
 // One pass over a lent row of watches, which is only read: what a request over it comes to.
 #![tactic(auto)]
 
-ghost use Rattle.std.specs.Prelude.{◌≡◌, ◌≤◌, length};
+ghost use Rattle.std.specs.Prelude.{◌≡◌, length};
 ghost use Rattle.meaning.specs.Desks.{watch_at};
-ghost use Rattle.desk_tasks.specs.Tasks.{pass_over};
+ghost use Rattle.desk_tasks.specs.Tasks.{pass_over, watch_for};
 ghost use Rattle.desk_tasks.specs.Surveys.{Surveyed};
 
 use desk_tasks::{Request, Service, Task, begin, decide, look, wanted};
-use meaning::Watch;
+use meaning::{Refusal, Watch};
 use watches::no_watch;
 
-// The task after a pass over the watches below its `upto`, from the last to the first.
+// The task after a pass over the watches, from the first to the last.
 pub fn scan(desk: &[Watch], task: Task) -> Task
-    requires { task.upto ≤ length desk.now }
-    ensures { result ≡ pass_over desk.now task.upto task }
+    ensures { result ≡ pass_over desk.now (length desk.now) task }
 {
     let mut s = task;
-    let mut i = task.upto;
-    while 0 < i {
-        i -= 1;
-        s = look(s, desk[i], i);
+    for (number, w) in desk.iter().enumerate() {
+        s = look(s, *w, number);
     }
     s
 }
@@ -28,10 +25,17 @@ pub fn scan(desk: &[Watch], task: Task) -> Task
 pub fn watch_at(desk: &[Watch], number: usize) -> Watch
     ensures { result ≡ watch_at desk.now number }
 {
-    if number < desk.len() {
-        return desk[number];
+    if number < desk.len() { desk[number] } else { no_watch() }
+}
+
+// The watch that is asked for, where one is.
+fn watch_for(desk: &[Watch], wanted: Option<usize>) -> Watch
+    ensures { result ≡ watch_for desk.now wanted }
+{
+    match wanted {
+        Some(number) => watch_at(desk, number),
+        None => no_watch(),
     }
-    no_watch()
 }
 
 // The service that a request comes to, over the bytes of a table and its counts.
@@ -41,10 +45,9 @@ pub fn survey<'d, 't>(
     signals: u8,
     states: u16,
     request: Request,
-) -> Service
+) -> Result<Service, Refusal>
     ensures { Surveyed t.now signals states request desk.now result }
 {
-    let s = scan(desk, begin(t, signals, states, request, desk.len()));
-    let w = watch_at(desk, wanted(s));
-    decide(t, s, w)
+    let s = scan(desk, begin(t, signals, states, request, desk.len())?);
+    decide(t, s, watch_for(desk, wanted(s)))
 }

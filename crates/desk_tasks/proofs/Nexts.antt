@@ -1,5 +1,5 @@
 -- Going round a row: the next number after the last-heard one, found by two lowest numbers.
---     next-is     it is the first that the order of a turn meets
+--     next-is, next-at     it is the first that the order of a turn meets
 use mathlib.Core.Path.{◌≡◌, refl, sym, ap, ◌∙◌}
 use mathlib.Core.Logic.{inl, inr}
 use mathlib.Core.Bool.{Bool, true, false, cond, ◌&&◌}
@@ -13,6 +13,9 @@ use Rattle.sequences.proofs.Loops.{least-is}
 use Rattle.sequences.proofs.Pigeonhole.{Least, least-below}
 use Rattle.meaning.specs.Desks.{last_of, after}
 use Rattle.rounds.proofs.Rounds.{last-in, after-in, after-apart}
+use Rattle.std.proofs.Common.{Some, None}
+use Rattle.std.specs.Option.{option_or}
+use Rattle.desk_tasks.proofs.Passes.{at}
 
 module _ (n l : ℕ) (w : ℕ → Bool) (some : 1 ≤ n) where
   abbrev later : ℕ → Bool
@@ -150,3 +153,21 @@ module _ (n l : ℕ) (w : ℕ → Bool) (some : 1 ≤ n) where
       go (no q) (no r) =
           let end : G ≡ n = omega (arith, lowest.bound) in
           rw (le-ltb F n (omega arith)) (end ∙ sym (nobody (omega arith)))
+
+  -- the same where a number that is none of the row is none at all
+  either : option_or (at n F) (at n G) ≡ at n (cond (ltb F n) F G)
+  either = go (ltb F n) refl
+    where
+      go : (b : Bool) → ltb F n ≡ b → option_or (at n F) (at n G) ≡ at n (cond (ltb F n) F G)
+      go true e = rw e (rw e)
+      go false e = rw e
+
+  found_at : at n found ≡ cond (ltb K n) (Some (after n l K)) None
+  found_at = go (dec_lt K n)
+    where
+      go : Dec (K < n) → at n found ≡ cond (ltb K n) (Some (after n l K)) None
+      go (yes p) = rw (lt-ltb K n p, lt-ltb (after n l K) n (after-in n some l K))
+      go (no q) = rw (le-ltb K n (omega arith), le-ltb n n (omega arith))
+
+  pub next-at : option_or (at n F) (at n G) ≡ cond (ltb K n) (Some (after n l K)) None
+  next-at = either ∙ ap (at n) next-is ∙ found_at

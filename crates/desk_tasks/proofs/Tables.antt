@@ -4,25 +4,25 @@
 --     served-agrees    of a post and a turn
 --     fresh-agrees     of making it fresh
 use Rattle.std.proofs.Common.{Ok, Err}
-use mathlib.Core.Path.{◌≡◌, refl, ap, ◌∙◌}
+use mathlib.Core.Path.{◌≡◌, ap, ◌∙◌}
 use mathlib.Core.List.{List, [], ◌∷◌}
-use mathlib.Core.Bool.{Bool, true, false, cond}
+use mathlib.Core.Bool.{false, cond}
 use Prim.Native.Nat.{ℕ}
-use native.Mathlib.Omega.{arith}
 use borrow.Author.Tests.{lt-ltb}
 use lib.Dec.{ltb}
 use lib.ListN.{length}
-use Rattle.meaning.specs.TableFiles.{is_table, alphabet_in, signals_in, states_in, checked_of}
+use Rattle.meaning.specs.TableFiles.{alphabet_in, states_in, checked_of}
 use Rattle.meaning.specs.RuleFiles.{first_of}
 use Rattle.meaning.specs.Runs.{counts_fit, run_of, ran_in}
 use Rattle.meaning.specs.Openings.{opening}
 use Rattle.meaning.specs.Desks.{Outcome, refused, desk_checks, watch_at, oldest, after, passed, heard_by, post_in, turn_in, fresh_in, post_of, turn_of, fresh_of, turn_by}
+use Rattle.meaning.specs.declared.Counts.{Counts}
 use Rattle.meaning.specs.declared.Refusal.{Refusal}
 use Rattle.meaning.specs.declared.Refusal.TheVariants.{WrongTable}
 use Rattle.meaning.specs.declared.Served.TheVariants as Served
 use Rattle.meaning.specs.declared.Watch.{Watch}
 use Rattle.table_layout.proofs.Form.{table-counts, table-header, table-verdict, states-some}
-use Rattle.table_run.proofs.Answers.{found, run-table}
+use Rattle.table_run.proofs.Answers.{found, no-table, run-table}
 use Rattle.desk_tasks.specs.declared.Request.{Request}
 use Rattle.desk_tasks.specs.declared.Request.TheVariants.{Post, Turn}
 use Rattle.desk_tasks.specs.Surveys.{served_in, served_of}
@@ -34,7 +34,7 @@ module _ (t : List ℕ) (d : List Watch) where
   pub record Agrees (by : ℕ → ℕ → Outcome) (of : Outcome) : Type 0 where
     pub none : (P S : ℕ) → counts_fit t P S ≡ false → by P S ≡ refused d WrongTable
     pub wrong : (x : Refusal) → checked_of t ≡ Err x → of ≡ refused d WrongTable
-    pub table : (P S : ℕ) → checked_of t ≡ Ok P S → by P S ≡ of
+    pub table : (k : Counts) → checked_of t ≡ Ok k → by k.signals k.states ≡ of
 
   -- ---- a post and a turn
 
@@ -43,36 +43,29 @@ module _ (t : List ℕ) (d : List Watch) where
   served-none P S (Post n i e) q = rw q
   served-none P S (Turn n l) q = rw q
 
-  no_table : (x : Refusal) → checked_of t ≡ Err x → is_table t ≡ false
-  no_table x e = go (is_table t) refl e
-    where
-      go : (b : Bool) → is_table t ≡ b → cond b (Ok (signals_in t) (states_in t)) (Err WrongTable) ≡ Err x → b ≡ false
-      go true p q = let z : ◌≡◌ {A = ℕ} 0 1 = cc in absurd (omega arith)
-      go false p q = refl
-
   served-refused : (r : Request) (x : Refusal) → checked_of t ≡ Err x → served_of t r d ≡ refused d WrongTable
   unfolding post_of turn_of
-  served-refused (Post n i e) x q = rw (no_table x q)
-  served-refused (Turn n l) x q = rw (no_table x q)
+  served-refused (Post n i e) x q = rw (no-table t x q)
+  served-refused (Turn n l) x q = rw (no-table t x q)
 
   -- a turn asks of its steps only what the one that it takes answers
-  turn-same : (n Q R l : ℕ) → checked_of t ≡ Ok Q R
-      → turn_by n (λ s e. ran_in t Q R s (e ∷ [])) (alphabet_in t Q) R d l ≡ turn_by n (λ s e. run_of t s (e ∷ [])) (alphabet_in t Q) R d l
+  turn-same : (n l : ℕ) (k : Counts) → checked_of t ≡ Ok k
+      → turn_by n (λ s e. ran_in t k.signals k.states s (e ∷ [])) (alphabet_in t k.signals) k.states d l ≡ turn_by n (λ s e. run_of t s (e ∷ [])) (alphabet_in t k.signals) k.states d l
   unfolding turn_by
-  turn-same n Q R l h =
+  turn-same n l k h =
       let i : ℕ = after (length d) l (passed d l) in
-      ap (λ (x : Result (Arrival ℕ) Refusal). first_of (refused d) (desk_checks n (alphabet_in t Q) R d) (cond (ltb (passed d l) (length d)) (heard_by n d i x) (record { answer = Ok (Served.NoneWaits l); desk = d })))
-      (run-table t (watch_at d i).state (oldest (watch_at d i) ∷ []) Q R h)
+      ap (λ (x : Result (Arrival ℕ) Refusal). first_of (refused d) (desk_checks n (alphabet_in t k.signals) k.states d) (cond (ltb (passed d l) (length d)) (heard_by n d i x) (record { answer = Ok (Served.NoneWaits l); desk = d })))
+      (run-table t (watch_at d i).state (oldest (watch_at d i) ∷ []) k h)
 
-  served-table : (Q R : ℕ) (r : Request) → checked_of t ≡ Ok Q R → served_in t Q R r d ≡ served_of t r d
+  served-table : (k : Counts) (r : Request) → checked_of t ≡ Ok k → served_in t k.signals k.states r d ≡ served_of t r d
   unfolding post_in turn_in post_of turn_of
-  served-table Q R (Post n i e) h = let f = found t Q R h in rw (f.signals, f.states, f.table, table-counts t f.table)
-  served-table Q R (Turn n l) h =
-      let f = found t Q R h in
-      ap (λ (o : Outcome). cond (counts_fit t Q R) o (refused d WrongTable)) (turn-same n Q R l h) ∙ rw (f.signals, f.states, f.table, table-counts t f.table)
+  served-table k (Post n i e) h = let f = found t k h in rw (f.signals, f.states, f.table, table-counts t f.table)
+  served-table k (Turn n l) h =
+      let f = found t k h in
+      ap (λ (o : Outcome). cond (counts_fit t k.signals k.states) o (refused d WrongTable)) (turn-same n l k h) ∙ rw (f.signals, f.states, f.table, table-counts t f.table)
 
   pub served-agrees : (r : Request) → Agrees (λ P S. served_in t P S r d) (served_of t r d)
-  served-agrees r = record { none = λ P S. served-none P S r; wrong = served-refused r; table = λ P S. served-table P S r }
+  served-agrees r = record { none = λ P S. served-none P S r; wrong = served-refused r; table = λ k. served-table k r }
 
   -- ---- a fresh desk
 
@@ -82,12 +75,12 @@ module _ (t : List ℕ) (d : List Watch) where
 
   fresh-refused : (n : ℕ) (x : Refusal) → checked_of t ≡ Err x → fresh_of (opening t n) d ≡ refused d WrongTable
   unfolding fresh_of
-  fresh-refused n x q = rw (no_table x q)
+  fresh-refused n x q = rw (no-table t x q)
 
-  fresh-table : (n Q R : ℕ) → checked_of t ≡ Ok Q R → fresh_in n t Q R d ≡ fresh_of (opening t n) d
+  fresh-table : (n : ℕ) (k : Counts) → checked_of t ≡ Ok k → fresh_in n t k.signals k.states d ≡ fresh_of (opening t n) d
   unfolding fresh_in fresh_of
-  fresh-table n Q R h =
-      let f = found t Q R h in
+  fresh-table n k h =
+      let f = found t k h in
       let some = states-some t (table-header t f.table) in
       rw (f.signals, f.states, f.table, table-counts t f.table, lt-ltb 0 (states_in t) some, table-verdict t f.table 0 some)
 

@@ -1,26 +1,25 @@
 -- One pass over a row, and what is done after it: the definitions that the code follows.
-use Rattle.std.specs.Prelude.{Ok, Err}
-use Rattle.std.specs.Prelude.{◌≡◌, List, [], ◌∷◌, Bool, true, cond, not, ◌&&◌, ℕ, zero, suc, ltb, leb, eqb}
+use Rattle.std.specs.Prelude.{◌≡◌, ◌⊎◌, List, [], ◌∷◌, Bool, true, false, cond, not, ◌&&◌, ℕ, zero, suc, ltb, leb, eqb, Option, Some, None, Result, Ok, Err}
+use Rattle.std.specs.Option.{option_or}
+use Rattle.std.specs.Bool.{then_some}
 use Rattle.meaning.specs.Bytes.{bit}
 use Rattle.meaning.specs.RuleFiles.{first_of}
 use Rattle.meaning.specs.TableFiles.{successor, verdict_byte, verdict_of}
 use Rattle.meaning.specs.Runs.{counts_fit, in_table}
 use Rattle.meaning.specs.Openings.{state_of}
-use Rattle.meaning.specs.Desks.{counted, watch_at, oldest, with_event, without_oldest}
+use Rattle.meaning.specs.Desks.{counted, no_watch, watch_at, oldest, with_event, without_oldest}
+use Rattle.meaning.specs.declared.Arrival.{Arrival}
 use Rattle.meaning.specs.declared.Refusal.{Refusal}
 use Rattle.meaning.specs.declared.Refusal.TheVariants.{WrongEvent, WrongState, WrongWatch, WrongTable, WrongDesk, WrongNumber, QueueFull, CountFull, WrongOpening}
 use Rattle.meaning.specs.declared.Verdict.{Verdict}
 use Rattle.meaning.specs.declared.Watch.{Watch}
-use Rattle.meaning.specs.declared.Served.TheVariants as Served
+use Rattle.meaning.specs.declared.Served.{Served}
 use Rattle.table_layout.specs.Masks.{MaskIn}
 use Rattle.watches.specs.Fitting.{fits_in}
 use Rattle.desk_tasks.specs.declared.Request.{Request}
 use Rattle.desk_tasks.specs.declared.Request.TheVariants.{Post, Turn}
 use Rattle.desk_tasks.specs.declared.Task.{Task}
 use Rattle.desk_tasks.specs.declared.Service.{Service}
-use Rattle.desk_tasks.specs.declared.Check.{Check}
-use Rattle.std.specs.Prelude.{Result, Err}
-use Rattle.meaning.specs.declared.Arrival.{Arrival}
 
 -- the number after which a turn begins
 abbrev pub last_in : Request → ℕ
@@ -32,22 +31,34 @@ abbrev pub opening_in : Request → ℕ
 opening_in (Post n i e) = n
 opening_in (Turn n l) = n
 
--- The task of a request over the bytes t with counts P and S and a row of n watches, before the pass. Where the counts are a table's, its mask is that of
--- the table's events.
-pub record Begun (t : List ℕ) (P S : ℕ) (r : Request) (n : ℕ) (s : Task) : Type 0 where
+abbrev pub row_fits : ℕ → Bool
+row_fits n = leb 1 n && leb n 64
+
+-- The task of a request over the bytes t with counts P and S and a row of n watches, before the pass: the counts are a table's, whose events the mask has,
+-- and the row is one of a desk.
+pub record Started (t : List ℕ) (P S : ℕ) (r : Request) (n : ℕ) (s : Task) : Type 0 where
+  pub table : counts_fit t P S ≡ true
+  pub row : row_fits n ≡ true
   pub request : s.request ≡ r
   pub signals : s.signals ≡ P
   pub states : s.states ≡ S
-  pub table : s.table ≡ counts_fit t P S
-  pub mask : counts_fit t P S ≡ true → MaskIn t P s.mask
+  pub mask : MaskIn t P s.mask
   pub length : s.length ≡ n
-  pub upto : s.upto ≡ cond (counts_fit t P S && (leb 1 n && leb n 64)) n 0
   pub last : s.last ≡ last_in r
   pub opening : s.opening ≡ opening_in r
-  pub foreign : s.foreign ≡ n
-  pub wrong : s.wrong ≡ n
-  pub waits : s.waits ≡ n
-  pub later : s.later ≡ n
+  pub foreign : s.foreign ≡ None
+  pub wrong : s.wrong ≡ None
+  pub waits : s.waits ≡ None
+  pub later : s.later ≡ None
+
+-- 14 and 18
+abbrev pub Begun : List ℕ → ℕ → ℕ → Request → ℕ → Result Task Refusal → Type 0
+Begun t P S r n (Ok s) = Started t P S r n s
+Begun t P S r n (Err x) = ((counts_fit t P S ≡ false) × (x ≡ WrongTable)) ⊎ ((counts_fit t P S ≡ true) × (row_fits n ≡ false) × (x ≡ WrongDesk))
+
+-- the number found before, and i where there is none and the watch with number i is such a one
+abbrev pub first : Option ℕ → Bool → ℕ → Option ℕ
+first before such i = option_or before (then_some such i)
 
 -- after a look at the watch w, which has number i
 abbrev pub look_of : Task → Watch → ℕ → Task
@@ -56,50 +67,41 @@ look_of s w i =
       request = s.request;
       signals = s.signals;
       states = s.states;
-      table = s.table;
       mask = s.mask;
       length = s.length;
-      upto = s.upto;
       last = s.last;
       opening = s.opening;
-      foreign = cond (not (eqb w.opening s.opening)) i s.foreign;
-      wrong = cond (not (fits_in s.mask s.states w)) i s.wrong;
-      waits = cond (ltb 0 w.waiting) i s.waits;
-      later = cond (ltb 0 w.waiting && ltb s.last i) i s.later;
+      foreign = first s.foreign (not (eqb w.opening s.opening)) i;
+      wrong = first s.wrong (not (fits_in s.mask s.states w)) i;
+      waits = first s.waits (ltb 0 w.waiting) i;
+      later = first s.later (ltb 0 w.waiting && ltb s.last i) i;
     }
 
--- after a pass over the first k watches, the last of them first
+-- after a pass over the first k watches
 unfoldable pub pass_over : List Watch → ℕ → Task → Task
 pass_over d zero s = s
-pass_over d (suc k) s = pass_over d k (look_of s (watch_at d k) k)
+pass_over d (suc k) s = look_of (pass_over d k s) (watch_at d k) k
 
 -- the next number, going round, that has an event waiting
-abbrev pub next_of : Task → ℕ
-next_of s = cond (ltb s.later s.length) s.later s.waits
+abbrev pub next_of : Task → Option ℕ
+next_of s = option_or s.later s.waits
 
 -- the number that the request is about
-abbrev pub wanted_by : Task → Request → ℕ
-wanted_by s (Post n i e) = i
+abbrev pub wanted_by : Task → Request → Option ℕ
+wanted_by s (Post n i e) = Some i
 wanted_by s (Turn n l) = next_of s
 
-abbrev pub wanted_of : Task → ℕ
+abbrev pub wanted_of : Task → Option ℕ
 wanted_of s = wanted_by s s.request
 
--- 14, 18, 24 and 13
-abbrev pub row_checks : Task → List (Bool × Refusal)
-row_checks s =
-    (not s.table, WrongTable)
-    ∷ (not (leb 1 s.length && leb s.length 64), WrongDesk)
-    ∷ (ltb s.foreign s.length, WrongOpening s.foreign)
-    ∷ (ltb s.wrong s.length, WrongWatch s.wrong)
-    ∷ []
+-- the watch with that number
+abbrev pub watch_for : List Watch → Option ℕ → Watch
+watch_for d (Some i) = watch_at d i
+watch_for d None = no_watch
 
-abbrev pub row_checked : Task → Check
-row_checked s = first_of Check.Refused (row_checks s) Check.Passed
-
--- nothing is changed
-abbrev pub refusing : Task → Watch → Refusal → Service
-refusing s w x = record { number = s.length; watch = w; answer = Err x }
+-- a watch with a number is changed, and the answer
+abbrev pub changing : ℕ → Watch → Served → Result Service Refusal
+changing i w r = Ok (record { change = Some (record { number = i; watch = w }); answer = r })
 
 -- 19, 12, 20 and 21
 abbrev pub post_checks : Task → Watch → ℕ → ℕ → List (Bool × Refusal)
@@ -111,26 +113,26 @@ post_checks s w i e =
     ∷ []
 
 -- the watch w, which has number i, with the event e
-abbrev pub addition : Watch → ℕ → ℕ → Service
-addition w i e = record { number = i; watch = with_event w e; answer = Ok Served.Done }
+abbrev pub addition : Watch → ℕ → ℕ → Result Service Refusal
+addition w i e = changing i (with_event w e) Served.Done
 
-abbrev pub post_decided : Task → Watch → ℕ → ℕ → Service
-post_decided s w i e = first_of (refusing s w) (post_checks s w i e) (addition w i e)
+abbrev pub post_decided : Task → Watch → ℕ → ℕ → Result Service Refusal
+post_decided s w i e = first_of Err (post_checks s w i e) (addition w i e)
 
 -- hearing, with the opening n, the oldest event of watch w, which has number i and is led by it to a state with a verdict
-abbrev pub hearing : ℕ → Watch → ℕ → ℕ → Verdict → Service
-hearing n w i to v = record { number = i; watch = without_oldest w to v; answer = Ok (Served.Heard i (oldest w) (state_of n to) v) }
+abbrev pub hearing : ℕ → Watch → ℕ → ℕ → Verdict → Result Service Refusal
+hearing n w i to v = changing i (without_oldest w to v) (Served.Heard i (oldest w) (state_of n to) v)
 
 -- where the run over it ended so
-abbrev pub hear_decided : Task → Watch → ℕ → Result (Arrival ℕ) Refusal → Service
-hear_decided s w i (Ok a) = hearing s.opening w i to v
-hear_decided s w i (Err x) = refusing s w x
+abbrev pub hear_decided : Task → Watch → ℕ → Result (Arrival ℕ) Refusal → Result Service Refusal
+hear_decided s w i (Ok a) = hearing s.opening w i a.state a.verdict
+hear_decided s w i (Err x) = Err x
 
 -- the same from what the task knows of the table: 14, 13 and 12 as a run has them, and 14 where the way leaves the table
-abbrev pub heard_from : List ℕ → Task → Watch → ℕ → Service
+abbrev pub heard_from : List ℕ → Task → Watch → ℕ → Result Service Refusal
 heard_from t s w i =
     let to = successor t s.signals w.state (oldest w) in
-    first_of (refusing s w)
+    first_of Err
     ((not (leb s.signals 4), WrongTable)
     ∷ (not (ltb w.state s.states), WrongState)
     ∷ (not (eqb (bit (oldest w) s.mask) 1), WrongEvent 0)
@@ -139,22 +141,26 @@ heard_from t s w i =
     (hearing s.opening w i to (verdict_of (verdict_byte t s.signals to)))
 
 -- where one event more can be counted: it can for every watch that fits and has one waiting
-abbrev pub counted_from : List ℕ → Task → Watch → ℕ → Service
-counted_from t s w i = cond (ltb w.heard 4294967295) (heard_from t s w i) (refusing s w (WrongWatch i))
+abbrev pub counted_from : List ℕ → Task → Watch → ℕ → Result Service Refusal
+counted_from t s w i = cond (ltb w.heard 4294967295) (heard_from t s w i) (Err (WrongWatch i))
 
-abbrev pub turn_decided : List ℕ → Task → Watch → ℕ → Service
-turn_decided t s w l =
-    cond (leb s.length (next_of s))
-    (record { number = s.length; watch = w; answer = Ok (Served.NoneWaits l) })
-    (counted_from t s w (next_of s))
+-- of the next number
+abbrev pub turn_from : List ℕ → Task → Watch → ℕ → Option ℕ → Result Service Refusal
+turn_from t s w l (Some i) = counted_from t s w i
+turn_from t s w l None = Ok (record { change = None; answer = Served.NoneWaits l })
 
-abbrev pub request_decided : List ℕ → Task → Watch → Request → Service
+abbrev pub turn_decided : List ℕ → Task → Watch → ℕ → Result Service Refusal
+turn_decided t s w l = turn_from t s w l (next_of s)
+
+abbrev pub request_decided : List ℕ → Task → Watch → Request → Result Service Refusal
 request_decided t s w (Post n i e) = post_decided s w i e
 request_decided t s w (Turn n l) = turn_decided t s w l
 
-abbrev pub check_decided : List ℕ → Task → Watch → Check → Service
-check_decided t s w Check.Passed = request_decided t s w s.request
-check_decided t s w (Check.Refused x) = refusing s w x
+-- the refusal of a number, where one was found
+abbrev pub unless : (ℕ → Refusal) → Option ℕ → Result Service Refusal → Result Service Refusal
+unless f (Some i) y = Err (f i)
+unless f None y = y
 
-unfoldable pub decided_of : List ℕ → Task → Watch → Service
-decided_of t s w = check_decided t s w (row_checked s)
+-- 24 and 13
+abbrev pub decided_of : List ℕ → Task → Watch → Result Service Refusal
+decided_of t s w = unless WrongOpening s.foreign (unless WrongWatch s.wrong (request_decided t s w s.request))
