@@ -25,7 +25,11 @@ pub fn scan(desk: &[Watch], task: Task) -> Task
 pub fn watch_at(desk: &[Watch], number: usize) -> Watch
     ensures { result ≡ watch_at desk.now number }
 {
-    if number < desk.len() { desk[number] } else { no_watch() }
+    if number < desk.len() {
+        desk[number]
+    } else {
+        no_watch()
+    }
 }
 
 // The watch that is asked for, where one is.

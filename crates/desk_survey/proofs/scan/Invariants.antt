@@ -5,4 +5,4 @@ use Rattle.desk_tasks.specs.Tasks.{pass_over}
 use Rattle.desk_survey.proofs.scan.Given as goal
 
 abbrev pub invariant-loop-number : goal.invariant-loop-number
-invariant-loop-number l = ◌≡◌ {A = Task} l.s (pass_over l.desk l.number l.task)
+invariant-loop-number l = ◌≡◌ {A = Task} l.s (pass_over l.desk l.number l.fn.task)
