@@ -1,5 +1,6 @@
--- An opened table tells what checking its bytes finds, and runs, steps, shows its rows, judges recordings and serves a desk as its bytes do; a refused opening does nothing else than refuse.
--- Stepping through a list of events follows the table's monitor.
+-- An opened table tells what checking its bytes finds, and runs, steps, shows its rows, judges recordings and serves
+-- a desk as its bytes do; a refused opening does nothing else than refuse. Stepping through a list of events follows
+-- the table's monitor.
 use mathlib.Core.Path.{◌≡◌, refl, sym, ap, ◌∙◌}
 use mathlib.Core.List.{List, [], ◌∷◌}
 use mathlib.Core.Bool.{Bool, true, false}
@@ -11,12 +12,12 @@ use Rattle.meaning.specs.Monitors.{follow}
 use Rattle.meaning.specs.TableFiles.{is_table, alphabet_in, signals_in, states_in, successor, checked_of, monitor_of}
 use Rattle.meaning.specs.Runs.{row_read, row_in}
 use Rattle.meaning.specs.Openings.{opening, state_of, run_from, run_from_in}
-use Rattle.meaning.specs.Desks.{Outcome, fresh_in, fresh_of, post_of, turn_of}
+use Rattle.meaning.specs.Desks.{Outcome, refused, fresh_in, fresh_of, post_of, turn_of}
 use Rattle.meaning.specs.Recordings.{judged_in, judged_of}
 use Rattle.meaning.specs.declared.State.{State}
 use Rattle.meaning.specs.declared.Watch.{Watch}
 use Rattle.table_layout.proofs.Form.{event-test, states-some, table-header, table-inside}
-use Rattle.table_run.proofs.Answers.{row-table, row-refused}
+use Rattle.table_run.proofs.Answers.{refused-by, row-table, row-refused}
 use Rattle.openings.specs.Steps.{state_after, stepped_in}
 use Rattle.openings.proofs.Answers.{run-from-table, run-from-none, run-from-refused}
 use Rattle.desk_tasks.specs.Surveys.{served_in, served_of}
@@ -24,8 +25,8 @@ use Rattle.desk_tasks.specs.declared.Request.{Request}
 use Rattle.desk_tasks.specs.declared.Request.TheVariants.{Post, Turn}
 use Rattle.desk_tasks.proofs.Tables.{Agrees, served-agrees, fresh-agrees}
 use Rattle.recordings.proofs.Answers.{judged-table, judged-none, judged-refused}
-use Rattle.opened.specs.OpenedTables.{counts_of, opened_of, outcome_by, ran_by, row_by, stepped_by, stepped_all, judged_by, freshened_by, posted_by, turned_by}
-use Rattle.std.proofs.Common.{Result}
+use Rattle.opened.specs.OpenedTables.{by_counts, opened_of, outcome_by, ran_by, row_by, stepped_by, stepped_all, judged_by, freshened_by, posted_by, turned_by}
+use Rattle.std.proofs.Common.{Result, Ok, Err}
 use Rattle.meaning.specs.declared.Counts.{Counts}
 use Rattle.meaning.specs.declared.Arrival.{Arrival}
 use Rattle.meaning.specs.declared.Refusal.{Refusal}
@@ -33,45 +34,42 @@ use Rattle.meaning.specs.declared.Refusal.{Refusal}
 module _ (x : Bor (List ℕ)) (n : ℕ) where
   -- "Opening checks the bytes and refuses by 14"
   pub opened-outcome : outcome_by (opened_of x n) ≡ checked_of x.now
-  opened-outcome = go (is_table x.now) refl
-    where
-      go : (b : Bool) → is_table x.now ≡ b → outcome_by (opened_of x n) ≡ checked_of x.now
-      go true e = rw (e, le-leb 1 (states_in x.now) (states-some x.now (table-header x.now e)))
-      go false e = rw e
+  opened-outcome = refl
 
   -- "A run takes an opened table, a state and a list of events."
   pub opened-runs : (s : State) (es : List ℕ) → ran_by (opened_of x n) s es ≡ run_from (opening x.now n) s es
   opened-runs s es = go (checked_of x.now) refl
     where
-      go : (c : Result Counts Refusal) → checked_of x.now ≡ c → run_from_in n x.now (counts_of c).signals (counts_of c).states s es ≡ run_from (opening x.now n) s es
-      go (Ok P S) h = run-from-table n x.now s es P S h
-      go (Err r) h = run-from-none n x.now s es 0 0 refl ∙ sym (run-from-refused n x.now s es r h)
+      go : (c : Result Counts Refusal) → checked_of x.now ≡ c → by_counts c Err (λ k. run_from_in n x.now k.signals k.states s es) ≡ run_from (opening x.now n) s es
+      go (Ok k) h = run-from-table n x.now s es k h
+      go (Err r) h = rw (refused-by x.now r h) (sym (run-from-refused n x.now s es r h))
 
   -- "thin functions read a row"
   pub opened-row : (s : ℕ) → row_by (opened_of x n) s ≡ row_read x.now s
   opened-row s = go (checked_of x.now) refl
     where
-      go : (c : Result Counts Refusal) → checked_of x.now ≡ c → row_in x.now (counts_of c).signals (counts_of c).states s ≡ row_read x.now s
-      go (Ok P S) h = row-table x.now s P S h
-      go (Err r) h = row-refused x.now s r h
+      go : (c : Result Counts Refusal) → checked_of x.now ≡ c → by_counts c Err (λ k. row_in x.now k.signals k.states s) ≡ row_read x.now s
+      go (Ok k) h = row-table x.now s k h
+      go (Err r) h = rw (refused-by x.now r h) (row-refused x.now s r h)
 
   -- "Join two recordings, each filling the other's gaps, and run the table from state 0 over all possible completions."
   pub opened-judges : (a b : List ℕ) → judged_by (opened_of x n) a b ≡ judged_of x.now a b
   opened-judges a b = go (checked_of x.now) refl
     where
-      go : (c : Result Counts Refusal) → checked_of x.now ≡ c → judged_in x.now (counts_of c).signals (counts_of c).states a b ≡ judged_of x.now a b
-      go (Ok P S) h = judged-table x.now a b P S h
-      go (Err r) h = judged-none x.now a b 0 0 refl ∙ sym (judged-refused x.now a b r h)
+      go : (c : Result Counts Refusal) → checked_of x.now ≡ c → by_counts c Err (λ k. judged_in x.now k.signals k.states a b) ≡ judged_of x.now a b
+      go (Ok k) h = judged-table x.now a b k h
+      go (Err r) h = rw (refused-by x.now r h) (sym (judged-refused x.now a b r h))
 
   -- "A site runs up to 64 tunnels on one table"
-  opened-agrees : (d : List Watch) (by : ℕ → ℕ → Outcome) (of : Outcome) → Agrees x.now d by of → by (opened_of x n).signals (opened_of x n).states ≡ of
+  opened-agrees : (d : List Watch) (by : ℕ → ℕ → Outcome) (of : Outcome) → Agrees x.now d by of
+      → by_counts (checked_of x.now) (refused d) (λ k. by k.signals k.states) ≡ of
   opened-agrees d by of a = go (checked_of x.now) refl
     where
-      go : (c : Result Counts Refusal) → checked_of x.now ≡ c → by (counts_of c).signals (counts_of c).states ≡ of
-      go (Ok P S) h = a.table P S h
-      go (Err y) h = a.none 0 0 refl ∙ sym (a.wrong y h)
+      go : (c : Result Counts Refusal) → checked_of x.now ≡ c → by_counts c (refused d) (λ k. by k.signals k.states) ≡ of
+      go (Ok k) h = a.table k h
+      go (Err y) h = rw (refused-by x.now y h) (sym (a.wrong y h))
 
-  opened-serves : (d : List Watch) (r : Request) → served_in x.now (opened_of x n).signals (opened_of x n).states r d ≡ served_of x.now r d
+  opened-serves : (d : List Watch) (r : Request) → by_counts (checked_of x.now) (refused d) (λ k. served_in x.now k.signals k.states r d) ≡ served_of x.now r d
   opened-serves d r = opened-agrees d (λ P S. served_in x.now P S r d) (served_of x.now r d) (served-agrees x.now d r)
 
   pub opened-freshens : (d : List Watch) → freshened_by (opened_of x n) d ≡ fresh_of (opening x.now n) d
@@ -86,20 +84,27 @@ module _ (x : Bor (List ℕ)) (n : ℕ) where
 -- ---- many steps
 
 module _ (x : Bor (List ℕ)) (n : ℕ) (h : is_table x.now ≡ true) where
+  abbrev counts : Counts
+  counts = record { signals = signals_in x.now; states = states_in x.now }
+
   abbrev Σ : Alphabet
-  Σ = alphabet_in x.now (signals_in x.now)
+  Σ = alphabet_in x.now counts.signals
 
   -- a step of an event that can happen arrives at the successor
-  step-to : (s e : ℕ) → s < states_in x.now → Event Σ e
-      → state_after (stepped_by (opened_of x n) (state_of n s) e) (state_of n s) ≡ state_of n (successor x.now (signals_in x.now) s e)
+  step-to : (s e : ℕ) → s < counts.states → Event Σ e
+      → state_after (run_from_in n x.now counts.signals counts.states (state_of n s) (e ∷ [])) (state_of n s) ≡ state_of n (successor x.now counts.signals s e)
   step-to s e l b =
-      ap (λ (r : Result (Arrival State) Refusal). state_after r (state_of n s)) (opened-runs x n (state_of n s) (e ∷ []))
-      ∙ rw (h, eq-eqb n n refl, lt-ltb s (states_in x.now) l, event-test Σ e b)
+      ap (λ (r : Result (Arrival State) Refusal). state_after r (state_of n s)) (run-from-table n x.now (state_of n s) (e ∷ []) counts (rw h))
+      ∙ rw (h, eq-eqb n n refl, lt-ltb s counts.states l, event-test Σ e b)
+
+  steps-to : (s : ℕ) (es : List ℕ) → s < counts.states → Word Σ es
+      → stepped_in n x.now counts.signals counts.states (state_of n s) es ≡ state_of n (follow (monitor_of x.now) s es)
+  unfolding stepped_in
+  steps-to s [] l w = refl
+  steps-to s (e ∷ es) l w =
+      ap (λ (r : State). stepped_in n x.now counts.signals counts.states r es) (step-to s e l w.0)
+      ∙ steps-to (successor x.now counts.signals s e) es (table-inside x.now h s e l w.0) w.1
 
   -- "A checked table is opened once and stepped many times": event by event, the steps follow the table's monitor
   pub stepped-all : (s : ℕ) (es : List ℕ) → s < states_in x.now → Word Σ es → stepped_all (opened_of x n) (state_of n s) es ≡ state_of n (follow (monitor_of x.now) s es)
-  unfolding stepped_in
-  stepped-all s [] l w = refl
-  stepped-all s (e ∷ es) l w =
-      ap (λ (r : State). stepped_all (opened_of x n) r es) (step-to s e l w.0)
-      ∙ stepped-all (successor x.now (signals_in x.now) s e) es (table-inside x.now h s e l w.0) w.1
+  stepped-all s es l w = rw h (steps-to s es l w)

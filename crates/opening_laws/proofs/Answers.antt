@@ -13,7 +13,7 @@ use lib.ListN.{length, get_or}
 use Rattle.meaning.specs.Traces.{Alphabet, is_event, Word}
 use Rattle.meaning.specs.Monitors.{Monitor, follow}
 use Rattle.meaning.specs.TableFiles.{is_table, alphabet_in, signals_in, states_in, successor, monitor_of}
-use Rattle.meaning.specs.Runs.{end_of, first_bad, run_of}
+use Rattle.meaning.specs.Runs.{decided_from, end_of, first_bad, run_of}
 use Rattle.meaning.specs.Refusals.{code_of}
 use Rattle.meaning.specs.Openings.{Opening, state_of, carried, run_from}
 use Rattle.meaning.specs.declared.Refusal.{Refusal}
@@ -23,7 +23,7 @@ use Rattle.meaning.specs.declared.State.{State}
 use Rattle.table_layout.proofs.Form.{test-event, table-inside}
 use Rattle.event_lists.proofs.Laws.{all-events}
 use Rattle.building.proofs.Running.{word-run, own-run}
-use Rattle.std.proofs.Common.{Result, Ok, Err, Option}
+use Rattle.std.proofs.Common.{Result, Ok, Err}
 use Rattle.meaning.specs.declared.Arrival.{Arrival}
 
 -- a list of events that all can happen, by the test
@@ -64,28 +64,31 @@ module _ (o : Opening) (form : is_table o.table ≡ true) where
 
     -- ---- not refused
 
+    -- where it arrives
+    abbrev arrival : Arrival State
+    arrival = record { state = state_of o.number (follow m s.number es); verdict = m.verdict (follow m s.number es); decided = decided_from m 0 s.number es }
+
     pub record Ends (r : State) (v : Verdict) : Type 0 where
       pub own : s.opening ≡ o.number
       pub word : Word Σ es
       pub state : r ≡ state_of o.number (follow m s.number es)
       pub shown : v ≡ m.verdict (follow m s.number es)
 
-    pub ends : (r : State) (v : Verdict) (d : Option ℕ) → run_from o s es ≡ Ok r v d → Ends r v
-    ends r v d q = by_tests go
+    pub ends : (r : Arrival State) → run_from o s es ≡ Ok r → Ends r.state r.verdict
+    ends r q = by_tests go
       where
-        go : (a b c : Bool) → eqb s.opening o.number ≡ a → ltb s.number (states_in o.table) ≡ b → ltb (first_bad Σ es) (length es) ≡ c → Ends r v
+        go : (a b c : Bool) → eqb s.opening o.number ≡ a → ltb s.number (states_in o.table) ≡ b → ltb (first_bad Σ es) (length es) ≡ c → Ends r.state r.verdict
         go false b c p x y = let e = sym (answer false b c p x y) ∙ q in let z : ◌≡◌ {A = ℕ} 0 1 = cc in absurd (omega arith)
         go true false c p x y = let e = sym (answer true false c p x y) ∙ q in let z : ◌≡◌ {A = ℕ} 0 1 = cc in absurd (omega arith)
         go true true true p x y = let e = sym (answer true true true p x y) ∙ q in let z : ◌≡◌ {A = ℕ} 0 1 = cc in absurd (omega arith)
         go true true false p x y =
             let e = sym (answer true true false p x y) ∙ q in
-            let state : state_of o.number (follow m s.number es) ≡ r = cc in
-            let shown : m.verdict (follow m s.number es) ≡ v = cc in
+            let z : arrival ≡ r = cc in
             record {
               own = eqb-true s.opening o.number p;
               word = word_of Σ es (all-events Σ es (ltb-false (first_bad Σ es) (length es) y));
-              state = sym state;
-              shown = sym shown;
+              state = sym (ap (λ (x : Arrival State). x.state) z);
+              shown = sym (ap (λ (x : Arrival State). x.verdict) z);
             }
 
     -- ---- refused

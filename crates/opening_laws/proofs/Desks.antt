@@ -1,7 +1,7 @@
--- A desk under distinct numbers: what comes with another opening is refused and changes nothing, so the desk is the one that the actions of its own opening
--- alone lead to, and the laws of one opening hold of it.
+-- A desk under distinct numbers: what comes with another opening is refused and changes nothing, so the desk is the
+-- one that the actions of its own opening alone lead to, and the laws of one opening hold of it.
 --     desk-right      refused by 24 exactly with another opening, and otherwise demand 2's verdict for all events heard
-use Rattle.std.proofs.Common.{Ok, Err}
+use Rattle.std.proofs.Common.{Result, Ok, Err}
 use mathlib.Core.Path.{◌≡◌, refl, sym, ap, ◌∙◌, subst}
 use mathlib.Core.Logic.{◌⊎◌, inl, inr}
 use mathlib.Core.List.{List, [], ◌∷◌, ◌++◌, append-nil, append_assoc}
@@ -29,7 +29,6 @@ use Rattle.desk_histories.proofs.Moves.{good-by, good-all}
 use Rattle.desk_histories.proofs.Histories.{next-right, verdict-right}
 use Rattle.opening_laws.specs.Laws.{Family, alphabet_at, property_at, served, heard_by, desk_after, DeskRight}
 use Rattle.opening_laws.proofs.States.{form-at}
-use Rattle.std.proofs.Common.{Result, Err}
 use Rattle.meaning.specs.declared.Refusal.{Refusal}
 
 -- ---- one action more at the end of a history

@@ -1,5 +1,6 @@
--- What C-18 supposes can be met: a family of two openings, of "always p" with the number 1 and of "eventually p" with the
--- number 2. Both tables have the states 0 and 1 over one signal, so only the number tells a state of one from the other's.
+-- What C-18 supposes can be met: a family of two openings, of "always p" with the number 1 and of "eventually p" with
+-- the number 2. Both tables have the states 0 and 1 over one signal, so only the number tells a state of one from the
+-- other's.
 use mathlib.Core.Path.{◌≡◌, refl}
 use mathlib.Core.List.{List, [], ◌∷◌, Memᴰ}
 use mathlib.Core.Bool.{Bool, true, false, true≢false}
@@ -11,6 +12,8 @@ use Rattle.meaning.specs.TableFiles.{is_table}
 use Rattle.meaning.specs.Openings.{opening, state_of, start_of, run_from}
 use Rattle.meaning.specs.declared.Refusal.{Refusal}
 use Rattle.meaning.specs.declared.Refusal.TheVariants.{WrongOpening}
+use Rattle.meaning.specs.declared.Arrival.{Arrival}
+use Rattle.meaning.specs.declared.State.{State}
 use Rattle.meaning.specs.declared.Verdict.TheVariants.{Violated}
 use Rattle.building.specs.Build.{BuiltRight}
 use Rattle.building.proofs.Right.{our-demands}
@@ -72,12 +75,15 @@ pub start-own : (i : Bool) (es : List ℕ) → Word (alphabet_at two i) es → (
 start-own i es = (state-right two i (start_of (two.opening i)) [] (start i)).taken es
 
 -- "always p" arrives at its state 1 by the event 0, violated
-arrived : run_from (two.opening true) (start_of (two.opening true)) (0 ∷ []) ≡ Ok (state_of 1 1) Violated (Some 1)
+abbrev arrival : Arrival State
+arrival = record { state = state_of 1 1; verdict = Violated; decided = Some 1 }
+
+arrived : run_from (two.opening true) (start_of (two.opening true)) (0 ∷ []) ≡ Ok arrival
 unfolding two is_table decided_from on_table table_file
 arrived = refl
 
 pub held : Held two true (state_of 1 1) (0 ∷ [])
-held = run true (0 ∷ []) (state_of 1 1) Violated (Some 1) (start true) arrived
+held = run true (0 ∷ []) arrival (start true) arrived
 
 -- where "eventually p" has a state 1 too, and refuses this one
 pub held-foreign : (es : List ℕ) → run_from (two.opening false) (state_of 1 1) es ≡ Err (WrongOpening 0)

@@ -42,9 +42,9 @@ module _ {I : Type 0} (F : Family I) where
 
   stands : {i : I} {s : State} {w : List ℕ} → Held F i s w → Stands i s w
   stands (start i) = record { own = refl; state = refl; word = tt }
-  stands (run {i} {s} {w} j es r v d h q) =
-      let e = ends (F.opening j) (form-at j) s es r v d q in
-      went j s w es (same-opening i j s w es (stands h) r v e) r v e
+  stands (run {i} {s} {w} j es r h q) =
+      let e = ends (F.opening j) (form-at j) s es r q in
+      went j s w es (same-opening i j s w es (stands h) r.state r.verdict e) r.state r.verdict e
 
   -- ---- the verdict
 
@@ -75,7 +75,7 @@ module _ {I : Type 0} (F : Family I) where
         (λ q same. foreign-not (F.opening j) (form-at j) s es ((stands h).own ∙ ap (λ (k : I). (F.opening k).number) same) q),
         (λ apart. foreign-if (F.opening j) (form-at j) s es (λ e. apart (F.distinct i j (sym (stands h).own ∙ e)))),
       );
-      verdict = λ j es r v d q. verdict-at j es r v (ends (F.opening j) (form-at j) s es r v d q);
+      verdict = λ j es r q. verdict-at j es r.state r.verdict (ends (F.opening j) (form-at j) s es r q);
       taken = λ es a x. own-taken (F.opening i) (form-at i) s es (stands h).own in-table
           (word_same (alphabet_at F i) (Σ (F.opening i) (form-at i)) (F.built i).demand_3.events es a) x;
       refused = λ es x. own-refused (F.opening i) (form-at i) s es (stands h).own in-table x;

@@ -1,5 +1,6 @@
--- What C-18 says: "Under distinct numbers, for built tables, a run from a start, or from a state that such a run returned, is refused by 24 exactly if the
--- state is another opening's; without a refusal it returns demand 2's verdict for all events since that start." And the same of a desk.
+-- What C-18 says: "Under distinct numbers, for built tables, a run from a start, or from a state that such a run
+-- returned, is refused by 24 exactly if the state is another opening's; without a refusal it returns demand 2's
+-- verdict for all events since that start." And the same of a desk.
 use Rattle.std.specs.Prelude.{◌≡◌, ◌↔◌, List, [], ◌∷◌, ◌++◌, ℕ}
 use Rattle.meaning.specs.Traces.{Alphabet, Word}
 use Rattle.meaning.specs.Verdicts.{Property, Judged}
@@ -16,7 +17,8 @@ use Rattle.building.specs.Build.{BuiltRight}
 use Rattle.std.specs.Prelude.{Ok, Err}
 use Rattle.meaning.specs.declared.Arrival.{Arrival}
 
--- A family of openings, of any kind and number: each of a table that was built of some rule file, and no two with the same number.
+-- A family of openings, of any kind and number: each of a table that was built of some rule file, and no two with the
+-- same number.
 pub record Family (I : Type 0) : Type 0 where
   pub opening : I → Opening
   pub file : I → List ℕ
@@ -32,8 +34,8 @@ property_at F i = property_of (F.built i).rule
 
 -- ---- states
 
--- "a run from a start, or from a state that such a run returned": opening i returned the state s, and since that start the events w were read. Each run
--- may be tried with any opening of the family.
+-- "a run from a start, or from a state that such a run returned": opening i returned the state s, and since that
+-- start the events w were read. Each run may be tried with any opening of the family.
 pub data Held {I : Type 0} (F : Family I) : I → State → List ℕ → Type 0 where
   start : (i : I) → Held F i (start_of (F.opening i)) []
   run : {i : I} {s : State} {w : List ℕ} (j : I) (es : List ℕ) (a : Arrival State)
@@ -68,10 +70,12 @@ module _ {I : Type 0} (F : Family I) where
   desk_after i n l h = served (begun (F.opening i) n l) h
 
   pub record DeskRight (i : I) (n l : ℕ) (h : List (I × Action)) : Type 0 where
-    -- a post or turn is refused by 24, at the first watch, exactly if it comes with another opening than the one that made the desk fresh
+    -- a post or turn is refused by 24, at the first watch, exactly if it comes with another opening than the one that
+    -- made the desk fresh
     pub foreign : (j : I) (a : Action) → ((asked (F.opening j) (desk_after i n l h) a).answer ≡ Err (WrongOpening 0)) ↔ (¬ (i ≡ j))
     -- and then changes nothing
     pub kept : (j : I) (a : Action) → ¬ (i ≡ j) → onward (F.opening j) (desk_after i n l h) a ≡ desk_after i n l h
-    -- a turn that hears an event of tunnel k returns demand 2's verdict for all events of that tunnel heard since the desk was fresh
+    -- a turn that hears an event of tunnel k returns demand 2's verdict for all events of that tunnel heard since the
+    -- desk was fresh
     pub verdict : (j : I) (k e : ℕ) (s : State) (v : Verdict) → (asked (F.opening j) (desk_after i n l h) Turn).answer ≡ Ok (Served.Heard k e s v)
         → Judged (alphabet_at F j) (property_at F j) (heard_by (begun (F.opening i) n l) k h ++ (e ∷ [])) v

@@ -32,8 +32,8 @@ fn carry(opening: u16, ran: Result<Arrival<u16>, Refusal>) -> Result<Arrival<Sta
     })
 }
 
-// The number in the table of a state of this opening. One of another is refused: by 14 for counts that no table of so many
-// bytes has, and otherwise by 24.
+// The number in the table of a state of this opening. One of another is refused: by 14 for counts that no table of so
+// many bytes has, and otherwise by 24.
 fn number_of(t: &[u8], signals: u8, states: u16, opening: u16, state: State) -> Result<u16, Refusal>
     ensures { result ≡ number_in opening t.now signals states state }
 {

@@ -57,7 +57,8 @@ fn successors_fit(t: &[u8], at: usize, signals: u8, states: u16, mask: u16) -> b
     }
 }
 
-// Whether a state's verdict byte is one of the four, an event is left, and all its successors fit. The mask is that of the table's events.
+// Whether a state's verdict byte is one of the four, an event is left, and all its successors fit. The mask is that
+// of the table's events.
 pub fn content_fits(t: &[u8], signals: u8, states: u16, mask: u16, state: u16) -> bool
     requires { (signals ≤ 4) × (row_at signals (state + 1) ≤ length t.now) × MaskIn t.now signals mask }
     ensures { result ≡ every (content_tests t.now signals states state) }

@@ -87,7 +87,8 @@ fn mask_at(t: &[u8], at: usize, events: usize) -> u16
     mask
 }
 
-// The mask of the events that can happen, which the row of state 0 tells. In most tables all can, which is found faster.
+// The mask of the events that can happen, which the row of state 0 tells. In most tables all can, which is found
+// faster.
 pub fn possible_mask(t: &[u8], signals: u8) -> u16
     requires { (signals ≤ 4) × (row_at signals 1 ≤ length t.now) }
     ensures { MaskIn t.now signals result }

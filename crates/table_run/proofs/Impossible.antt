@@ -1,5 +1,5 @@
--- C-14: "The table reader admits that only for the same events in every row, with at least one event left; otherwise 14. Running such an event is
--- refused by 12." Tables over one signal, by their rows.
+-- C-14: "The table reader admits that only for the same events in every row, with at least one event left; otherwise
+-- 14. Running such an event is refused by 12." Tables over one signal, by their rows.
 use mathlib.Core.Path.{◌≡◌, refl}
 use mathlib.Core.List.{List, [], ◌∷◌, ◌++◌, map}
 use mathlib.Core.Bool.{true, false}
