@@ -29,7 +29,7 @@ cleared : (n : ℕ) (x : Result ℕ Refusal) (cs : List (Bool × Refusal)) → f
 cleared n x cs e = first-cleared Err x (Ok n) other cs e
   where
     other : (r : Refusal) → Err r ≡ Ok n → ⊥
-    other r e = let z : ◌≡◌ {A = ℕ} 0 1 = cc in omega arith
+    other r e = cc
 
 pub accepted : (P room : ℕ) (t : Tree) (n : ℕ) → Signs t → tree_answer P room t ≡ Ok n → AcceptedFile P room t n
 unfolding tree_answer rule_answer

@@ -80,7 +80,7 @@ unfolding nodes_from
 accepted-from zero b P m p earlier r e = go (ltb p (length b)) refl e
   where
     go : (t : Bool) → ltb p (length b) ≡ t → cond t (Refused (TrailingBytes p)) (Accepted (record { signals = P; mask = m; nodes = earlier })) ≡ Accepted r → length b ≤ p + 7 * 0
-    go true q e = let z : ◌≡◌ {A = ℕ} 0 1 = cc in absurd (omega arith)
+    go true q e = cc
     go false q e = omega (arith, ltb-false p (length b) q)
 accepted-from (suc k) b P m p earlier r e =
     go (reading_of b P p (length earlier) (temporals earlier)) refl (λ n. accepted-from k b P m (p + 2 + u16_at b p) (earlier ++ (n ∷ [])) r) e
@@ -90,13 +90,13 @@ accepted-from (suc k) b P m p earlier r e =
         → elim x as (λ _. Judgement) [ Ok n ↦ nodes_from k b P m (p + 2 + u16_at b p) (earlier ++ (n ∷ [])) | Err r ↦ Refused r ] ≡ Accepted r
         → length b ≤ p + 7 * suc k
     go (Ok n) q ih e = omega (arith, ih n e, (node-told b P p (length earlier) (temporals earlier) n q).length)
-    go (Err y) q ih e = let z : ◌≡◌ {A = ℕ} 0 1 = cc in absurd (omega arith)
+    go (Err y) q ih e = cc
 
 pub accepted-file : (b : List ℕ) (r : Rule) → judge b ≡ Accepted r → length b ≤ longest_accepted
 accepted-file b r e = go (header_of b) refl
   where
     refused : (y : Refusal) → judge b ≡ Refused y → length b ≤ longest_accepted
-    refused y f = let z : ◌≡◌ {A = ℕ} 0 1 = cc in absurd (omega arith)
+    refused y f = cc
 
     after : (h : Header) → header_of b ≡ Ok h → (x : Result Mask Refusal) → mask_of b h.signals ≡ x → length b ≤ longest_accepted
     after h q (Ok m) o =

@@ -98,8 +98,8 @@ module _ (s : List ℕ) where
   written-right P before n q h e = go (ltb 1024 (length s)) q h e
     where
       go : (b : Bool) → (q : Parsed) → ParsedAs s q → Ok n ≡ cond b (Err (WrongText 1024)) (parsed_answer P (length before) q) → Typed s P (take n (file_of P q ++ drop n before))
-      go true q h e = absurd (let z : ◌≡◌ {A = ℕ} 0 1 = cc in omega arith)
-      go false (Outside p) h e = absurd (let z : ◌≡◌ {A = ℕ} 0 1 = cc in omega arith)
+      go true q h e = cc
+      go false (Outside p) h e = cc
       go false (Fitting t) h e = typed P (length before) before n t h e
 
 -- whatever the text
