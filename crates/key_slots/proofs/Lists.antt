@@ -26,12 +26,12 @@ slot_is key = refl
 
 -- ---- the first key
 
-module _ (key : ℕ) where
-  pub first-fits : KeysFit 1 (replicate 256 key)
-  first-fits = record { some = omega arith; few = omega arith; room = length-replicate 256 key; apart = λ i j m n e. absurd (omega arith) }
+module _ {keys : List ℕ} where
+  pub first-fits : length keys ≡ 256 → KeysFit 1 keys
+  first-fits l = record { some = omega arith; few = omega arith; room = l; apart = λ i j m n e. absurd (omega arith) }
 
-  pub first-slotted : {keys : List ℕ} → Slotted 1 keys (replicate 768 0) (replicate 256 0)
-  first-slotted {keys} = record {
+  pub first-slotted : Slotted 1 keys (replicate 768 0) (replicate 256 0)
+  first-slotted = record {
     slots_long = length-replicate {A = ℕ} 768 0;
     links_long = length-replicate {A = ℕ} 256 0;
     heads = λ s l. none (get_or (replicate 768 0) s 0) (get_or-replicate {A = ℕ} 768 s 0 0 l);

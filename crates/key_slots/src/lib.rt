@@ -46,8 +46,10 @@ impl KeyTable {
     pub fn new(first: Key) -> KeyTable
         ensures { result ≡ first ∷ [] }
     {
+        let mut keys = [Key::empty(); 256];
+        keys[0] = first;
         KeyTable {
-            keys: [first; 256],
+            keys,
             slots: [0; 768],
             links: [0; 256],
             count: 1,
