@@ -1,4 +1,5 @@
-// The records of rule files: the first one, the mask's and a node's, each read or refused by the first check that fails.
+// The records of rule files: the first one, the mask's and a node's, each read or refused by the first check that
+// fails.
 #![tactic(auto)]
 
 ghost use Rattle.std.specs.Prelude.{◌≡◌, ◌≤◌, ◌<◌};

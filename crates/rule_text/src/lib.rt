@@ -29,10 +29,10 @@ fn write_signs(signs: &[u8], signals: u8, rule: &mut [u8]) -> Result<usize, Refu
     write_nodes(signals, &nodes[..count], rule)
 }
 
-// Writes the rule file of a text at the front of `rule`. The answer is the file's length, or the refusal: 15, 4, 16, 7, 8,
-// then 10. Bytes past the file, and on a refusal all bytes, keep their values. Both are given as functions of the text, and
-// by the one reading that the grammar has for it; building the file has demands 2 and 3 of what was typed (crate
-// typed_rules, `joined`).
+// Writes the rule file of a text at the front of `rule`. The answer is the file's length, or the refusal: 15, 4, 16, 7,
+// 8, then 10. Bytes past the file, and on a refusal all bytes, keep their values. Both are given as functions of the
+// text, and by the one reading that the grammar has for it; building the file has demands 2 and 3 of what was typed
+// (crate typed_rules, `joined`).
 pub fn write(text: &[u8], signals: u8, rule: &mut [u8]) -> Result<usize, Refusal>
     ensures answer { result ≡ written_answer text.now signals rule.old }
     ensures output { rule.new ≡ written_after text.now signals rule.old }

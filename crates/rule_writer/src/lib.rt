@@ -3,7 +3,8 @@
 
 ghost use Rattle.std.specs.Prelude.{◌≡◌, ◌+◌, ◌≤◌, length};
 ghost use Rattle.meaning.specs.RuleFiles.{body_length, temporals};
-ghost use Rattle.meaning.specs.RuleTexts.{node_bytes, nodes_bytes, rule_bytes, any_out_of_range, rule_answer, output_of};
+ghost use Rattle.meaning.specs.RuleTexts.{node_bytes, nodes_bytes, rule_bytes};
+ghost use Rattle.meaning.specs.RuleTexts.{any_out_of_range, rule_answer, output_of};
 ghost use Rattle.rule_bytes.specs.WellFormed.{KindsFit};
 ghost use Rattle.text_pieces.specs.Put.{Put};
 ghost use Rattle.rule_writer.specs.Writing.{unmasked};
@@ -77,13 +78,15 @@ fn put_nodes(out: &mut [u8], start: usize, nodes: &[Node]) -> usize
     at
 }
 
-// The file of the nodes at the front of `rule` and its length; or 7, 8 or 10, in this order, and every byte of `rule` as it was. Bytes past the
-// file are kept.
+// The file of the nodes at the front of `rule` and its length; or 7, 8 or 10, in this order, and every byte of `rule`
+// as it was. Bytes past the file are kept.
 #[tactic(auto, unfolding(meaning::specs::RuleTexts::rule_answer, meaning::specs::RuleTexts::rule_bytes))]
 pub fn write_nodes(signals: u8, nodes: &[Node], rule: &mut [u8]) -> Result<usize, Refusal>
     requires { (signals ≤ 4) × (length nodes.now ≤ 64) × KindsFit nodes.now }
     ensures answer { result ≡ rule_answer (length rule.old) (unmasked signals nodes.now) }
-    ensures output { rule.new ≡ output_of (rule_answer (length rule.old) (unmasked signals nodes.now)) (rule_bytes (unmasked signals nodes.now)) rule.old }
+    ensures output { rule.new
+        ≡ output_of (rule_answer (length rule.old) (unmasked signals nodes.now))
+        (rule_bytes (unmasked signals nodes.now)) rule.old }
 {
     if any_out_of_range(signals, nodes) {
         return Err(Refusal::OutOfRange(0));
