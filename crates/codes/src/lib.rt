@@ -30,10 +30,7 @@ pub fn refusal_code(why: Refusal) -> u64
 pub fn length_code(written: Result<usize, Refusal>) -> u64
     ensures { result ≡ length_code written }
 {
-    match written {
-        Ok(n) => n as u64,
-        Err(why) => refusal_code(why),
-    }
+    written.map_or_else(refusal_code, |n| n as u64)
 }
 
 // A state as one number: the number of its opening times 65,536, and its own.
@@ -57,14 +54,11 @@ pub fn state_in(state: u32) -> State
 pub fn opened_code(number: u16, checked: Result<Counts, Refusal>) -> u64
     ensures { result ≡ opened_code number checked }
 {
-    match checked {
-        Ok(counts) => {
-            u64::from(counts.signals) * 4294967296
-                + u64::from(number) * 65536
-                + u64::from(counts.states)
-        }
-        Err(why) => refusal_code(why),
-    }
+    checked.map_or_else(refusal_code, |counts| {
+        u64::from(counts.signals) * 4294967296
+            + u64::from(number) * 65536
+            + u64::from(counts.states)
+    })
 }
 
 // The number that an opening has from its caller.
@@ -91,38 +85,28 @@ fn verdict_code(verdict: Verdict) -> u64
 pub fn arrived_code(arrived: Result<Arrival<State>, Refusal>) -> u64
     ensures { result ≡ arrived_code arrived }
 {
-    match arrived {
-        Ok(arrival) => verdict_code(arrival.verdict) + state_code(arrival.state),
-        Err(why) => refusal_code(why),
-    }
+    arrived.map_or_else(refusal_code, |at| {
+        verdict_code(at.verdict) + state_code(at.state)
+    })
 }
 
 fn count_code(decided: Option<usize>) -> u64
     ensures { result ≡ count_code decided }
 {
-    match decided {
-        Some(n) => n as u64,
-        None => 18446744073709551615,
-    }
+    decided.map_or(u64::MAX, |n| n as u64)
 }
 
 // Where the count goes after a run.
 pub fn count_after(arrived: Result<Arrival<State>, Refusal>, was: u64) -> u64
     ensures { result ≡ count_after arrived was }
 {
-    match arrived {
-        Ok(arrival) => count_code(arrival.decided),
-        Err(_) => was,
-    }
+    arrived.map_or(was, |at| count_code(at.decided))
 }
 
 pub fn shown_code(shown: Result<Verdict, Refusal>) -> u64
     ensures { result ≡ shown_code shown }
 {
-    match shown {
-        Ok(verdict) => verdict_code(verdict),
-        Err(why) => refusal_code(why),
-    }
+    shown.map_or_else(refusal_code, verdict_code)
 }
 
 // A tunnel's number in an answer.

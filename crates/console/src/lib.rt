@@ -1,11 +1,11 @@
-// What the test programs read and write: a stream of cases on standard input, and answers as text on standard output. What is read and what is
-// written no contract can say: a function that only writes has none, and its comment says what it writes.
+// What the programs read and write: bytes and cases on standard input, and answers as text on standard output. What is read
+// and what is written no contract can say: a function that only writes has none, and its comment says what it writes.
 #![tactic(auto)]
 
-ghost use Rattle.std.specs.Prelude.{◌≡◌, ◌≤◌, length, take, replicate, IfOk, OnErr};
+ghost use Rattle.std.specs.Prelude.{◌≡◌, ◌≤◌, length, take, IfOk, IfSome, OnErr};
 ghost use Rattle.console.specs.Input.{Filled, Begun};
 
-use meaning::{Arrived, Decided, Refusal, Verdict};
+use meaning::{Arrival, Refusal, State};
 use std::env::{Env, FillError};
 use std::io;
 use std::io::{Read, Write};
@@ -26,62 +26,26 @@ pub fn read_full<R: Read>(input: &mut R, buffer: &mut [u8]) -> io::Result<usize>
     Ok(done)
 }
 
-// The next two bytes as a number, or 65,536 where the input has ended.
-pub fn number<R: Read>(input: &mut R) -> io::Result<usize>
-    ensures { IfOk result (λ n. n ≤ 65536) }
-{
+// The next two bytes as a number, low byte first; none where the input has ended.
+pub fn number<R: Read>(input: &mut R) -> io::Result<Option<u16>> {
     let mut two = [0u8; 2];
     let got = read_full(input, &mut two)?;
-    if got < 2 {
-        return Ok(65536);
-    }
-    Ok(wire::wide(two[0]) + 256 * wire::wide(two[1]))
-}
-
-// Only writes: the text.
-pub fn say<W: Write>(out: &mut W, text: &[u8]) -> io::Result<()> {
-    out.write_all(text)
-}
-
-// Only writes: the number in decimal.
-pub fn say_number<W: Write>(out: &mut W, n: usize) -> io::Result<()> {
-    write!(out, "{n}")
-}
-
-// Only writes: "refused", the number, "at" and the place.
-pub fn say_refusal<W: Write>(out: &mut W, r: Refusal) -> io::Result<()> {
-    say(out, b"refused ")?;
-    say_number(out, wire::wide(r.number()))?;
-    say(out, b" at ")?;
-    say_number(out, r.place())
-}
-
-// Only writes: the verdict's word and a space.
-pub fn say_verdict<W: Write>(out: &mut W, v: Verdict) -> io::Result<()> {
-    match v {
-        Verdict::Undecided => say(out, b"undecided "),
-        Verdict::Satisfied => say(out, b"satisfied "),
-        Verdict::Violated => say(out, b"violated "),
-        Verdict::Moot => say(out, b"moot "),
-    }
+    Ok(if got < 2 {
+        None
+    } else {
+        Some(u16::from_le_bytes(two))
+    })
 }
 
 // Only writes: the end state's own number, its verdict and the count, or the refusal.
-pub fn say_run<W: Write>(out: &mut W, a: Arrived) -> io::Result<()> {
-    match a {
-        Arrived::Refused(why) => say_refusal(out, why),
-        Arrived::At {
-            state,
-            verdict,
-            decided,
-        } => {
-            say(out, b"state ")?;
-            say_number(out, wire::wide16(state.number))?;
-            say(out, b" ")?;
-            say_verdict(out, verdict)?;
-            match decided {
-                Decided::After(n) => say_number(out, n),
-                Decided::Never => say(out, b"none"),
+pub fn say_run<W: Write>(out: &mut W, arrived: Result<Arrival<State>, Refusal>) -> io::Result<()> {
+    match arrived {
+        Err(why) => write!(out, "{why}"),
+        Ok(at) => {
+            write!(out, "state {} {} ", at.state.number, at.verdict)?;
+            match at.decided {
+                Some(n) => write!(out, "{n}"),
+                None => write!(out, "none"),
             }
         }
     }
@@ -104,25 +68,17 @@ pub fn say_failure<R: Eprint + AllocGlobal>(rt: &R, what: &str, why: io::Error) 
 
 // Whether the program was started with an argument i, of which argument 0 is its own name.
 fn is_given<E: Env>(env: &E, i: usize) -> bool {
-    match env.arg(i, &mut []) {
-        Ok(_) => true,
-        Err(FillError::TooLong) => true,
-        Err(FillError::NotPresent) => false,
-    }
+    !matches!(env.arg(i, &mut []), Err(FillError::NotPresent))
 }
 
 // How many arguments the program was started with, its own name among them, or 3 where there are more.
 pub fn arg_count<E: Env>(env: &E) -> usize
     ensures { result ≤ 3 }
 {
-    if !is_given(env, 0) {
-        return 0;
-    }
-    if !is_given(env, 1) {
-        return 1;
-    }
-    if !is_given(env, 2) {
-        return 2;
+    for i in 0..3 {
+        if !is_given(env, i) {
+            return i;
+        }
     }
     3
 }
@@ -150,10 +106,18 @@ pub fn front(buffer: &[u8], n: usize) -> &[u8]
     buffer
 }
 
-// Room for any table, of which the longest has 9,479 bytes: zeros.
-pub fn room() -> [u8; 9600]
-    ensures value { result ≡ replicate 9600 0 }
-    ensures value_2 { 9600 ≡ length result }
+// The next part of a case: its length in two bytes, and so many bytes. None where the input ends before, or the buffer is too
+// short.
+pub fn part<'b, R: Read>(input: &mut R, buffer: &'b mut [u8]) -> io::Result<Option<&'b [u8]>>
+    ensures { IfOk result (λ found. IfSome found (λ bytes. length bytes.now ≤ 65535)) }
 {
-    [0; 9600]
+    let Some(n) = number(input)? else {
+        return Ok(None);
+    };
+    let n = usize::from(n);
+    if fill(input, buffer, n)? {
+        Ok(Some(front(buffer, n)))
+    } else {
+        Ok(None)
+    }
 }

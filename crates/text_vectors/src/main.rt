@@ -1,50 +1,25 @@
-// Writes the rule files of a stream of texts on standard input: a two-byte length and the text, a byte for the number of signals, a two-byte length of
-// the output. Writes a line for each: the rule file's length or the refusal, and the whole output in hexadecimal.
+// Writes the rule files of a stream of texts on standard input: a two-byte length and the text, a byte for the number of
+// signals, a two-byte length of the output. Writes a line for each: the rule file's length or the refusal, and the whole
+// output in hexadecimal.
 #![tactic(auto)]
 
-ghost use Rattle.std.specs.Prelude.{◌≤◌, length};
-
-use console::{fill, front, number, say, say_number, say_refusal};
-use meaning::Written;
+use console::{fill, number, part};
 use std::io;
 use std::io::{Read, Write};
 
-// Fills the buffer with one value.
-fn paint(buffer: &mut [u8]) {
-    let mut i: usize = 0;
-    while i < buffer.len() {
-        buffer[i] = 165;
-        i += 1;
-    }
-}
-
-// Only writes: the bytes, two digits for each.
-fn say_bytes<W: Write>(out: &mut W, bytes: &[u8]) -> io::Result<()> {
-    let mut i: usize = 0;
-    while i < bytes.len() {
-        let b = bytes[i];
-        write!(out, "{b:02x}")?;
-        i += 1;
-    }
-    Ok(())
-}
+// What the output holds before a rule file is written into it.
+const PAINT: u8 = 165;
 
 fn say_case<W: Write>(out: &mut W, text: &[u8], signals: u8, rule: &mut [u8]) -> io::Result<()> {
-    paint(rule);
-    let written = rule_text::write(text, signals, rule);
-    match written {
-        Written::Rule(n) => say_number(out, n)?,
-        Written::Refused(why) => say_refusal(out, why)?,
+    rule.fill(PAINT);
+    match rule_text::write(text, signals, rule) {
+        Ok(n) => write!(out, "{n} ")?,
+        Err(why) => write!(out, "{why} ")?,
     }
-    say(out, b" ")?;
-    say_bytes(out, rule)?;
-    say(out, b"\n")
-}
-
-fn part(buffer: &mut [u8], n: usize) -> &mut [u8]
-    requires { n ≤ length buffer.old }
-{
-    &mut buffer[..n]
+    for byte in rule.iter() {
+        write!(out, "{byte:02x}")?;
+    }
+    writeln!(out)
 }
 
 // Reads and answers one case; false at the end of the input.
@@ -52,26 +27,23 @@ fn case<R: Read, W: Write>(
     input: &mut R,
     out: &mut W,
     text: &mut [u8],
-    signals: &mut [u8],
     rule: &mut [u8],
 ) -> io::Result<bool> {
-    let n = number(input)?;
-    if !fill(input, text, n)? {
+    let Some(text) = part(input, text)? else {
+        return Ok(false);
+    };
+    let mut signals = [0u8; 1];
+    if !fill(input, &mut signals, 1)? {
         return Ok(false);
     }
-    if !fill(input, signals, 1)? {
+    let Some(room) = number(input)? else {
+        return Ok(false);
+    };
+    let room = usize::from(room);
+    if rule.len() < room {
         return Ok(false);
     }
-    let k = number(input)?;
-    if rule.len() < k {
-        return Ok(false);
-    }
-    say_case(
-        out,
-        front(text, n),
-        wire::byte_at(signals, 0),
-        part(rule, k),
-    )?;
+    say_case(out, text, signals[0], &mut rule[..room])?;
     Ok(true)
 }
 
@@ -79,14 +51,11 @@ fn main(rt: HostRuntime) -> io::Result<()> {
     let mut input = rt.stdin();
     let mut out = rt.stdout();
     let mut text = [0u8; 4096];
-    let mut signals = [0u8; 1];
     let mut rule = [0u8; 4096];
-    let mut left: u32 = 100000;
-    while 0 < left {
-        if !case(&mut input, &mut out, &mut text, &mut signals, &mut rule)? {
-            return Ok(());
+    for _ in 0..100000 {
+        if !case(&mut input, &mut out, &mut text, &mut rule)? {
+            break;
         }
-        left -= 1;
     }
     Ok(())
 }
