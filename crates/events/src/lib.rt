@@ -48,26 +48,20 @@ pub fn mask_has(mask: u16, event: usize) -> bool
 pub fn can_happen(mask: u16, event: usize) -> bool
     ensures { result ≡ eqb (bit event mask) 1 }
 {
-    if event < 16 {
-        return mask_has(mask, event);
-    }
-    false
+    event < 16 && mask_has(mask, event)
 }
 
 // Whether a signal is on. A byte has eight; any other is off.
 pub fn signal_on(event: u8, signal: u8) -> bool
     ensures { result ≡ eqb (bit signal event) 1 }
 {
-    if signal < 8 {
-        return (event >> signal) % 2 == 1;
-    }
-    false
+    signal < 8 && (event >> signal) % 2 == 1
 }
 
 // Whether at least and at most so many of the signals in the mask are on, of the four that there can be: the ones of event and mask are counted.
 pub fn at_least(event: u8, mask: u8, count: u8, upper: u8) -> bool
     ensures { result ≡ (leb count (count_on 4 mask event) && leb (count_on 4 mask event) upper) }
 {
-    let on = u32::count_ones((event & mask & 15) as u32);
-    (count as u32) <= on && on <= (upper as u32)
+    let on = u32::from(event & mask & 15).count_ones();
+    u32::from(count) <= on && on <= u32::from(upper)
 }

@@ -24,20 +24,11 @@ pub fn wide32(x: u32) -> usize
     x as usize
 }
 
-fn half(x: u8) -> u16
-    ensures { (result ≡ x) × (result < 256) }
-{
-    x as u16
-}
-
 // The byte at a place.
 pub fn byte_at(b: &[u8], i: usize) -> u8
     ensures { result ≡ get_or b.now i 0 }
 {
-    if i < b.len() {
-        return b[i];
-    }
-    0
+    if i < b.len() { b[i] } else { 0 }
 }
 
 // The number at a place.
@@ -46,9 +37,10 @@ pub fn u16_at(b: &[u8], i: usize) -> u16
     ensures { result ≡ u16_at b.now i }
 {
     if i + 1 < b.len() {
-        return half(b[i]) + 256 * half(b[i + 1]);
+        u16::from_le_bytes([b[i], b[i + 1]])
+    } else {
+        u16::from(byte_at(b, i))
     }
-    half(byte_at(b, i))
 }
 
 // Stores a number at a place.
@@ -56,6 +48,7 @@ pub fn put_u16(out: &mut [u8], i: usize, x: u16)
     requires { i + 2 ≤ length out.old }
     ensures { out.new ≡ sets out.old i (u16_bytes x) }
 {
-    out[i] = (x % 256) as u8;
-    out[i + 1] = (x / 256) as u8;
+    let [low, high] = x.to_le_bytes();
+    out[i] = low;
+    out[i + 1] = high;
 }

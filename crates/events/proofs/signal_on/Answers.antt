@@ -1,10 +1,9 @@
--- `events::signal_on` meets its contract. A signal past the eighth is off.
-use native.Mathlib.Omega.{arith}
-use mathlib.Core.Path.{sym, ap}
-use Prim.Native.Nat.{ℕ}
-use lib.Dec.{eqb}
+-- `events::signal_on`: a signal past the eighth is off.
+use Rattle.std.proofs.Common.{ℕ, eqb, arith, sym, ap, ◌∙◌}
+use borrow.Author.Tests.{le-ltb}
 use Rattle.events.proofs.Counting.{off-above}
 use Rattle.events.proofs.signal_on.Goals as goal
 
-pub returns : goal.returns
-returns c = sym (ap (λ (n : ℕ). eqb n 1) (off-above 8 c.args.event c.args.signal (omega arith) (omega arith)))
+pub returns-else-signal-lt8 : goal.returns-else-signal-lt8
+returns-else-signal-lt8 c =
+    le-ltb c.args.signal 8 c.if-signal-lt8.false ∙ sym (ap (λ (n : ℕ). eqb n 1) (off-above 8 c.args.event c.args.signal (omega arith) c.if-signal-lt8.false))

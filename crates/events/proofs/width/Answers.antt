@@ -1,6 +1,5 @@
--- `events::width` meets its contract.
-use native.Mathlib.Omega.{arith}
-use mathlib.Core.Path.{refl}
+-- `events::width`: at most four signals have at most 16 events.
+use Rattle.std.proofs.Common.{refl, arith}
 use Rattle.events.proofs.Powers.{power_small}
 use Rattle.events.proofs.width.Goals as goal
 
