@@ -1,31 +1,18 @@
 // Prints the table of a rule file as text; a refusal prints as one line.
 #![tactic(auto)]
 
-ghost use Rattle.std.specs.Prelude.{◌≡◌, length};
-
-use console::{front, read_full, say};
+use console::{front, read_full};
 use std::io;
-
-// What is taken: the first 4,096 bytes of standard input, or all if there are fewer.
-fn input() -> [u8; 4096]
-    ensures { 4096 ≡ length result }
-{
-    [0; 4096]
-}
-
-// Room for every text.
-fn page() -> [u8; 32768]
-    ensures { 32768 ≡ length result }
-{
-    [0; 32768]
-}
+use std::io::Write;
 
 fn main(rt: HostRuntime) -> io::Result<()> {
-    let mut rule = input();
+    // What is taken: the first 4,096 bytes of standard input, or all if there are fewer.
+    let mut rule = [0u8; 4096];
     let n = read_full(&mut rt.stdin(), &mut rule)?;
-    let mut text = page();
+    // Room for every text.
+    let mut text = [0u8; 32768];
     if let Ok(length) = table_printer::print_rule(front(&rule, n), &mut text) {
-        say(&mut rt.stdout(), front(&text, length))?;
+        rt.stdout().write_all(front(&text, length))?;
     }
     Ok(())
 }
