@@ -62,7 +62,7 @@ refused-large = ltb-true 4 (signals_of (refusal_code WrongTable)) refl
 large : (t : List ℕ) (x : Refusal) → checked_of t ≡ Err x → 4 < signals_of (refusal_code x)
 large t x k = go (is_table t) k
   where
-    go : (b : Bool) → cond b (Ok (signals_in t) (states_in t)) (Err WrongTable) ≡ Err x → 4 < signals_of (refusal_code x)
+    go : (b : Bool) → cond b (Ok (record { signals = signals_in t; states = states_in t })) (Err WrongTable) ≡ Err x → 4 < signals_of (refusal_code x)
     go true q = let z : ◌≡◌ {A = ℕ} 0 1 = cc in absurd (omega arith)
     go false q =
         let e : WrongTable ≡ x = cc in
@@ -79,14 +79,16 @@ module _ {A : Type 0} (t : List ℕ) (by : ℕ → ℕ → ℕ → A) (w : A) (n
       go false h = rw h
 
   -- and the number that opening the bytes with n answers, whatever the bytes, as the opened table does
-  module _ (n : ℕ) (n-fits : n < 65536) (of : A) (wrong : (x : Refusal) → checked_of t ≡ Err x → of ≡ w) (table : (P S : ℕ) → checked_of t ≡ Ok P S → by n P S ≡ of) where
+  module _ (n : ℕ) (n-fits : n < 65536) (of : A) (wrong : (x : Refusal) → checked_of t ≡ Err x → of ≡ w) (table : (c : Counts) → checked_of t ≡ Ok c → by n c.signals c.states ≡ of) where
     by-checked : (k : Result Counts Refusal) → checked_of t ≡ k → by (number_of (opened_code n k)) (signals_of (opened_code n k)) (states_of (opened_code n k)) ≡ of
-    by-checked (Ok P S) k =
-        let few : S < 65536 = omega (arith, (found t P S k).states, states-few t (table-header t (found t P S k).table)) in
+    by-checked (Ok c) k =
+        let P = c.signals in
+        let S = c.states in
+        let few : S < 65536 = omega (arith, (found t c k).states, states-few t (table-header t (found t c k).table)) in
         ap (λ (x : ℕ). by x (signals_of (P * 2 ^ 32 + n * 65536 + S)) (states_of (P * 2 ^ 32 + n * 65536 + S))) (number-back P n S n-fits few)
         ∙ ap (λ (x : ℕ). by n x (states_of (P * 2 ^ 32 + n * 65536 + S))) (signals-back P n S n-fits few)
         ∙ ap (by n P) (states-back P n S n-fits few)
-        ∙ table P S k
+        ∙ table c k
     by-checked (Err x) k =
         none (number_of (refusal_code x)) (signals_of (refusal_code x)) (states_of (refusal_code x)) (many-none t (refusal_code x) (large t x k)) ∙ sym (wrong x k)
 
@@ -95,7 +97,7 @@ module _ {A : Type 0} (t : List ℕ) (by : ℕ → ℕ → ℕ → A) (w : A) (n
 -- the start of the opening that opening a table with n answered is that opening's start
 pub start-checked : (t : List ℕ) (n : ℕ) → n < 65536 → is_table t ≡ true → state_in (start_code (opened_code n (checked_of t))) ≡ start_of (opening t n)
 start-checked t n n-fits h =
-    let k : checked_of t ≡ Ok (signals_in t) (states_in t) = rw h in
+    let k : checked_of t ≡ Ok (record { signals = signals_in t; states = states_in t }) = rw h in
     let few : states_in t < 65536 = omega (arith, states-few t (table-header t h)) in
     state-back (state_of (number_of (opened_code n (checked_of t))) 0) (omega arith)
     ∙ ap (λ (c : Result Counts Refusal). state_of (number_of (opened_code n c)) 0) k
