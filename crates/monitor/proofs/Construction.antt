@@ -34,36 +34,36 @@ pub record Answers (r : Rule) (before : List ℕ) (b : Result ℕ Refusal) (afte
   pub answer : b ≡ answer_of (Judgement.Accepted r) before
   pub output : after ≡ output_after (Judgement.Accepted r) before
 
--- the answer of the walk over a rule's keys
-pub record Walks (r : Rule) (o : Option States) : Type 0 where
-  pub is : Explores r.signals r.mask (tables_for r) o
+-- the walk over a rule's keys met these states, or too many
+pub record Walks (r : Rule) (found : Option States) : Type 0 where
+  pub is : Explores r.signals r.mask (tables_for r) found
 
 -- the walk closed with these states
-record Found (r : Rule) (n : ℕ) (rows : List (List ℕ)) (classes : List ℕ) : Type 0 where
-  few : n ≤ 256
-  machine : Machine (alphabet_of r) n rows classes
+record Found (r : Rule) (s : States) : Type 0 where
+  few : s.count ≤ 256
+  machine : Machine (alphabet_of r) s.count s.rows s.classes
   states : List (List ℕ)
   model : List ℕ
-  agree : Agree (alphabet_of r) n rows states classes model
-  outcome : outcome_of r ≡ Table (reduced_bytes (alphabet_of r) r.signals n states model)
+  agree : Agree (alphabet_of r) s.count s.rows states s.classes model
+  outcome : outcome_of r ≡ Table (reduced_bytes (alphabet_of r) r.signals s.count states model)
 
 module _ {r : Rule} (f : Formed r) where
-  module _ (s : States) (a : Walks r (Some s)) where
-    found : Found r s.count s.rows s.classes
+  module _ {s : States} (a : Walks r (Some s)) where
+    found : Found r s
     found = go (explore_keys (tables_for r) (alphabet_of r)) refl a.is
       where
-        go : (m : Explored ℕ (List (List ℕ))) → explore_keys (tables_for r) (alphabet_of r) ≡ m → ExploredAs r.signals (tables_for r) m (Some s) → Found r s.count s.rows s.classes
+        go : (m : Explored ℕ (List (List ℕ))) → explore_keys (tables_for r) (alphabet_of r) ≡ m → ExploredAs r.signals (tables_for r) m (Some s) → Found r s
         go (within keys states) q A =
             let C = closes r f keys states q in
-            subst (λ (k : ℕ). Found r k s.rows s.classes) (sym A.count)
-            (record {
-              few = C.few;
-              machine = machine-in r C A;
+            let n = sym A.count in
+            record {
+              few = omega (arith, A.count, C.few);
+              machine = subst (λ (k : ℕ). Machine (alphabet_of r) k s.rows s.classes) n (machine-in r C A);
               states = states;
               model = class_list r keys;
-              agree = agrees r C A;
-              outcome = C.outcome ∙ ap (λ (k : ℕ). Table (reduced_bytes (alphabet_of r) r.signals k states (class_list r keys))) C.count;
-            })
+              agree = subst (λ (k : ℕ). Agree (alphabet_of r) k s.rows states s.classes (class_list r keys)) n (agrees r C A);
+              outcome = C.outcome ∙ ap (λ (k : ℕ). Table (reduced_bytes (alphabet_of r) r.signals k states (class_list r keys))) (C.count ∙ n);
+            }
         go (beyond keys k) q A = absurd A
 
     pub closed-few : s.count ≤ 256
@@ -90,9 +90,9 @@ module _ {r : Rule} (f : Formed r) where
           record { answer = ap (λ (x : Outcome). answer_to x before) (sym e); output = ap (λ (x : Outcome). output_of x before) (sym e) }
 
 -- the answer of the walk over the arrays, as one over the rule's keys
-pub walks : (r : Rule) {k : ℕ} {profiles : List (List ℕ)} {whole : List Bool} (o : Option States) → TablesIn (2 ^ r.signals) k (tables_for r) profiles whole
-    → Explores r.signals r.mask (tables_in k profiles whole) o → Walks r o
-walks r o T E = record { is = explored-same r.signals r.mask T o E }
+pub walks : (r : Rule) {k : ℕ} {profiles : List (List ℕ)} {whole : List Bool} (found : Option States) → TablesIn (2 ^ r.signals) k (tables_for r) profiles whole
+    → Explores r.signals r.mask (tables_in k profiles whole) found → Walks r found
+walks r found T E = record { is = explored-same r.signals r.mask T found E }
 
 -- what the tables ask of the nodes
 pub valuable : (P mask count : ℕ) (nodes : List Node) → Formed (rule_in P mask count nodes) → count ≤ 64 → Valuable count nodes

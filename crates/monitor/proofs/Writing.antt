@@ -8,7 +8,6 @@ use lib.Dec.{leb}
 use Rattle.meaning.specs.Traces.{masked}
 use Rattle.meaning.specs.RuleFiles.{Rule, alphabet_of, Judgement}
 use Rattle.meaning.specs.TableFiles.{table_length}
-use Rattle.std.specs.Prelude.{Ok, Err}
 use Rattle.meaning.specs.declared.Refusal.TheVariants.{ShortOutput}
 use Rattle.moore.specs.Grouping.{entry, grouping}
 use Rattle.moore.specs.Quotient.{size, verdicts, quotient_rows}
@@ -18,6 +17,7 @@ use Rattle.table_bytes.proofs.RoundTrip.{length_back, same_bytes}
 use Rattle.smallest.specs.Table.{Outcome, Table, reduced_bytes}
 use Rattle.grouping.specs.Reduction.{Reduction}
 use Rattle.grouping.proofs.Arrays.{verdict-at, successor-at}
+use Rattle.std.proofs.Common.{Ok, Err}
 use Rattle.building.specs.Build.{outcome_of, answer_to, output_of, answer_of, output_after}
 
 module _ (P mask n : ℕ) {rows states : List (List ℕ)} {classes model bytes : List ℕ} {to : List (List ℕ)} {q : ℕ} {bytes' : List ℕ} {to' : List (List ℕ)}
