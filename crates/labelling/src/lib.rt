@@ -51,7 +51,6 @@ pub fn tables(
 ) -> u8
     requires signals_bound { signals ≤ 4 }
     requires valuable { Valuable count nodes }
-    requires profiles_len { (length {A = List ℕ} profiles.old ≡ 16) × (length whole.old ≡ 256) }
     ensures value { result ≡ temporals (splits (take count nodes)) }
     ensures tables_in { TablesIn (2 ^ signals) (2 ^ result) (tables_of (masked (2 ^ signals) mask) (splits (take count nodes))) profiles.new whole.new }
 {
