@@ -1,28 +1,10 @@
-// Numbers, and numbers in files: two bytes, low byte first. Past the end of the bytes there are zeros, so reading is total.
+// Numbers in files: two bytes, low byte first. Past the end of the bytes there are zeros, so reading is total.
 #![tactic(auto)]
 
 ghost use Rattle.std.specs.Prelude.{◌≡◌, ◌+◌, ◌*◌, ◌≤◌, ◌<◌, length, get_or};
 ghost use Rattle.std.proofs.lemmas.List.Edits.{sets};
 ghost use Rattle.meaning.specs.Bytes.{u16_at};
 ghost use Rattle.wire.specs.Wire.{u16_bytes};
-
-pub fn wide(x: u8) -> usize
-    ensures { (result ≡ x) × (result < 256) }
-{
-    x as usize
-}
-
-pub fn wide16(x: u16) -> usize
-    ensures { (result ≡ x) × (result < 65536) }
-{
-    x as usize
-}
-
-pub fn wide32(x: u32) -> usize
-    ensures { (result ≡ x) × (result < 4294967296) }
-{
-    x as usize
-}
 
 // The byte at a place.
 pub fn byte_at(b: &[u8], i: usize) -> u8
