@@ -64,7 +64,7 @@ module _ (m : Monitor) where
   unfolding decided_from
   heard-fresh n = record { state = refl; count = refl; first = go (decides (m.verdict 0)) }
     where
-      go : (b : Bool) → cond (eqb (cond b 1 0) 0) None (Some 0) ≡ cond b (Some 0) None
+      go : (b : Bool) → cond {A = Option ℕ} (eqb (cond b 1 0) 0) None (Some 0) ≡ cond b (Some 0) None
       go true = refl
       go false = refl
 
@@ -73,7 +73,7 @@ module _ (m : Monitor) where
   first_one w s v = go (eqb w.filled 0) (decides v) refl
     where
       go : (a b : Bool) → eqb w.filled 0 ≡ a
-          → cond (eqb (cond (a && b) 1 w.filled) 0) None (Some (cond (a && b) (w.heard + 1) w.first)) ≡ noted (cond a None (Some w.first)) b (w.heard + 1)
+          → cond {A = Option ℕ} (eqb (cond (a && b) 1 w.filled) 0) None (Some (cond (a && b) (w.heard + 1) w.first)) ≡ noted (cond a None (Some w.first)) b (w.heard + 1)
       go true true q = refl
       go true false q = rw q
       go false b q = rw q
