@@ -3,9 +3,9 @@
 -- the table's monitor.
 use mathlib.Core.Path.{◌≡◌, refl, sym, ap, ◌∙◌}
 use mathlib.Core.List.{List, [], ◌∷◌}
-use mathlib.Core.Bool.{Bool, true, false}
+use mathlib.Core.Bool.{true}
 use Prim.Native.Nat.{ℕ, ◌<◌}
-use borrow.Author.Tests.{le-leb, lt-ltb, eq-eqb}
+use borrow.Author.Tests.{lt-ltb, eq-eqb}
 use denote.Ref.{Bor}
 use Rattle.meaning.specs.Traces.{Alphabet, Event, Word}
 use Rattle.meaning.specs.Monitors.{follow}
@@ -16,16 +16,16 @@ use Rattle.meaning.specs.Desks.{Outcome, refused, fresh_in, fresh_of, post_of, t
 use Rattle.meaning.specs.Recordings.{judged_in, judged_of}
 use Rattle.meaning.specs.declared.State.{State}
 use Rattle.meaning.specs.declared.Watch.{Watch}
-use Rattle.table_layout.proofs.Form.{event-test, states-some, table-header, table-inside}
+use Rattle.table_layout.proofs.Form.{event-test, table-inside}
 use Rattle.table_run.proofs.Answers.{refused-by, row-table, row-refused}
 use Rattle.openings.specs.Steps.{state_after, stepped_in}
-use Rattle.openings.proofs.Answers.{run-from-table, run-from-none, run-from-refused}
+use Rattle.openings.proofs.Answers.{run-from-table, run-from-refused}
 use Rattle.desk_tasks.specs.Surveys.{served_in, served_of}
 use Rattle.desk_tasks.specs.declared.Request.{Request}
 use Rattle.desk_tasks.specs.declared.Request.TheVariants.{Post, Turn}
 use Rattle.desk_tasks.proofs.Tables.{Agrees, served-agrees, fresh-agrees}
-use Rattle.recordings.proofs.Answers.{judged-table, judged-none, judged-refused}
-use Rattle.opened.specs.OpenedTables.{by_counts, opened_of, outcome_by, ran_by, row_by, stepped_by, stepped_all, judged_by, freshened_by, posted_by, turned_by}
+use Rattle.recordings.proofs.Answers.{judged-table, judged-refused}
+use Rattle.opened.specs.OpenedTables.{by_counts, opened_of, outcome_by, ran_by, row_by, stepped_all, judged_by, freshened_by, posted_by, turned_by}
 use Rattle.std.proofs.Common.{Result, Ok, Err}
 use Rattle.meaning.specs.declared.Counts.{Counts}
 use Rattle.meaning.specs.declared.Arrival.{Arrival}
