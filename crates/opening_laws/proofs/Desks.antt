@@ -21,7 +21,6 @@ use Rattle.meaning.specs.declared.Refusal.TheVariants.{WrongOpening}
 use Rattle.meaning.specs.declared.Verdict.{Verdict}
 use Rattle.meaning.specs.declared.State.{State}
 use Rattle.meaning.specs.declared.Served.{Served}
-use Rattle.meaning.specs.declared.Served.TheVariants as Served
 use Rattle.table_layout.proofs.Form.{states-some, table-header}
 use Rattle.desk_histories.proofs.Rows.{good-fresh, row-fits}
 use Rattle.desk_histories.proofs.Answers.{Σ, S, Fine}
