@@ -5,7 +5,7 @@ ghost use Rattle.std.specs.Prelude.{◌≡◌, true, ◌≤◌, eqb, length};
 ghost use Rattle.sequences.specs.Tabulate.{all_below};
 ghost use Rattle.meaning.specs.Bytes.{bit};
 ghost use Rattle.event_lists.specs.Bounds.{NoneAbove};
-ghost use Rattle.event_lists.specs.Masks.{all_in, first_outside};
+ghost use Rattle.event_lists.specs.Masks.{all_in, found_outside};
 
 use events::can_happen;
 
@@ -47,17 +47,17 @@ pub fn all_in(mask: u16, events: &[u8]) -> bool
     usize::from(most(events)) < full_below(mask) || each_in(mask, events)
 }
 
-// The index of the first event that the mask does not have, or the length.
-pub fn first_bad(mask: u16, events: &[u8]) -> usize
-    ensures { result ≡ first_outside mask events.now }
+// The index of the first event that the mask does not have, if there is one.
+pub fn first_bad(mask: u16, events: &[u8]) -> Option<usize>
+    ensures { result ≡ found_outside mask events.now }
 {
     if all_in(mask, events) {
-        return events.len();
+        return None;
     }
     for (i, event) in events.iter().enumerate() {
         if !can_happen(mask, usize::from(*event)) {
-            return i;
+            return Some(i);
         }
     }
-    events.len()
+    None
 }

@@ -4,7 +4,7 @@ use mathlib.Core.List.{List, [], ◌∷◌}
 use mathlib.Core.Bool.{Bool, true, false, cond}
 use Prim.Native.Nat.{ℕ, ◌^◌, ◌≤◌, ◌<◌}
 use native.Mathlib.Omega.{arith}
-use borrow.Author.Tests.{lt-ltb, le-ltb, leb-true, ltb-true, ne_eqb}
+use borrow.Author.Tests.{lt-ltb, le-ltb, leb-true, ltb-true, ltb-false, ne_eqb}
 use lib.Dec.{ltb}
 use lib.ListN.{length}
 use lib.Pow.{pow_mono}
@@ -14,15 +14,15 @@ use Rattle.meaning.specs.TableFiles.{counts_tests, verdict_of, verdict_byte, suc
 use Rattle.meaning.specs.Runs.{decided_from, first_bad, counts_fit, in_table, on_table, ran_in}
 use Rattle.meaning.specs.declared.Verdict.{Verdict}
 use Rattle.meaning.specs.declared.Refusal.{Refusal}
-use Rattle.meaning.specs.declared.Refusal.TheVariants.{WrongState, WrongTable}
+use Rattle.meaning.specs.declared.Refusal.TheVariants.{WrongEvent, WrongState, WrongTable}
 use Rattle.event_lists.specs.Bounds.{NoneAbove}
-use Rattle.event_lists.specs.Masks.{first_outside}
+use Rattle.event_lists.specs.Masks.{first_outside, found_outside}
 use Rattle.event_lists.proofs.Laws.{outside-bad, none_above}
 use Rattle.table_layout.specs.Masks.{MaskIn}
 use Rattle.run_loop.specs.Ends.{end_in}
 use Rattle.table_run.specs.Tables.{admission, shown_by}
 use Rattle.std.specs.Prelude.{⊤}
-use Rattle.std.proofs.Common.{Result, Ok, Err, Option}
+use Rattle.std.proofs.Common.{Result, Ok, Err, Option, Some, None, ap}
 use Rattle.meaning.specs.declared.Arrival.{Arrival}
 
 -- whether an event can happen, by its successor in the row of state 0
@@ -49,20 +49,37 @@ module _ (t : List ℕ) (P S s : ℕ) where
       go true false p q e = let z : ◌≡◌ {A = ℕ} 0 1 = cc in absurd (omega arith)
       go false b p q e = let z : ◌≡◌ {A = ℕ} 0 1 = cc in absurd (omega arith)
 
-  -- the answer of a run that starts, where b was found as the first event outside the mask
-  module _ (es : List ℕ) (a : Start) {m b : ℕ} (k : MaskIn t P m) (q : b ≡ first_outside m es) where
+  -- the answer of a run that starts, by the first event outside the mask, if one was found
+  module _ (es : List ℕ) (a : Start) {m : ℕ} (k : MaskIn t P m) where
     abbrev bad : ℕ
     bad = first_bad (alphabet_in t P) es
 
-    first : b ≡ bad
-    first = q ∙ outside-bad (alphabet_in t P) es m k.bits
+    first : first_outside m es ≡ bad
+    first = outside-bad (alphabet_in t P) es m k.bits
 
-    pub run_ends : (r : Result (Arrival ℕ) Refusal) → r ≡ end_in t P S s es → length es ≤ b → r ≡ ran_in t P S s es
-    run_ends r h l = rw (a.fits, lt-ltb s S a.inside, le-ltb bad (length es) (omega (arith, first, l))) h
+    none-bad : None ≡ found_outside m es → length es ≤ bad
+    none-bad e = go (ltb (first_outside m es) (length es)) refl e
+      where
+        go : (b : Bool) → ltb (first_outside m es) (length es) ≡ b → None ≡ cond b (Some (first_outside m es)) None → length es ≤ bad
+        go true p e = let z : ◌≡◌ {A = ℕ} 0 1 = cc in absurd (omega arith)
+        go false p e = omega (arith, first, ltb-false (first_outside m es) (length es) p)
+
+    pub run_ends : (r : Result (Arrival ℕ) Refusal) → r ≡ end_in t P S s es → None ≡ found_outside m es → r ≡ ran_in t P S s es
+    run_ends r h e = rw (a.fits, lt-ltb s S a.inside, le-ltb bad (length es) (none-bad e)) h
 
     -- the events are those that the rows of a run take
-    pub run_small : length es ≤ b → NoneAbove (length es) es 15
-    run_small l = none_above (alphabet_in t P) es (omega (arith, first, l)) (pow_mono {i = P} {j = 4} a.few)
+    pub run_small : None ≡ found_outside m es → NoneAbove (length es) es 15
+    run_small e = none_above (alphabet_in t P) es (none-bad e) (pow_mono {i = P} {j = 4} a.few)
+
+    pub run-outside : (i : ℕ) → Some i ≡ found_outside m es → Err (WrongEvent i) ≡ ran_in t P S s es
+    run-outside i e = go (ltb (first_outside m es) (length es)) refl e
+      where
+        go : (b : Bool) → ltb (first_outside m es) (length es) ≡ b → Some i ≡ cond b (Some (first_outside m es)) None → Err (WrongEvent i) ≡ ran_in t P S s es
+        go true p e =
+            let found : i ≡ first_outside m es = cc in
+            let l : bad < length es = omega (arith, first, ltb-true (first_outside m es) (length es) p) in
+            rw (a.fits, lt-ltb s S a.inside, lt-ltb bad (length es) l) (ap (λ (j : ℕ). Err (WrongEvent j)) (found ∙ first))
+        go false p e = let z : ◌≡◌ {A = ℕ} 0 1 = cc in absurd (omega arith)
 
   -- and of one event
   module _ (e : ℕ) (a : Start) where

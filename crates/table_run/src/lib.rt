@@ -42,8 +42,7 @@ pub fn run_in(
 {
     admit(t, signals, states, state)?;
     let mask = possible_mask(t, signals);
-    let bad = first_bad(mask, events);
-    if bad < events.len() {
+    if let Some(bad) = first_bad(mask, events) {
         return Err(Refusal::WrongEvent(bad));
     }
     // From so many events on it pays to copy the successors first.
