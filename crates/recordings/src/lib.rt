@@ -79,11 +79,11 @@ fn conclude(
 {
     if !inside {
         Err(Refusal::WrongTable)
-    } else if all_show(t, signals, states, members, Verdict::Satisfied) {
+    } else if all_show(t, signals, states, members, u8::from(Verdict::Satisfied)) {
         Ok(Verdict::Satisfied)
-    } else if all_show(t, signals, states, members, Verdict::Violated) {
+    } else if all_show(t, signals, states, members, u8::from(Verdict::Violated)) {
         Ok(Verdict::Violated)
-    } else if all_show(t, signals, states, members, Verdict::Moot) {
+    } else if all_show(t, signals, states, members, u8::from(Verdict::Moot)) {
         Ok(Verdict::Moot)
     } else {
         Ok(Verdict::Undecided)

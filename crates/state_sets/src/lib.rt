@@ -2,10 +2,8 @@
 #![tactic(auto)]
 
 ghost use Rattle.std.specs.Prelude.{◌≡◌, true, false, ◌≤◌, replicate, set};
-ghost use Rattle.meaning.specs.TableFiles.{verdict_number};
 ghost use Rattle.state_sets.specs.Sets.{Spread, Moved, all_show};
 
-use meaning::Verdict;
 use recorded_events::Choices;
 use run_parts::in_table;
 use table_layout::{row_at, successor_at};
@@ -64,14 +62,13 @@ pub fn advance(
     true
 }
 
-// Whether all members show a verdict.
-pub fn all_show(t: &[u8], signals: u8, states: u16, members: &[bool; 256], verdict: Verdict) -> bool
+// Whether all members have a verdict byte.
+pub fn all_show(t: &[u8], signals: u8, states: u16, members: &[bool; 256], verdict: u8) -> bool
     requires { (signals ≤ 4) × (states ≤ 256) }
-    ensures { result ≡ all_show t.now signals states members.now (verdict_number verdict) }
+    ensures { result ≡ all_show t.now signals states members.now verdict }
 {
-    let shown = u8::from(verdict);
     for state in 0..states {
-        if members[usize::from(state)] && byte_at(t, row_at(signals, state) + 4) != shown {
+        if members[usize::from(state)] && byte_at(t, row_at(signals, state) + 4) != verdict {
             return false;
         }
     }

@@ -1,8 +1,7 @@
 -- `state_sets::all_show` meets its contract.
 use Rattle.sequences.proofs.Loops.{Passed}
-use Rattle.meaning.specs.TableFiles.{verdict_number}
 use Rattle.state_sets.specs.Sets.{shows_byte}
 use Rattle.state_sets.proofs.all_show.Given as goal
 
 abbrev pub invariant-loop-state : goal.invariant-loop-state
-invariant-loop-state l = Passed l.state (shows_byte l.t l.signals l.members (verdict_number l.fn.verdict))
+invariant-loop-state l = Passed l.state (shows_byte l.t l.signals l.members l.verdict)
