@@ -24,7 +24,7 @@ use Rattle.text_pieces.specs.RefusalLine.{refusal_text, line_answer, line_after}
 use Rattle.table_text.specs.Text.{text_of, text_answer, text_after}
 use Rattle.table_printer.specs.Printing.{outcome_text, judgement_text, printed, print_answer, print_after}
 use Rattle.table_printer.proofs.Longest.{table-longest}
-use Rattle.std.proofs.Common.{Result}
+use Rattle.std.proofs.Common.{Result, Ok, Err}
 
 -- ---- after building
 

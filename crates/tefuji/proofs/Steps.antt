@@ -25,7 +25,7 @@ use Rattle.desk_tasks.proofs.Tables.{served-agrees, fresh-agrees}
 use Rattle.recordings.proofs.Answers.{judged-table, judged-none, judged-refused}
 use Rattle.codes.specs.declared.Opening.{Opening as Found}
 use Rattle.codes.specs.Codes.{refusal_code, state_code, state_in, opened_code, signals_of, number_of, states_of, start_code, opening_in, run_at, judge_at, fresh_at}
-use Rattle.std.proofs.Common.{Result, Err}
+use Rattle.std.proofs.Common.{Result, Ok, Err}
 use Rattle.meaning.specs.declared.Counts.{Counts}
 use Rattle.meaning.specs.declared.Arrival.{Arrival}
 
@@ -62,7 +62,7 @@ refused-large = ltb-true 4 (signals_of (refusal_code WrongTable)) refl
 large : (t : List ℕ) (x : Refusal) → checked_of t ≡ Err x → 4 < signals_of (refusal_code x)
 large t x k = go (is_table t) k
   where
-    go : (b : Bool) → cond b (Ok (record { signals = signals_in t; states = states_in t })) (Err WrongTable) ≡ Err x → 4 < signals_of (refusal_code x)
+    go : (b : Bool) → cond {A = Result Counts Refusal} b (Ok (record { signals = signals_in t; states = states_in t })) (Err WrongTable) ≡ Err x → 4 < signals_of (refusal_code x)
     go true q = let z : ◌≡◌ {A = ℕ} 0 1 = cc in absurd (omega arith)
     go false q =
         let e : WrongTable ≡ x = cc in
