@@ -1,6 +1,6 @@
-// Builds the rule files of a stream of cases on standard input: a two-byte length and the rule file, a two-byte length of the
-// output, a two-byte count and the events of a run. Writes a line for each case. A table is opened with its length as the
-// number.
+// Builds the rule files of a stream of cases on standard input: a two-byte length and the rule file, a two-byte
+// length of the output, a two-byte count and the events of a run. Writes a line for each case. A table is opened with
+// its length as the number.
 #![tactic(auto)]
 
 ghost use Rattle.std.specs.Prelude.{◌≤◌};

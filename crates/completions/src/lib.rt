@@ -1,2 +1,3 @@
-// Completions of two recordings with gaps, and the laws of what is answered of them. This crate holds definitions and proofs only.
+// Completions of two recordings with gaps, and the laws of what is answered of them. This crate holds definitions and
+// proofs only.
 #![tactic(auto)]

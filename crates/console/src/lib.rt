@@ -1,5 +1,6 @@
-// What the programs read and write: bytes and cases on standard input, and answers as text on standard output. What is read
-// and what is written no contract can say: a function that only writes has none, and its comment says what it writes.
+// What the programs read and write: bytes and cases on standard input, and answers as text on standard output. What
+// is read and what is written no contract can say: a function that only writes has none, and its comment says what it
+// writes.
 #![tactic(auto)]
 
 ghost use Rattle.std.specs.Prelude.{◌≡◌, ◌≤◌, length, take, IfOk, IfSome, OnErr};
@@ -10,8 +11,8 @@ use std::env::{Env, FillError};
 use std::io;
 use std::io::{Read, Write};
 
-// Reads until the buffer is full, the input ends or a read fails: how many bytes it put at the start of the buffer. A read that a signal interrupts
-// counts as one that failed.
+// Reads until the buffer is full, the input ends or a read fails: how many bytes it put at the start of the buffer. A
+// read that a signal interrupts counts as one that failed.
 pub fn read_full<R: Read>(input: &mut R, buffer: &mut [u8]) -> io::Result<usize>
     ensures { IfOk result (λ n. n ≤ length buffer.new) }
 {
@@ -83,8 +84,9 @@ pub fn arg_count<E: Env>(env: &E) -> usize
     3
 }
 
-// Fills the first n bytes from the input: whether there were n, in the buffer and in the input. Bytes past them are kept, and all in a buffer that
-// is too short. A read that fails, which only a buffer with room comes to, may have put some of the n there, and keeps the bytes past them too.
+// Fills the first n bytes from the input: whether there were n, in the buffer and in the input. Bytes past them are
+// kept, and all in a buffer that is too short. A read that fails, which only a buffer with room comes to, may have
+// put some of the n there, and keeps the bytes past them too.
 pub fn fill<R: Read>(input: &mut R, buffer: &mut [u8], n: usize) -> io::Result<bool>
     ensures filled { IfOk result (Filled n buffer.old buffer.new) }
     ensures begun { OnErr result (Begun n buffer.old buffer.new) }
@@ -106,8 +108,8 @@ pub fn front(buffer: &[u8], n: usize) -> &[u8]
     buffer
 }
 
-// The next part of a case: its length in two bytes, and so many bytes. None where the input ends before, or the buffer is too
-// short.
+// The next part of a case: its length in two bytes, and so many bytes. None where the input ends before, or the
+// buffer is too short.
 pub fn part<'b, R: Read>(input: &mut R, buffer: &'b mut [u8]) -> io::Result<Option<&'b [u8]>>
     ensures { IfOk result (λ found. IfSome found (λ bytes. length bytes.now ≤ 65535)) }
 {

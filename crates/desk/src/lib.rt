@@ -22,8 +22,8 @@ fn starts(t: &[u8], signals: u8, states: u16) -> bool
     counts_fit(t, signals, states) && in_table(t, signals, states, 0)
 }
 
-// Makes a fresh desk of the whole row, over the bytes of a table, its counts and the number of its opening, whatever they
-// are and whatever stood there: 14 and 18, or every watch is fresh.
+// Makes a fresh desk of the whole row, over the bytes of a table, its counts and the number of its opening, whatever
+// they are and whatever stood there: 14 and 18, or every watch is fresh.
 pub fn fresh<'d, 't>(
     desk: &'d mut [Watch],
     t: &'t [u8],

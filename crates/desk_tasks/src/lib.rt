@@ -48,9 +48,9 @@ impl Request {
     }
 }
 
-// What is asked over a table of these counts, and what a pass over a row of so many watches has found of it: the lowest
-// number of a watch that carries another opening's number, of one that does not fit, of one with an event waiting, and of
-// one with an event waiting that comes after the number last heard.
+// What is asked over a table of these counts, and what a pass over a row of so many watches has found of it: the
+// lowest number of a watch that carries another opening's number, of one that does not fit, of one with an event
+// waiting, and of one with an event waiting that comes after the number last heard.
 #[derive(Clone, Copy)]
 pub struct Task {
     pub request: Request,
@@ -239,8 +239,8 @@ fn way_fits(t: &[u8], signals: u8, states: u16, from: u16, to: u16) -> bool
     in_table(t, signals, states, from) & in_table(t, signals, states, to)
 }
 
-// The oldest event of the next watch is heard, or none waits. No watch that fits has an event waiting where no more can be
-// counted.
+// The oldest event of the next watch is heard, or none waits. No watch that fits has an event waiting where no more
+// can be counted.
 fn decide_turn(t: &[u8], s: Task, w: Watch, last: usize) -> Result<Service, Refusal>
     ensures { result ≡ turn_decided t.now s w last }
 {

@@ -29,7 +29,8 @@ fn full_below(mask: u16) -> usize
     }
 }
 
-// Whether the mask has all the events. It does not stop at one that is missing: most lists have none, and so it is faster.
+// Whether the mask has all the events. It does not stop at one that is missing: most lists have none, and so it is
+// faster.
 pub fn each_in(mask: u16, events: &[u8]) -> bool
     ensures { result ≡ all_in mask events.now }
 {

@@ -58,7 +58,8 @@ pub fn signal_on(event: u8, signal: u8) -> bool
     signal < 8 && (event >> signal) % 2 == 1
 }
 
-// Whether at least and at most so many of the signals in the mask are on, of the four that there can be: the ones of event and mask are counted.
+// Whether at least and at most so many of the signals in the mask are on, of the four that there can be: the ones of
+// event and mask are counted.
 pub fn at_least(event: u8, mask: u8, count: u8, upper: u8) -> bool
     ensures { result ≡ (leb count (count_on 4 mask event) && leb (count_on 4 mask event) upper) }
 {

@@ -18,7 +18,6 @@ use Rattle.meaning.specs.declared.Watch.{Watch}
 use Rattle.meaning.specs.declared.Served.{Served}
 use Rattle.std.specs.Prelude.{Result, Ok, Err, Option, Some, None}
 use Rattle.meaning.specs.declared.Arrival.{Arrival}
-use Rattle.std.specs.Prelude.{Result, Ok, Err, Option, Some, None}
 
 -- "each with its state and up to 32 waiting events, oldest first": of its slots the first `waiting`
 abbrev pub queue : Watch → List ℕ

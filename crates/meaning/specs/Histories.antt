@@ -7,7 +7,6 @@ use Rattle.meaning.specs.declared.Watch.{Watch}
 use Rattle.meaning.specs.declared.Served.{Served}
 use Rattle.std.specs.Prelude.{Result, Ok, Err}
 use Rattle.meaning.specs.declared.Refusal.{Refusal}
-use Rattle.std.specs.Prelude.{Result, Ok, Err}
 
 -- What is asked of a desk: an event posted to a number, or a turn.
 pub data Action : Type 0 where

@@ -155,8 +155,8 @@ impl fmt::Display for Refusal {
     }
 }
 
-// A node of a rule file: its kind, and the first two bytes of its body, 0 where the body has none. An "at least" has an upper count, which is 4
-// where its body does not say it; every other node has 0 there.
+// A node of a rule file: its kind, and the first two bytes of its body, 0 where the body has none. An "at least" has
+// an upper count, which is 4 where its body does not say it; every other node has 0 there.
 #[derive(Clone, Copy)]
 pub struct Node {
     pub kind: u8,
@@ -172,8 +172,8 @@ pub struct Header {
     pub nodes: u8,
 }
 
-// What stands between the first record of a rule file and its nodes: the mask of the events that can happen, and the place
-// where the nodes begin.
+// What stands between the first record of a rule file and its nodes: the mask of the events that can happen, and the
+// place where the nodes begin.
 #[derive(Clone, Copy)]
 pub struct Mask {
     pub mask: u16,
@@ -194,8 +194,8 @@ pub struct State {
     pub number: u16,
 }
 
-// Where a run arrives: the state, its verdict, and after how many events a verdict other than undecided was first shown. Of
-// an opened table it is a `State`; of a table's bytes, where the opening is not asked, the number of one.
+// Where a run arrives: the state, its verdict, and after how many events a verdict other than undecided was first
+// shown. Of an opened table it is a `State`; of a table's bytes, where the opening is not asked, the number of one.
 #[derive(Clone, Copy)]
 pub struct Arrival<S> {
     pub state: S,
@@ -210,10 +210,11 @@ pub struct StateRow {
     pub successors: [u16; 16],
 }
 
-// A watch of a desk: where the monitor of one tunnel stands and of which opening that state is, how many events it has heard, after how many of them a
-// verdict other than undecided first stood, and the events that wait for it. `first` counts where `filled` is not 0, and otherwise there is none yet. Of
-// the 32 slots the first `waiting` count, the oldest event in front; the others are free. It passes to other languages as it is, and whatever its bytes
-// are, it is a watch.
+// A watch of a desk: where the monitor of one tunnel stands and of which opening that state is, how many events it
+// has heard, after how many of them a verdict other than undecided first stood, and the events that wait for it.
+// `first` counts where `filled` is not 0, and otherwise there is none yet. Of the 32 slots the first `waiting` count,
+// the oldest event in front; the others are free. It passes to other languages as it is, and whatever its bytes are,
+// it is a watch.
 #[repr(C)]
 #[derive(Clone, Copy)]
 pub struct Watch {
@@ -226,8 +227,8 @@ pub struct Watch {
     pub events: [u8; 32],
 }
 
-// What a desk has done: the work; an event of a tunnel was heard, which led to a state with its verdict; or no tunnel has an
-// event waiting, and the number that was given.
+// What a desk has done: the work; an event of a tunnel was heard, which led to a state with its verdict; or no tunnel
+// has an event waiting, and the number that was given.
 #[derive(Clone, Copy)]
 pub enum Served {
     Done,

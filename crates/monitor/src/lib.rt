@@ -55,8 +55,8 @@ fn construct(rule: &Rule, table: &mut [u8]) -> Result<usize, Refusal>
     finish(signals, mask, &states, table)
 }
 
-// Builds the table of a rule file at the front of `table`. The answer is the table's length, or the refusal: 1 to 9 or 17 by
-// the file, then 11, then 10. Bytes past the table, and on a refusal all bytes, keep their values.
+// Builds the table of a rule file at the front of `table`. The answer is the table's length, or the refusal: 1 to 9
+// or 17 by the file, then 11, then 10. Bytes past the table, and on a refusal all bytes, keep their values.
 pub fn build(rule: &[u8], table: &mut [u8]) -> Result<usize, Refusal>
     ensures answer { result ≡ answer_of (judge rule.now) table.old }
     ensures output { table.new ≡ output_after (judge rule.now) table.old }

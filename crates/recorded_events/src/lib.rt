@@ -1,4 +1,5 @@
-// One recorded event: whether its bytes fit, whether two contradict each other, the two joined, and the possible events that agree with it.
+// One recorded event: whether its bytes fit, whether two contradict each other, the two joined, and the possible
+// events that agree with it.
 #![tactic(auto)]
 
 ghost use Rattle.std.specs.Prelude.{◌≡◌, true, ◌+◌, ◌*◌, ◌^◌, ◌≤◌, ◌<◌, length, take};

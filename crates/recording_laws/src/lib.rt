@@ -1,2 +1,3 @@
-// What document 02 says of two recordings, over every table and all recordings. This crate holds definitions and proofs only.
+// What document 02 says of two recordings, over every table and all recordings. This crate holds definitions and
+// proofs only.
 #![tactic(auto)]

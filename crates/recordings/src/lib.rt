@@ -1,4 +1,5 @@
-// Two recordings with gaps, joined and judged over all completions: one pass with the set of the states that completions reach.
+// Two recordings with gaps, joined and judged over all completions: one pass with the set of the states that
+// completions reach.
 #![tactic(auto)]
 
 ghost use Rattle.std.specs.Prelude.{◌≡◌, true, ◌+◌, ◌*◌, ◌^◌, ◌≤◌, ◌<◌, length};
@@ -37,8 +38,8 @@ fn hear_joined(
     Ok(advance(t, signals, states, &from, &choices, members))
 }
 
-// Hears the events with an index, and answers as one joined event does: 12 where one of the two does not fit, 23 where they
-// contradict each other, 12 where nothing possible agrees with both.
+// Hears the events with an index, and answers as one joined event does: 12 where one of the two does not fit, 23
+// where they contradict each other, 12 where nothing possible agrees with both.
 fn hear(
     t: &[u8],
     signals: u8,
@@ -112,8 +113,8 @@ fn lengths_fit(a: &[u8], b: &[u8]) -> bool
     (a.len() == b.len()) & (a.len() % 2 == 0)
 }
 
-// Judges two recordings over bytes and counts: 14 for counts and length; 22; event by event 12, 23 and 12; and 14 where the
-// way of a completion leaves the table.
+// Judges two recordings over bytes and counts: 14 for counts and length; 22; event by event 12, 23 and 12; and 14
+// where the way of a completion leaves the table.
 pub fn judge_in(t: &[u8], signals: u8, states: u16, a: &[u8], b: &[u8]) -> Result<Verdict, Refusal>
     ensures { result ≡ judged_in t.now signals states a.now b.now }
 {

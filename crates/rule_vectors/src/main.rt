@@ -1,5 +1,5 @@
-// Reads rule files from standard input, each after its length in two bytes, and prints a line for each: the rule, its mask
-// after its signals, or its refusal.
+// Reads rule files from standard input, each after its length in two bytes, and prints a line for each: the rule, its
+// mask after its signals, or its refusal.
 #![tactic(auto)]
 
 use console::part;

@@ -24,7 +24,8 @@ fn answer<W: Write>(out: &mut W, table: &[u8], events: &[u8]) -> io::Result<()> 
 
 // Reads the table and answers. A failed read is said on standard error, and nothing is answered.
 fn read_and_answer(rt: &HostRuntime, events: &[u8]) -> io::Result<()> {
-    // What is taken: the first 9,479 bytes of standard input, as many as the longest table has, or all if there are fewer.
+    // What is taken: the first 9,479 bytes of standard input, as many as the longest table has, or all if there are
+    // fewer.
     let mut table = [0u8; 9479];
     match read_full(&mut rt.stdin(), &mut table) {
         Ok(n) => answer(&mut rt.stdout(), front(&table, n), events),

@@ -1,2 +1,3 @@
-// Lists made by index, tests over every index, and the laws of loops over them. This crate holds definitions and proofs only.
+// Lists made by index, tests over every index, and the laws of loops over them. This crate holds definitions and
+// proofs only.
 #![tactic(auto)]

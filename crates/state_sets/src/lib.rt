@@ -1,4 +1,5 @@
-// Sets of a table's states: the start alone, the states that one of several events leads to, and whether all show one verdict.
+// Sets of a table's states: the start alone, the states that one of several events leads to, and whether all show one
+// verdict.
 #![tactic(auto)]
 
 ghost use Rattle.std.specs.Prelude.{◌≡◌, true, false, ◌≤◌, replicate, set};
@@ -41,7 +42,8 @@ fn spread(
     true
 }
 
-// The states to which one of the events chosen leads from a member of a set. Answers whether each of them is in the table.
+// The states to which one of the events chosen leads from a member of a set. Answers whether each of them is in the
+// table.
 pub fn advance(
     t: &[u8],
     signals: u8,

@@ -9,8 +9,8 @@ use table_text::table_text;
 use text_pieces::refusal_text;
 
 // Builds the table of a rule file and writes its text at the front of `text`, or the line of the refusal, and answers
-// the length of what it wrote; or 10 where `text` has fewer than 32,768 bytes, with every byte as it was. Bytes past the
-// text are kept.
+// the length of what it wrote; or 10 where `text` has fewer than 32,768 bytes, with every byte as it was. Bytes past
+// the text are kept.
 pub fn print_rule(rule: &[u8], text: &mut [u8]) -> Result<usize, Refusal>
     ensures answer { result ≡ print_answer rule.now text.old }
     ensures output { text.new ≡ print_after rule.now text.old }

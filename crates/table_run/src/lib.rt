@@ -14,8 +14,8 @@ use run_parts::{decides_at, in_table, successors_of};
 use table_file::content_fits;
 use table_layout::{counts_fit, possible_mask, successor_at, verdict_at};
 
-// Whether a run may start, or a row be read: 14 for counts that no table has, which those of a refused opening, 0 and
-// 0, are, and for bytes that are not as many as that table's; then 13 for a state that is none.
+// Whether a run may start, or a row be read: 14 for counts that no table has, which those in a number that is no
+// opening's, 0 and 0, are, and for bytes that are not as many as that table's; then 13 for a state that is none.
 fn admit(t: &[u8], signals: u8, states: u16, state: u16) -> Result<(), Refusal>
     ensures { result ≡ admission t.now signals states state }
 {

@@ -1,6 +1,6 @@
-// Checks, runs, steps and rewrites the tables of a stream of cases on standard input: a two-byte length and the table, a
-// two-byte state, a two-byte count and the events. Writes a line for each case. A table is opened with its length as the
-// number; the same state with another number is refused by 24, whatever state and events are.
+// Checks, runs, steps and rewrites the tables of a stream of cases on standard input: a two-byte length and the
+// table, a two-byte state, a two-byte count and the events. Writes a line for each case. A table is opened with its
+// length as the number; the same state with another number is refused by 24, whatever state and events are.
 #![tactic(auto)]
 
 ghost use Rattle.std.specs.Prelude.{◌≤◌};
@@ -11,8 +11,8 @@ use std::io;
 use std::io::{Read, Write};
 use table_layout::{possible_mask, row_at, successor_at};
 
-// A state's row, read from the table. In a checked table a successor is below 256 where its event can happen; what else is
-// read is not written again.
+// A state's row, read from the table. In a checked table a successor is below 256 where its event can happen; what
+// else is read is not written again.
 fn row_of(t: &[u8], signals: u8, state: u16) -> [u8; 16]
     requires { signals ≤ 4 }
 {
@@ -30,8 +30,8 @@ fn kept(a: &[u8], b: &[u8]) -> bool {
         .all(|(i, byte)| *byte == wire::byte_at(b, i))
 }
 
-// Whether the table comes out the same when it is written from its rows, verdicts and possible events, with the bytes past
-// it kept.
+// Whether the table comes out the same when it is written from its rows, verdicts and possible events, with the bytes
+// past it kept.
 fn rewritten(t: &[u8], signals: u8, states: u16) -> bool
     requires { (signals ≤ 4) × (states ≤ 256) }
 {

@@ -72,7 +72,8 @@ fn put_rows(
     }
 }
 
-// The table's bytes at the front of the output and its length, or 10 and every byte of the output as it was. Bytes past the table are kept.
+// The table's bytes at the front of the output and its length, or 10 and every byte of the output as it was. Bytes
+// past the table are kept.
 pub fn write(
     out: &mut [u8],
     signals: u8,

@@ -1,5 +1,5 @@
-// What other languages call; include/tefuji.h says it for C. A slice passes as a pointer and a length. An answer is one number: what was asked
-// for, or a refusal with its number in the top byte and its place below.
+// What other languages call; include/tefuji.h says it for C. A slice passes as a pointer and a length. An answer is
+// one number: what was asked for, or a refusal with its number in the top byte and its place below.
 #![tactic(auto)]
 
 ghost use Rattle.std.specs.Prelude.{◌≡◌};
@@ -134,7 +134,8 @@ pub extern "C" fn tefuji_post<'d, 't>(
     ))
 }
 
-// Hears the oldest event of the next watch after the number last heard. Answers what was heard, or 0 where no event waits.
+// Hears the oldest event of the next watch after the number last heard. Answers what was heard, or 0 where no event
+// waits.
 #[unsafe(no_mangle)]
 pub extern "C" fn tefuji_turn<'d, 't>(
     desk: &'d mut [Watch],

@@ -116,8 +116,8 @@ fn advance(mode: Mode, deep: usize, b: u8) -> Option<Step>
 
 // ---- the text
 
-// Stores the signs of a text of at most 1,024 bytes at the front of `signs`: `Ok` is how many there are, `Err` the place
-// of the fault.
+// Stores the signs of a text of at most 1,024 bytes at the front of `signs`: `Ok` is how many there are, `Err` the
+// place of the fault.
 #[tactic(auto, using(crate::proofs::Laws::pass))]
 pub fn scan(text: &[u8], signs: &mut [u8]) -> Result<usize, usize>
     requires { (length text.now ≤ 1024) × (length text.now ≤ length signs.old) }

@@ -1,6 +1,6 @@
-// Writes the rule files of a stream of texts on standard input: a two-byte length and the text, a byte for the number of
-// signals, a two-byte length of the output. Writes a line for each: the rule file's length or the refusal, and the whole
-// output in hexadecimal.
+// Writes the rule files of a stream of texts on standard input: a two-byte length and the text, a byte for the number
+// of signals, a two-byte length of the output. Writes a line for each: the rule file's length or the refusal, and the
+// whole output in hexadecimal.
 #![tactic(auto)]
 
 use console::{fill, number, part};

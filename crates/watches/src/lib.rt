@@ -113,8 +113,8 @@ fn moved_up(events: [u8; 32]) -> [u8; 32]
     up
 }
 
-// The watch without its oldest event, which was heard and led to this state with this verdict. Where no number is filled,
-// a verdict that stands fills it: it stood first after so many events.
+// The watch without its oldest event, which was heard and led to this state with this verdict. Where no number is
+// filled, a verdict that stands fills it: it stood first after so many events.
 pub fn without_oldest(w: Watch, state: u16, verdict: Verdict) -> Watch
     requires { w.heard < 4294967295 }
     ensures { result ≡ without_oldest w state verdict }

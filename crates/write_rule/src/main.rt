@@ -1,5 +1,6 @@
-// Writes the rule file of a rule's text: the number of signals is the argument, the text is read from standard input, and the
-// rule file goes to standard output. A refusal goes to standard error, with the text and a mark under the refusal's place.
+// Writes the rule file of a rule's text: the number of signals is the argument, the text is read from standard input,
+// and the rule file goes to standard output. A refusal goes to standard error, with the text and a mark under the
+// refusal's place.
 #![tactic(auto)]
 
 use console::{arg_count, front, read_full, say_failure};
