@@ -85,6 +85,7 @@ fn classify(keys: &KeyTable, full: &Key) -> [u8; 256]
 
 /// The states that the rule's remaining properties make, by the tables of its m temporal nodes and the mask of the
 /// events that can happen; or none if there are more than 256.
+#[inline(never)]
 pub fn explore(
     signals: u8,
     mask: u16,

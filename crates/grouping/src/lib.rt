@@ -138,6 +138,7 @@ fn row_of(successors: &Successors<'_>, numbers: &[u8; 256], s: u8) -> [u8; 16]
 // Makes of a machine the smallest one that shows the same: how many states it has, and the verdict byte and the row of
 // successors of each, from the front of the arrays. Events that cannot happen are led to state 0 first: there they tell
 // no states apart, and in the rows they have 0, the number of its group.
+#[inline(never)]
 pub fn reduce(
     signals: u8,
     mask: u16,

@@ -41,6 +41,7 @@ fn mark_all(whole: &mut [bool; 256], tables: &Tables<'_>, real: &[bool; 128])
 // The tables of a rule's residual system: the profile by event and next label, and which profiles the continuations
 // have.
 // Returns the number m of temporal nodes; there are 2^m labels.
+#[inline(never)]
 pub fn tables(
     signals: u8,
     mask: u16,

@@ -22,7 +22,7 @@ use Rattle.exploration.proofs.Explored.{explored-same}
 use Rattle.exploration.specs.Answers.{explore_keys, ExploredAs, Explores}
 use Rattle.building.specs.Build.{outcome_of, answer_to, output_of, answer_of, output_after}
 use Rattle.rule_file.specs.Reading.{rule_in}
-use Rattle.monitor.specs.Parts.{Finished}
+use Rattle.monitor.specs.Parts.{Finished, Walks}
 use Rattle.monitor.proofs.Walking.{tables_for, class_list, closes, goes-beyond, machine-in, agrees}
 use Rattle.monitor.proofs.Writing.{bytes-are, answer_is, output-is}
 use Rattle.std.proofs.Common.{Result, Err, Option, Some, None}
@@ -33,10 +33,6 @@ use Rattle.meaning.specs.declared.Refusal.{Refusal}
 pub record Answers (r : Rule) (before : List ℕ) (b : Result ℕ Refusal) (after : List ℕ) : Type 0 where
   pub answer : b ≡ answer_of (Judgement.Accepted r) before
   pub output : after ≡ output_after (Judgement.Accepted r) before
-
--- the walk over a rule's keys met these states, or too many
-pub record Walks (r : Rule) (found : Option States) : Type 0 where
-  pub is : Explores r.signals r.mask (tables_for r) found
 
 -- the walk closed with these states
 record Found (r : Rule) (s : States) : Type 0 where

@@ -8,7 +8,7 @@ ghost use Rattle.moore.specs.Grouping.{Machine};
 ghost use Rattle.smallest.proofs.Accepted.{Formed};
 ghost use Rattle.building.specs.Build.{answer_of, output_after, Right};
 ghost use Rattle.rule_file.specs.Reading.{rule_in};
-ghost use Rattle.monitor.specs.Parts.{Finished};
+ghost use Rattle.monitor.specs.Parts.{Finished, Walks};
 
 use exploration::{States, explore};
 use meaning::Refusal;
@@ -34,6 +34,20 @@ fn finish(signals: u8, mask: u16, states: &States, table: &mut [u8]) -> Result<u
     table_writer::write(table, signals, mask, groups, &verdicts, &to)
 }
 
+// The same of the states that the walk found, if they are not too many. A function of its own, as a build has little stack:
+// the walk's and the writer's arrays are not there at once.
+#[inline(never)]
+fn conclude(rule: &Rule, found: Option<States>, table: &mut [u8]) -> Result<usize, Refusal>
+    requires { Formed (rule_in rule.now.signals rule.now.mask rule.now.count rule.now.nodes) × Walks (rule_in rule.now.signals rule.now.mask rule.now.count rule.now.nodes) found }
+    ensures value { result ≡ answer_of (Accepted (rule_in rule.now.signals rule.now.mask rule.now.count rule.now.nodes)) table.old }
+    ensures table_after { table.new ≡ output_after (Accepted (rule_in rule.now.signals rule.now.mask rule.now.count rule.now.nodes)) table.old }
+{
+    match found {
+        Some(states) => finish(rule.signals, rule.mask, &states, table),
+        None => Err(Refusal::TooManyResiduals),
+    }
+}
+
 // Builds the table of an accepted rule: the tables of its residuals, the walk over them, and what follows.
 fn construct(rule: &Rule, table: &mut [u8]) -> Result<usize, Refusal>
     requires { Formed (rule_in rule.now.signals rule.now.mask rule.now.count rule.now.nodes) × (rule.now.count ≤ 64) }
@@ -49,10 +63,8 @@ fn construct(rule: &Rule, table: &mut [u8]) -> Result<usize, Refusal>
     let mut profiles = [[0; 128]; 16];
     let mut whole = [false; 256];
     let m = labelling::tables(signals, mask, count, nodes, &mut profiles, &mut whole);
-    let Some(states) = explore(signals, mask, m, &profiles, &whole) else {
-        return Err(Refusal::TooManyResiduals);
-    };
-    finish(signals, mask, &states, table)
+    let found = explore(signals, mask, m, &profiles, &whole);
+    conclude(rule, found, table)
 }
 
 // Builds the table of a rule file at the front of `table`. The answer is the table's length, or the refusal: 1 to 9

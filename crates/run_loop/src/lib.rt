@@ -14,7 +14,10 @@ use table_layout::verdict_at;
 fn noted(first: Option<usize>, shows: bool, count: usize) -> Option<usize>
     ensures { result ≡ noted_of first shows count }
 {
-    first.or(shows.then_some(count))
+    match first {
+        None if shows => Some(count),
+        _ => first,
+    }
 }
 
 // Where a run ends, by the copied rows where they have a successor; 14 where its way leaves the table.
@@ -50,8 +53,9 @@ pub fn ended(
     }
 }
 
-// The same, with the rows copied first where there are none. The compiler does not merge a function that calls itself
-// into its caller, so a run that copies no rows has no room for them on the stack.
+// The same, with the rows copied first where there are none. It stays a function of its own, so that a run that copies no
+// rows has no room for them on the stack.
+#[inline(never)]
 pub fn ended_by_rows(
     t: &[u8],
     rows: &[u16],
@@ -67,7 +71,7 @@ pub fn ended_by_rows(
     if rows.is_empty() {
         let mut made = [0; 4096];
         fill_rows(t, signals, &mut made);
-        ended_by_rows(t, &made, signals, states, state, events)
+        ended(t, &made, signals, states, state, events)
     } else {
         ended(t, rows, signals, states, state, events)
     }
