@@ -1,5 +1,5 @@
 -- A relation in words: row x is the word x, of 128 bits.
-use mathlib.Core.Path.{◌≡◌, refl, ap, ◌∙◌}
+use mathlib.Core.Path.{◌≡◌, refl, sym, ap, ◌∙◌}
 use mathlib.Core.Bool.{Bool, true, false, ◌||◌}
 use mathlib.Core.List.{List}
 use Prim.Native.Nat.{ℕ, ◌^◌, ◌<◌}
@@ -70,4 +70,12 @@ row-passed {test} {w} {x} {A} {m} long l e = record {
   long = length-set m x (bit_or (get_or m x 0) A) ∙ long;
   row = λ y. ap (λ (B : ℕ). on B y) (get_or-set_same m x (bit_or (get_or m x 0) A) 0 (omega arith)) ∙ joined-if test A w (get_or m x 0) y e;
   others = λ v y n. ap (λ (B : ℕ). on B y) (get_or-set_other m x v (bit_or (get_or m x 0) A) 0 n);
+}
+
+-- the row is as it was where the test fails
+pub row-kept : {test : Bool} {w x : ℕ} {m : List ℕ} → length m ≡ 128 → test ≡ false → RowPassed test w x m m
+row-kept {test} {w} {x} {m} long e = record {
+  long = long;
+  row = λ y. ap (λ (t : Bool). elim t [ true ↦ on w y || entry m x y | false ↦ entry m x y ]) (sym e);
+  others = λ v y n. refl;
 }

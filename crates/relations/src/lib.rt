@@ -100,8 +100,9 @@ impl Relation {
         }
         let row = self.rows[k];
         for x in 0..labels {
-            let more = if self.has(x, k) { row } else { 0 };
-            self.rows[x] |= more;
+            if self.has(x, k) {
+                self.rows[x] |= row;
+            }
         }
     }
 
