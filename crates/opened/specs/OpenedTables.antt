@@ -1,6 +1,7 @@
 -- "Opening and running", of a table that is opened once.
-use Rattle.std.specs.Prelude.{List, [], ◌∷◌, ℕ, Result, Ok, Err}
+use Rattle.std.specs.Prelude.{List, [], ◌∷◌, cond, ℕ, leb, Option, Some, None, Result, Ok, Err}
 use Rattle.std.specs.Borrow.{Bor}
+use Rattle.std.specs.Result.{result_ok}
 use Rattle.meaning.specs.TableFiles.{checked_of}
 use Rattle.meaning.specs.Runs.{row_in}
 use Rattle.meaning.specs.Openings.{state_of, run_from_in}
@@ -9,6 +10,7 @@ use Rattle.meaning.specs.Recordings.{judged_in}
 use Rattle.meaning.specs.declared.Arrival.{Arrival}
 use Rattle.meaning.specs.declared.Counts.{Counts}
 use Rattle.meaning.specs.declared.Refusal.{Refusal}
+use Rattle.meaning.specs.declared.Refusal.TheVariants.{WrongTable}
 use Rattle.meaning.specs.declared.State.{State}
 use Rattle.meaning.specs.declared.StateRow.{StateRow}
 use Rattle.meaning.specs.declared.Verdict.{Verdict}
@@ -17,18 +19,27 @@ use Rattle.openings.specs.Steps.{stepped_in}
 use Rattle.opened.specs.declared.Opened.{Opened}
 
 -- "A checked table is opened once and stepped many times from the caller's own bytes." "Opening checks the bytes and
--- refuses by 14". Document 02, C-18: "Opening now takes a 16-bit number of the caller's choice."
+-- refuses by 14": the counts that checking found, and none where it refused. Document 02, C-18: "Opening now takes a
+-- 16-bit number of the caller's choice."
 abbrev pub opened_of : Bor (List ℕ) → ℕ → Opened
-opened_of x n = record { bytes = x; found = checked_of x.now; number = n }
+opened_of x n = record { bytes = x; found = result_ok (checked_of x.now); number = n }
 
--- what checking found
+-- what is done with the counts, and what where opening refused, which was by 14
+abbrev pub by_counts : {A : Type 0} → Option Counts → (Refusal → A) → (Counts → A) → A
+by_counts (Some c) refuse f = f c
+by_counts None refuse f = refuse WrongTable
+
+-- what checking found, from its counts: "S (two bytes), the number of states, 1 to 256"
+abbrev pub outcome_in : Counts → Result Counts Refusal
+outcome_in c = cond (leb 1 c.states) (Ok c) (Err WrongTable)
+
 abbrev pub outcome_by : Opened → Result Counts Refusal
-outcome_by t = t.found
+outcome_by t = by_counts t.found Err outcome_in
 
--- what is done with the counts, and what where opening refused
-abbrev pub by_counts : {A : Type 0} → Result Counts Refusal → (Refusal → A) → (Counts → A) → A
-by_counts (Ok c) refuse f = f c
-by_counts (Err x) refuse f = refuse x
+-- the counts as two numbers, 0 and 0 where opening refused, which no table has
+abbrev pub counts_of : Option Counts → Counts
+counts_of (Some c) = c
+counts_of None = record { signals = 0; states = 0 }
 
 -- "a start", which carries the opening's number
 abbrev pub start_by : Opened → State

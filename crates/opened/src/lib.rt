@@ -13,12 +13,12 @@ use meaning::{Arrival, Counts, Refusal, Served, State, StateRow, Verdict, Watch}
 
 // ---- over an opened table
 
-// An opened table: the caller's bytes, what opening found and the number that the caller chose, in private fields, so
-// that only `open` makes one.
+// An opened table: the caller's bytes, the counts that opening found, none where it refused, and the number that the
+// caller chose, in private fields, so that only `open` makes one.
 #[derive(Clone, Copy)]
 pub struct Opened<'a> {
     bytes: &'a [u8],
-    found: Result<Counts, Refusal>,
+    found: Option<Counts>,
     number: u16,
 }
 
@@ -28,16 +28,19 @@ pub fn open<'a>(bytes: &'a [u8], number: u16) -> Opened<'a>
 {
     Opened {
         bytes,
-        found: table_file::check(bytes),
+        found: table_file::check(bytes).ok(),
         number,
     }
 }
 
-// What opening found: the counts, or refusal 14.
+// What opening found: the counts, or refusal 14. No table has 0 states.
 pub fn outcome<'a>(t: Opened<'a>) -> Result<Counts, Refusal>
     ensures { result ≡ outcome_by t.entry }
 {
-    t.found
+    match t.found {
+        Some(counts) if 1 <= counts.states => Ok(counts),
+        _ => Err(Refusal::WrongTable),
+    }
 }
 
 // The start: state 0, with the number of the opening.
@@ -51,7 +54,7 @@ pub fn start<'a>(t: Opened<'a>) -> State
 pub fn step<'a>(t: Opened<'a>, state: State, event: u8) -> Result<Arrival<State>, Refusal>
     ensures { result ≡ stepped_by t.entry state event }
 {
-    let counts = t.found?;
+    let counts = t.found.ok_or(Refusal::WrongTable)?;
     openings::step_from(
         t.bytes,
         counts.signals,
@@ -67,7 +70,7 @@ pub fn step<'a>(t: Opened<'a>, state: State, event: u8) -> Result<Arrival<State>
 pub fn row<'a>(t: Opened<'a>, state: u16) -> Result<StateRow, Refusal>
     ensures { result ≡ row_by t.entry state }
 {
-    let counts = t.found?;
+    let counts = t.found.ok_or(Refusal::WrongTable)?;
     table_run::row_in(t.bytes, counts.signals, counts.states, state)
 }
 
@@ -76,7 +79,7 @@ pub fn row<'a>(t: Opened<'a>, state: u16) -> Result<StateRow, Refusal>
 pub fn run<'a, 'e>(t: Opened<'a>, state: State, events: &'e [u8]) -> Result<Arrival<State>, Refusal>
     ensures { result ≡ ran_by t.entry state events.now }
 {
-    let counts = t.found?;
+    let counts = t.found.ok_or(Refusal::WrongTable)?;
     openings::run_from(
         t.bytes,
         counts.signals,
@@ -92,7 +95,7 @@ pub fn step_all<'a, 'e>(t: Opened<'a>, state: State, events: &'e [u8]) -> State
     ensures { result ≡ stepped_all t.entry state events.now }
 {
     match t.found {
-        Ok(counts) => {
+        Some(counts) => {
             openings::step_all_from(
                 t.bytes,
                 counts.signals,
@@ -102,7 +105,7 @@ pub fn step_all<'a, 'e>(t: Opened<'a>, state: State, events: &'e [u8]) -> State
                 events,
             )
         }
-        Err(_) => state,
+        None => state,
     }
 }
 
@@ -115,7 +118,7 @@ pub fn judge_recordings<'a, 'x, 'y>(
 ) -> Result<Verdict, Refusal>
     ensures { result ≡ judged_by t.entry first.now second.now }
 {
-    let counts = t.found?;
+    let counts = t.found.ok_or(Refusal::WrongTable)?;
     recordings::judge_in(t.bytes, counts.signals, counts.states, first, second)
 }
 
@@ -125,7 +128,7 @@ pub fn judge_recordings<'a, 'x, 'y>(
 pub fn fresh<'d, 'a>(desk: &'d mut [Watch], t: Opened<'a>) -> Result<Served, Refusal>
     ensures { (result ≡ (freshened_by t.entry desk.old).answer) × (desk.new ≡ (freshened_by t.entry desk.old).desk) }
 {
-    let counts = t.found?;
+    let counts = t.found.ok_or(Refusal::WrongTable)?;
     desk::fresh(desk, t.bytes, counts.signals, counts.states, t.number)
 }
 
@@ -138,7 +141,7 @@ pub fn post<'d, 'a>(
 ) -> Result<Served, Refusal>
     ensures { (result ≡ (posted_by t.entry desk.old number event).answer) × (desk.new ≡ (posted_by t.entry desk.old number event).desk) }
 {
-    let counts = t.found?;
+    let counts = t.found.ok_or(Refusal::WrongTable)?;
     let request = post_request(t.number, number, event);
     serve(desk, t.bytes, counts.signals, counts.states, request)
 }
@@ -148,7 +151,7 @@ pub fn post<'d, 'a>(
 pub fn turn<'d, 'a>(desk: &'d mut [Watch], t: Opened<'a>, last: usize) -> Result<Served, Refusal>
     ensures { (result ≡ (turned_by t.entry desk.old last).answer) × (desk.new ≡ (turned_by t.entry desk.old last).desk) }
 {
-    let counts = t.found?;
+    let counts = t.found.ok_or(Refusal::WrongTable)?;
     serve(
         desk,
         t.bytes,
