@@ -13,7 +13,11 @@ use events::can_happen;
 fn most(events: &[u8]) -> u8
     ensures { NoneAbove (length events.now) events.now result }
 {
-    events.iter().copied().max().unwrap_or(0)
+    let mut top = 0;
+    for event in events {
+        top = top.max(*event);
+    }
+    top
 }
 
 // A number below which the mask has every event: how many there are, where it has all of one to four signals.
