@@ -16,7 +16,7 @@ pub returns : goal.returns
 unfolding fault_text
 returns c =
     let long : 4096 ≤ length c.args.out.now = omega (arith, c.if-out-lt4096.false) in
-    let line = line-put c.args.refusal c.args.out.now long _ c.in_ok-line.line c.in_ok-line.ensures.upper_bound c.in_ok-line.ensures.value c.in_ok-line.ensures.out_after in
+    let line = line-put c.args.refusal c.args.out.now long _ c.in_ok-line.line (omega (arith, c.place.ensures, c.place.type_inv)) c.in_ok-line.ensures.value c.in_ok-line.ensures.out_after in
     let below = put_is c.put_marked.ensures.put (marked c.args.text.now (code_of c.args.refusal).1) (ap (λ (k : ℕ). marked c.args.text.now k) c.place.ensures) in
     let h = put-more line below in
     let room = le-leb 4096 (length c.args.out.now) long in
