@@ -1,10 +1,11 @@
 // What the programs read and write: bytes and cases on standard input, and answers as text on standard output. What
-// is read and what is written no contract can say: a function that only writes has none, and its comment says what it
-// writes.
+// standard input gives and what is written no contract can say: one that reads says what it takes of a reader whose
+// bytes are known, and a function that only writes has none, and its comment says what it writes.
 #![tactic(auto)]
 
-ghost use Rattle.std.specs.Prelude.{◌≡◌, ◌≤◌, length, take, IfOk, IfSome, OnErr};
-ghost use Rattle.console.specs.Input.{Filled, Begun};
+ghost use Rattle.std.specs.Prelude.{◌≡◌, ◌≤◌, true, length, take, IfOk, IfSome, OnErr};
+ghost use Rattle.std.specs.Io.KnownBytes.{Consumes};
+ghost use Rattle.console.specs.Input.{Filled, Begun, NumberRead, PartRead};
 
 use meaning::{Arrival, Refusal, State};
 use std::env::{Env, FillError};
@@ -14,7 +15,8 @@ use std::io::{Read, Write};
 // Reads until the buffer is full, the input ends or a read fails: how many bytes it put at the start of the buffer. A
 // read that a signal interrupts counts as one that failed.
 pub fn read_full<R: Read>(input: &mut R, buffer: &mut [u8]) -> io::Result<usize>
-    ensures { IfOk result (λ n. n ≤ length buffer.new) }
+    ensures upper_bound { IfOk result (λ n. n ≤ length buffer.new) }
+    ensures known { IfOk result (λ n. Consumes (R.remaining input.old) (R.remaining input.new) (take n buffer.new)) }
 {
     let mut done: usize = 0;
     while done < buffer.len() {
@@ -28,7 +30,9 @@ pub fn read_full<R: Read>(input: &mut R, buffer: &mut [u8]) -> io::Result<usize>
 }
 
 // The next two bytes as a number, low byte first; none where the input has ended.
-pub fn number<R: Read>(input: &mut R) -> io::Result<Option<u16>> {
+pub fn number<R: Read>(input: &mut R) -> io::Result<Option<u16>>
+    ensures { IfOk result (λ found. IfSome found (λ n. NumberRead n (R.remaining input.old) (R.remaining input.new))) }
+{
     let mut two = [0u8; 2];
     let got = read_full(input, &mut two)?;
     Ok(if got < 2 {
@@ -90,6 +94,9 @@ pub fn arg_count<E: Env>(env: &E) -> usize
 pub fn fill<R: Read>(input: &mut R, buffer: &mut [u8], n: usize) -> io::Result<bool>
     ensures filled { IfOk result (Filled n buffer.old buffer.new) }
     ensures begun { OnErr result (Begun n buffer.old buffer.new) }
+    ensures long { IfOk result (λ all. all ≡ true → n ≤ length buffer.new) }
+    ensures known { IfOk result (λ all. all ≡ true →
+        Consumes (R.remaining input.old) (R.remaining input.new) (take n buffer.new)) }
 {
     if buffer.len() < n {
         return Ok(false);
@@ -111,7 +118,9 @@ pub fn front(buffer: &[u8], n: usize) -> &[u8]
 // The next part of a case: its length in two bytes, and so many bytes. None where the input ends before, or the
 // buffer is too short.
 pub fn part<'b, R: Read>(input: &mut R, buffer: &'b mut [u8]) -> io::Result<Option<&'b [u8]>>
-    ensures { IfOk result (λ found. IfSome found (λ bytes. length bytes.now ≤ 65535)) }
+    ensures upper_bound { IfOk result (λ found. IfSome found (λ bytes. length bytes.now ≤ 65535)) }
+    ensures known { IfOk result (λ found. IfSome found (λ bytes.
+        PartRead bytes.now (R.remaining input.old) (R.remaining input.new))) }
 {
     let Some(n) = number(input)? else {
         return Ok(None);
