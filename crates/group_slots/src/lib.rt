@@ -2,11 +2,85 @@
 // found by slots, a hash table.
 #![tactic(auto)]
 
-ghost use Rattle.std.specs.Prelude.{◌≡◌, ◌≤◌, ◌<◌};
+ghost use Rattle.std.specs.Prelude.{◌≡◌, ◌+◌, ◌≤◌, ◌<◌};
 ghost use Rattle.sequences.specs.Tabulate.{least_below};
 ghost use Rattle.moore.specs.Grouping.{entry, leads, together, same_step};
 ghost use Rattle.group_slots.specs.Groups.{unmasked, RowsBelow, Least};
 ghost use Rattle.group_slots.specs.Slots.{slot_of, LeftBelow, InSlot};
+
+// ---- of the rows of successors and the groups as arrays
+
+// The successor of a state at an event.
+fn successor(rows: &[[u8; 16]; 256], state: u8, event: usize) -> u8
+    requires { event < 16 }
+    ensures { result ≡ entry rows.now state event }
+{
+    rows[usize::from(state)][event]
+}
+
+// Whether two states are in one group.
+pub fn joined(group: &[u8; 256], i: u8, j: u8) -> bool
+    ensures { result ≡ together group.now i j }
+{
+    group[usize::from(i)] == group[usize::from(j)]
+}
+
+// Whether two states are in one group, and so are their successors at each event.
+fn same_step(rows: &[[u8; 16]; 256], group: &[u8; 256], events: usize, j: u8, i: u8) -> bool
+    requires { events ≤ 16 }
+    ensures { result ≡ same_step (unmasked events) rows.now group.now j i }
+{
+    if !joined(group, j, i) {
+        return false;
+    }
+    for e in 0..events {
+        if !joined(group, successor(rows, j, e), successor(rows, i, e)) {
+            return false;
+        }
+    }
+    true
+}
+
+// The least state that a round leaves with a state. The search starts at the least of its group so far, before which
+// none is in it: over all rounds it passes each state once at most, and compares once more a round.
+fn least_same(rows: &[[u8; 16]; 256], group: &[u8; 256], events: usize, i: u8) -> u8
+    requires events_bound { events ≤ 16 }
+    requires least { Least (i + 1) group.now }
+    ensures { result ≡ least_below i (λ j. same_step (unmasked events) rows.now group.now j i) }
+{
+    (group[usize::from(i)]..i)
+        .find(|j| same_step(rows, group, events, *j, i))
+        .unwrap_or(i)
+}
+
+// The same as `least_same`. `next` has it for the states before i; j is the last of these that has the slot of i, or
+// 0: then none has it, unless state 0 does.
+pub fn least_by_slot(
+    rows: &[[u8; 16]; 256],
+    group: &[u8; 256],
+    events: usize,
+    next: &[u8; 256],
+    j: u8,
+    i: u8,
+) -> u8
+    requires events_bound { events ≤ 16 }
+    requires least { Least (i + 1) group.now }
+    requires left_below { LeftBelow i events rows.now group.now next.now × InSlot i events rows.now group.now j }
+    ensures { result ≡ least_below i (λ j. same_step (unmasked events) rows.now group.now j i) }
+{
+    if i == 0 {
+        return 0;
+    }
+    if same_step(rows, group, events, j, i) {
+        return next[usize::from(j)];
+    }
+    if j == 0 {
+        return i;
+    }
+    least_same(rows, group, events, i)
+}
+
+// ---- of a machine
 
 // The successors of a machine's states at its events, each of which can happen.
 #[derive(Clone, Copy)]
@@ -25,7 +99,7 @@ impl Successors<'_> {
         requires { event < 16 }
         ensures { result ≡ entry self.now.rows.now state event }
     {
-        self.rows[usize::from(state)][event]
+        successor(self.rows, state, event)
     }
 }
 
@@ -49,36 +123,7 @@ impl Grouped<'_> {
     pub fn joined(&self, i: u8, j: u8) -> bool
         ensures { result ≡ together self.now.group.now i j }
     {
-        self.group[usize::from(i)] == self.group[usize::from(j)]
-    }
-
-    // Whether two states are in one group, and so are their successors at each event.
-    fn same_step(&self, j: u8, i: u8) -> bool
-        ensures { let s = self.now.successors in
-            result ≡ same_step (unmasked s.events) s.rows.now self.now.group.now j i }
-    {
-        let s = &self.successors;
-        if !self.joined(j, i) {
-            return false;
-        }
-        for e in 0..s.events {
-            if !self.joined(s.at(j, e), s.at(i, e)) {
-                return false;
-            }
-        }
-        true
-    }
-
-    // The least state that a round leaves with a state. The search starts at the least of its group so far, before
-    // which none is in it: over all rounds it passes each state once at most, and compares once more a round.
-    fn least_same(&self, i: u8) -> u8
-        requires { i < self.now.successors.states }
-        ensures { let s = self.now.successors in
-            result ≡ least_below i (λ j. same_step (unmasked s.events) s.rows.now self.now.group.now j i) }
-    {
-        (self.group[usize::from(i)]..i)
-            .find(|j| self.same_step(*j, i))
-            .unwrap_or(i)
+        joined(self.group, i, j)
     }
 
     // The slot of a state in a round, by its group and those of its successors: states that a round leaves together
@@ -95,8 +140,8 @@ impl Grouped<'_> {
         slot
     }
 
-    // The same as `least_same`. `next` has it for the states before i; j is the last of these that has the slot of i,
-    // or 0: then none has it, unless state 0 does.
+    // The least state that a round leaves with a state. `next` has it for the states before i; j is the last of these
+    // that has the slot of i, or 0: then none has it, unless state 0 does.
     pub fn least_by_slot(&self, next: &[u8; 256], j: u8, i: u8) -> u8
         requires inside { i < self.now.successors.states }
         requires left_below { let s = self.now.successors in
@@ -105,12 +150,7 @@ impl Grouped<'_> {
         ensures { let s = self.now.successors in
             result ≡ least_below i (λ j. same_step (unmasked s.events) s.rows.now self.now.group.now j i) }
     {
-        if i == 0 {
-            return 0;
-        }
-        if self.same_step(j, i) {
-            return next[usize::from(j)];
-        }
-        if j == 0 { i } else { self.least_same(i) }
+        let s = &self.successors;
+        least_by_slot(s.rows, self.group, s.events, next, j, i)
     }
 }
