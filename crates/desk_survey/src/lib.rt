@@ -1,7 +1,7 @@
 // One pass over a lent row of watches, which is only read: what a request over it comes to.
 #![tactic(auto)]
 
-ghost use Rattle.std.specs.Prelude.{◌≡◌, length};
+ghost use Rattle.std.specs.Prelude.{◌≡◌, length, min};
 ghost use Rattle.meaning.specs.Desks.{watch_at};
 ghost use Rattle.desk_tasks.specs.Tasks.{pass_over, watch_for};
 ghost use Rattle.desk_tasks.specs.Surveys.{Surveyed};
@@ -10,13 +10,13 @@ use desk_tasks::{Request, Service, Task, begin, decide, look, wanted};
 use meaning::{Refusal, Watch};
 use watches::no_watch;
 
-// The task after a pass over the watches, from the first to the last.
+// The task after a pass over the watches below its `upto`, from the last to the first.
 pub fn scan(desk: &[Watch], task: Task) -> Task
-    ensures { result ≡ pass_over desk.now (length desk.now) task }
+    ensures { result ≡ pass_over desk.now (min task.upto (length desk.now)) task }
 {
     let mut s = task;
-    for (number, w) in desk.iter().enumerate() {
-        s = look(s, *w, number);
+    for number in (0..task.upto.min(desk.len())).rev() {
+        s = look(s, desk[number], number);
     }
     s
 }
@@ -52,6 +52,6 @@ pub fn survey<'d, 't>(
 ) -> Result<Service, Refusal>
     ensures { Surveyed t.now signals states request desk.now result }
 {
-    let s = scan(desk, begin(t, signals, states, request, desk.len())?);
+    let s = scan(desk, begin(t, signals, states, request, desk.len()));
     decide(t, s, watch_for(desk, wanted(s)))
 }

@@ -1,7 +1,6 @@
 -- One pass over a row, and what is done after it: the definitions that the code follows.
-use Rattle.std.specs.Prelude.{◌≡◌, ◌⊎◌, List, [], ◌∷◌, Bool, true, false, cond, not, ◌&&◌, ℕ, zero, suc, ltb, leb, eqb, Option, Some, None, Result, Ok, Err}
+use Rattle.std.specs.Prelude.{◌≡◌, List, [], ◌∷◌, Bool, true, cond, not, ◌&&◌, ℕ, zero, suc, ltb, leb, eqb, Option, Some, None, Result, Ok, Err}
 use Rattle.std.specs.Option.{option_or}
-use Rattle.std.specs.Bool.{then_some}
 use Rattle.meaning.specs.Bytes.{bit}
 use Rattle.meaning.specs.RuleFiles.{first_of}
 use Rattle.meaning.specs.TableFiles.{successor, verdict_byte, verdict_of}
@@ -34,16 +33,16 @@ opening_in (Turn n l) = n
 abbrev pub row_fits : ℕ → Bool
 row_fits n = leb 1 n && leb n 64
 
--- The task of a request over the bytes t with counts P and S and a row of n watches, before the pass: the counts are a table's, whose events the mask has,
--- and the row is one of a desk.
-pub record Started (t : List ℕ) (P S : ℕ) (r : Request) (n : ℕ) (s : Task) : Type 0 where
-  pub table : counts_fit t P S ≡ true
-  pub row : row_fits n ≡ true
+-- The task of a request over the bytes t with counts P and S and a row of n watches, before the pass. Where the counts are a table's, its mask is that of
+-- the table's events.
+pub record Begun (t : List ℕ) (P S : ℕ) (r : Request) (n : ℕ) (s : Task) : Type 0 where
   pub request : s.request ≡ r
   pub signals : s.signals ≡ P
   pub states : s.states ≡ S
-  pub mask : MaskIn t P s.mask
+  pub table : s.table ≡ counts_fit t P S
+  pub mask : counts_fit t P S ≡ true → MaskIn t P s.mask
   pub length : s.length ≡ n
+  pub upto : s.upto ≡ cond (counts_fit t P S && row_fits n) n 0
   pub last : s.last ≡ last_in r
   pub opening : s.opening ≡ opening_in r
   pub foreign : s.foreign ≡ None
@@ -51,14 +50,9 @@ pub record Started (t : List ℕ) (P S : ℕ) (r : Request) (n : ℕ) (s : Task)
   pub waits : s.waits ≡ None
   pub later : s.later ≡ None
 
--- 14 and 18
-abbrev pub Begun : List ℕ → ℕ → ℕ → Request → ℕ → Result Task Refusal → Type 0
-Begun t P S r n (Ok s) = Started t P S r n s
-Begun t P S r n (Err x) = ((counts_fit t P S ≡ false) × (x ≡ WrongTable)) ⊎ ((counts_fit t P S ≡ true) × (row_fits n ≡ false) × (x ≡ WrongDesk))
-
--- the number found before, and i where there is none and the watch with number i is such a one
-abbrev pub first : Option ℕ → Bool → ℕ → Option ℕ
-first before such i = option_or before (then_some such i)
+-- number i where the watch with it is such a one, and else what was found before
+abbrev pub found : Bool → ℕ → Option ℕ → Option ℕ
+found such i before = cond such (Some i) before
 
 -- after a look at the watch w, which has number i
 abbrev pub look_of : Task → Watch → ℕ → Task
@@ -67,20 +61,22 @@ look_of s w i =
       request = s.request;
       signals = s.signals;
       states = s.states;
+      table = s.table;
       mask = s.mask;
       length = s.length;
+      upto = s.upto;
       last = s.last;
       opening = s.opening;
-      foreign = first s.foreign (not (eqb w.opening s.opening)) i;
-      wrong = first s.wrong (not (fits_in s.mask s.states w)) i;
-      waits = first s.waits (ltb 0 w.waiting) i;
-      later = first s.later (ltb 0 w.waiting && ltb s.last i) i;
+      foreign = found (not (eqb w.opening s.opening)) i s.foreign;
+      wrong = found (not (fits_in s.mask s.states w)) i s.wrong;
+      waits = found (ltb 0 w.waiting) i s.waits;
+      later = found (ltb 0 w.waiting && ltb s.last i) i s.later;
     }
 
--- after a pass over the first k watches
+-- after a pass over the first k watches, the last of them first
 unfoldable pub pass_over : List Watch → ℕ → Task → Task
 pass_over d zero s = s
-pass_over d (suc k) s = look_of (pass_over d k s) (watch_at d k) k
+pass_over d (suc k) s = pass_over d k (look_of s (watch_at d k) k)
 
 -- the next number, going round, that has an event waiting
 abbrev pub next_of : Task → Option ℕ
@@ -161,6 +157,13 @@ abbrev pub unless : (ℕ → Refusal) → Option ℕ → Result Service Refusal 
 unless f (Some i) y = Err (f i)
 unless f None y = y
 
--- 24 and 13
+-- 14 and 18
+abbrev pub row_checks : Task → List (Bool × Refusal)
+row_checks s = (not s.table, WrongTable) ∷ (not (row_fits s.length), WrongDesk) ∷ []
+
+-- 14, 18, 24 and 13, and then an answer
+abbrev pub checked : Task → Result Service Refusal → Result Service Refusal
+checked s y = first_of Err (row_checks s) (unless WrongOpening s.foreign (unless WrongWatch s.wrong y))
+
 abbrev pub decided_of : List ℕ → Task → Watch → Result Service Refusal
-decided_of t s w = unless WrongOpening s.foreign (unless WrongWatch s.wrong (request_decided t s w s.request))
+decided_of t s w = checked s (request_decided t s w s.request)

@@ -50,14 +50,17 @@ impl Request {
 
 // What is asked over a table of these counts, and what a pass over a row of so many watches has found of it: the
 // lowest number of a watch that carries another opening's number, of one that does not fit, of one with an event
-// waiting, and of one with an event waiting that comes after the number last heard.
+// waiting, and of one with an event waiting that comes after the number last heard. A pass looks at the watches below
+// `upto`.
 #[derive(Clone, Copy)]
 pub struct Task {
     pub request: Request,
     pub signals: u8,
     pub states: u16,
+    pub table: bool,
     pub mask: u16,
     pub length: usize,
+    pub upto: usize,
     pub last: usize,
     pub opening: u16,
     pub foreign: Option<usize>,
@@ -100,51 +103,59 @@ pub fn turn_request(opening: u16, last: usize) -> Request
 
 // ---- before the pass
 
-// The task of a request over a row of so many watches, before the pass; 14 and 18.
-pub fn begin(
-    t: &[u8],
-    signals: u8,
-    states: u16,
-    request: Request,
-    length: usize,
-) -> Result<Task, Refusal>
+// The task of a request over a row of so many watches, before the pass: it goes over none of a row that is refused
+// anyway.
+pub fn begin(t: &[u8], signals: u8, states: u16, request: Request, length: usize) -> Task
     ensures { Begun t.now signals states request length result }
 {
-    if !counts_fit(t, signals, states) {
-        return Err(Refusal::WrongTable);
-    }
-    if !row_fits(length) {
-        return Err(Refusal::WrongDesk);
-    }
-    Ok(Task {
+    let none = Task {
         request,
         signals,
         states,
-        mask: possible_mask(t, signals),
+        table: false,
+        mask: 0,
         length,
+        upto: 0,
         last: request.last(),
         opening: request.opening(),
         foreign: None,
         wrong: None,
         waits: None,
         later: None,
-    })
+    };
+    if !counts_fit(t, signals, states) {
+        return none;
+    }
+    Task {
+        table: true,
+        mask: possible_mask(t, signals),
+        upto: if row_fits(length) { length } else { 0 },
+        ..none
+    }
 }
 
-// ---- the pass, from the first watch to the last
+// ---- the pass, from the last watch to the first
 
 // The task after a look at the watch with this number.
 pub fn look(s: Task, w: Watch, number: usize) -> Task
     ensures { result ≡ look_of s w number }
 {
-    let some = 0 < w.waiting;
-    Task {
-        foreign: s.foreign.or((w.opening != s.opening).then_some(number)),
-        wrong: s.wrong.or((!fits(w, s.mask, s.states)).then_some(number)),
-        waits: s.waits.or(some.then_some(number)),
-        later: s.later.or((some & (s.last < number)).then_some(number)),
-        ..s
+    let mut s = s;
+    let foreign = w.opening != s.opening;
+    let wrong = !fits(w, s.mask, s.states);
+    if foreign {
+        s.foreign = Some(number);
     }
+    if wrong {
+        s.wrong = Some(number);
+    }
+    if 0 < w.waiting {
+        s.waits = Some(number);
+        if s.last < number {
+            s.later = Some(number);
+        }
+    }
+    s
 }
 
 // ---- after the pass
@@ -256,10 +267,16 @@ fn decide_turn(t: &[u8], s: Task, w: Watch, last: usize) -> Result<Service, Refu
     hear(t, s, w, number)
 }
 
-// What is done to the watch that the request is about; 24 and 13.
+// What is done to the watch that the request is about; 14, 18, 24 and 13.
 pub fn decide(t: &[u8], s: Task, w: Watch) -> Result<Service, Refusal>
     ensures { result ≡ decided_of t.now s w }
 {
+    if !s.table {
+        return Err(Refusal::WrongTable);
+    }
+    if !row_fits(s.length) {
+        return Err(Refusal::WrongDesk);
+    }
     if let Some(foreign) = s.foreign {
         return Err(Refusal::WrongOpening(foreign));
     }
