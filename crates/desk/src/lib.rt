@@ -24,6 +24,7 @@ fn starts(t: &[u8], signals: u8, states: u16) -> bool
 
 // Makes a fresh desk of the whole row, over the bytes of a table, its counts and the number of its opening, whatever
 // they are and whatever stood there: 14 and 18, or every watch is fresh.
+#[tactic(auto, unfolding(meaning::specs::Desks::fresh_in))]
 pub fn fresh<'d, 't>(
     desk: &'d mut [Watch],
     t: &'t [u8],
