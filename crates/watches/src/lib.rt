@@ -40,10 +40,14 @@ fn queue_fits(w: Watch, mask: u16) -> bool
     requires { w.waiting ≤ 32 }
     ensures { result ≡ all_in mask (queue w) }
 {
-    match w.waiting {
-        0 => true,
-        1 => can_happen(mask, usize::from(w.events[0])),
-        waiting => slots_fit(mask, &w.events[..usize::from(waiting)]),
+    if w.waiting == 0 {
+        return true;
+    }
+    // Copied where some wait, so that a watch with none waiting is not.
+    let events = w.events;
+    match usize::from(w.waiting) {
+        1 => can_happen(mask, usize::from(events[0])),
+        waiting => slots_fit(mask, &events[..waiting]),
     }
 }
 
