@@ -13,7 +13,7 @@ pub loop-x-preserved : goal.loop-x-preserved
 loop-x-preserved c =
     made_more c.args.k c.loop-x.invariant c.requires.0 c.requires.1 _
     (elim c.if-has.branch [
-      then-has w ↦ rw w.self-is (row-passed c.loop-x.invariant.long (omega arith)
+      | then-has w ↦ rw w.self-is (row-passed c.loop-x.invariant.long (omega arith)
           (ap (λ (t : Bool). only_if t (get_or c.args.self.now.rows c.args.k 0)) (sym w.if-has.true ∙ c.has.ensures)))
       | else-has w ↦ rw w.self-is (row-kept c.loop-x.invariant.long (sym c.has.ensures ∙ w.if-has.false))
     ])
